@@ -14,6 +14,7 @@ pub mod filing;
 pub mod items;
 pub mod log;
 pub mod media;
+pub mod name;
 pub mod number;
 pub mod object;
 pub mod pieces;
