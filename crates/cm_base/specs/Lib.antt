@@ -5,4 +5,5 @@ pub mod Judged
 pub mod Names
 pub mod OrderLaws
 pub mod Orders
+pub mod UserLists
 pub mod Whole

@@ -22,4 +22,5 @@ pub mod series;
 pub mod shown;
 pub mod text;
 pub mod user;
+pub mod users;
 pub mod value;
