@@ -1,0 +1,66 @@
+//! Entries one after another.
+ghost use Rattle.std.specs.Prelude.{◌≡◌, ℕ, ◌+◌, ◌<◌, ◌⊎◌, ◌++◌, [], map, length};
+ghost use Rattle.std.specs.Iterator.{YieldsFirstRef, item_count};
+ghost use Rattle.cm_map.specs.Rests.{rest};
+
+use crate::blocks::{Leaf, Middle};
+use map_keys::key::Key;
+use std::sync::Arc;
+
+/// The entries that are left.
+#[derive(Drop)]
+pub struct Iter<'a, K: Key, V: Drop> {
+    pub entries: &'a [Arc<(K, V)>],
+    pub leaves: &'a [Arc<Leaf<K, V>>],
+    pub blocks: &'a [Arc<Middle<K, V>>],
+}
+
+fn filled<'a, K: Key, V: Drop>(it: Iter<'a, K, V>) -> Iter<'a, K, V>
+    ensures same { rest result ≡ rest it.entry }
+    ensures ready { 0 < length result.entries.now ⊎ rest result ≡ [] }
+{
+    let mut entries = it.entries;
+    let mut leaves = it.leaves;
+    let mut blocks = it.blocks;
+    while entries.is_empty() {
+        if let Some((leaf, others)) = leaves.split_first() {
+            let leaf: &'a Leaf<K, V> = leaf;
+            entries = &leaf.entries;
+            leaves = others;
+        } else if let Some((block, others)) = blocks.split_first() {
+            let block: &'a Middle<K, V> = block;
+            leaves = &block.leaves;
+            blocks = others;
+        } else {
+            break;
+        }
+    }
+    Iter {
+        entries,
+        leaves,
+        blocks,
+    }
+}
+
+impl<'a, K: Key, V: Drop> Iterator for Iter<'a, K, V> {
+    type Item = &'a (K, V);
+
+    ghost next_gives = { YieldsFirstRef rest };
+
+    ghost remaining = { item_count rest };
+
+    fn next(&mut self) -> Option<&'a (K, V)> {
+        let it = filled(Iter {
+            entries: self.entries,
+            leaves: self.leaves,
+            blocks: self.blocks,
+        });
+        self.entries = it.entries;
+        self.leaves = it.leaves;
+        self.blocks = it.blocks;
+        let (first, others) = it.entries.split_first()?;
+        self.entries = others;
+        let entry: &'a (K, V) = first;
+        Some(entry)
+    }
+}

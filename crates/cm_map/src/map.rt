@@ -1,0 +1,162 @@
+//! Maps.
+ghost use Rattle.std.specs.Prelude.{◌≡◌, ℕ, ◌+◌, ◌*◌, ◌/◌, ◌≤◌, List, [], None, Some, map, length, T, IfOk, IfSome, option_map, option_copied};
+ghost use Rattle.std.specs.Arc.{arc_value};
+ghost use Rattle.core.specs.List.{AllByRecursion, flat_map};
+ghost use Rattle.core.specs.FinMap.Entries.{put, find, is_sorted, where_key};
+ghost use Rattle.map_keys.specs.Parts.{without_key, pointee, within};
+ghost use Rattle.cm_map.specs.Rows.{Spaced, change};
+ghost use Rattle.cm_map.specs.Blocks.{middle_entries, middle_count, IsMiddle};
+ghost use Rattle.cm_map.specs.Maps.{IsMap};
+ghost use Rattle.cm_map.specs.Rests.{rest};
+
+use crate::blocks::Middle;
+use crate::iter::Iter;
+use crate::levels::{leaf_pieces, middle_pieces};
+use crate::row::{row_changed, row_found, row_ranged};
+use map_keys::key::Key;
+use std::alloc::{AllocError, Global};
+use std::marker::Model;
+use std::sync::Arc;
+
+/// A finite map, pointee as its entries in the order of their keys.
+#[derive(Drop)]
+pub struct Map<K: Key, V: Drop> {
+    blocks: Vec<Arc<Middle<K, V>>>,
+    len: u64,
+}
+
+impl<K: Key, V: Drop> Model for Map<K, V> {
+    ghost Value = { List (K × V) };
+
+    ghost view = { λ m. flat_map middle_entries (map arc_value m.blocks.items) };
+
+    ghost invariant = { λ m. IsMap K.cmp m.len (map arc_value m.blocks.items) };
+}
+
+fn blocks_changed<K: Key, V: Drop>(
+    alloc: Global,
+    xs: &[Arc<Middle<K, V>>],
+    key: &K,
+    new: Option<Arc<(K, V)>>,
+) -> Result<Vec<Arc<Middle<K, V>>>, AllocError>
+    requires whole { AllByRecursion IsMiddle (map arc_value xs.now) }
+    requires spaced { Spaced (map middle_count (map arc_value xs.now)) }
+    requires sorted { T (is_sorted K.cmp (flat_map middle_entries (map arc_value xs.now))) }
+    requires at_key { IfSome new (λ e. (arc_value e).0 ≡ key.now) }
+    ensures entries { IfOk result (λ v. flat_map middle_entries (map arc_value v.items) ≡ change K.cmp key.now (option_map arc_value new) (flat_map middle_entries (map arc_value xs.now))) }
+    ensures whole { IfOk result (λ v. AllByRecursion IsMiddle (map arc_value v.items)) }
+    ensures spaced { IfOk result (λ v. Spaced (map middle_count (map arc_value v.items))) }
+{
+    if xs.is_empty() {
+        let mut entries = Vec::new(alloc);
+        match new {
+            Some(entry) => {
+                entries.push(entry)?;
+                let leaves = leaf_pieces(alloc, entries)?;
+                let blocks = middle_pieces(alloc, leaves)?;
+                return Ok(blocks);
+            }
+            None => {
+                return Ok(Vec::new(alloc));
+            }
+        }
+    }
+    let blocks = row_changed::<K, V, Middle<K, V>>(alloc, xs, key, new)?;
+    Ok(blocks)
+}
+
+impl<K: Key, V: Drop> Map<K, V> {
+    pub fn empty(alloc: Global) -> Self
+        ensures { result ≡ [] }
+    {
+        Map {
+            blocks: Vec::new(alloc),
+            len: 0,
+        }
+    }
+
+    pub fn len(&self) -> u64
+        ensures len { result ≡ length self.now }
+        ensures sorted { T (is_sorted K.cmp self.now) }
+    {
+        self.len
+    }
+
+    /// The number of middle blocks.
+    pub fn width(&self) -> u64
+        ensures { 2048 * (result / 2) ≤ length self.now }
+    {
+        self.blocks.len() as u64
+    }
+
+    pub fn get(&self, key: &K) -> Option<&V>
+        ensures { option_copied result ≡ find K.cmp key.now self.now }
+    {
+        row_found::<K, V, Middle<K, V>>(&self.blocks, key)
+    }
+
+    fn edited(
+        &self,
+        alloc: Global,
+        key: &K,
+        new: Option<Arc<(K, V)>>,
+        len: u64,
+    ) -> Result<Self, AllocError>
+        requires at_key { IfSome new (λ e. (arc_value e).0 ≡ key.now) }
+        requires len { len ≡ length (change K.cmp key.now (option_map arc_value new) self.now) }
+        ensures { IfOk result (λ m. m ≡ change K.cmp key.now (option_map arc_value new) self.now) }
+    {
+        let blocks = blocks_changed(alloc, &self.blocks, key, new)?;
+        Ok(Map { blocks, len })
+    }
+
+    pub fn with(&self, alloc: Global, key: K, value: V) -> Result<Self, AllocError>
+        ensures { IfOk result (λ m. m ≡ put K.cmp key value self.now) }
+    {
+        let found = self.get(&key).is_some();
+        let old = self.len();
+        if !found && old == u64::MAX {
+            return Err(AllocError);
+        }
+        let len = if found { old } else { old + 1 };
+        let entry = Arc::new(alloc, (key, value))?;
+        let again = Arc::try_clone(&entry)?;
+        let at: &Arc<(K, V)> = &again;
+        let map = self.edited(alloc, &at.0, Some(entry), len)?;
+        Ok(map)
+    }
+
+    pub fn without(&self, alloc: Global, key: &K) -> Result<Self, AllocError>
+        ensures { IfOk result (λ m. m ≡ without_key K.cmp key.now self.now) }
+    {
+        let old = self.len();
+        let len = if self.get(key).is_some() {
+            old - 1
+        } else {
+            old
+        };
+        let map = self.edited(alloc, key, None, len)?;
+        Ok(map)
+    }
+
+    /// The entries from `least` to `most`, in order.
+    pub fn range(&self, alloc: Global, least: &K, most: &K) -> Result<Vec<&(K, V)>, AllocError>
+        ensures { IfOk result (λ r. map pointee r.items ≡ where_key K.cmp (within K.cmp least.now most.now) self.now) }
+    {
+        let mut out = Vec::new(alloc);
+        row_ranged::<K, V, Middle<K, V>>(&mut out, &self.blocks, least, most)?;
+        Ok(out)
+    }
+
+    /// The entries in order.
+    pub fn iter(&self) -> Iter<'_, K, V>
+        ensures all { rest result ≡ self.now }
+        ensures sorted { T (is_sorted K.cmp self.now) }
+    {
+        Iter {
+            entries: &[],
+            leaves: &[],
+            blocks: &self.blocks,
+        }
+    }
+}
