@@ -116,7 +116,7 @@ module _ {K X : Type 0} (R : K → K → Ordering) where
     pub below : Below k (flat_map fl As)
     pub above : Above k (flat_map fl Cs)
 
-flat_append : {B A : Type 0} (f : B → List A) (xs ys : List B) → flat_map f (xs ++ ys) ≡ flat_map f xs ++ flat_map f ys
+pub flat_append : {B A : Type 0} (f : B → List A) (xs ys : List B) → flat_map f (xs ++ ys) ≡ flat_map f xs ++ flat_map f ys
 flat_append f [] ys = refl
 flat_append f (x ∷ xs) ys = ap (λ l. f x ++ l) (flat_append f xs ys) ∙ sym (append_assoc (f x) (flat_map f xs) (flat_map f ys))
 
@@ -131,7 +131,7 @@ drop_at_split (x ∷ bs) zero b lt is = λ j. sym is j ∷ bs
 drop_at_split (x ∷ bs) (suc i) b lt is = let e : suc i + 1 ≡ suc (i + 1) = omega arith in rw e (drop_at_split bs i b (omega arith) is)
 
 module _ {K X B : Type 0} (R : K → K → Ordering) (o : IsTotalOrder R) (k : K) (fl : B → List (K × X)) where
-  from_block : (A es C : List (K × X)) → T (is_sorted R (A ++ (es ++ C))) → IsSome (first_of es) → IfSome (first_of es) (λ x. is_gt (R x k) ≡ false) → Below R k A
+  pub from_block : (A es C : List (K × X)) → T (is_sorted R (A ++ (es ++ C))) → IsSome (first_of es) → IfSome (first_of es) (λ x. is_gt (R x k) ≡ false) → Below R k A
   from_block A [] C s h g = absurd (true≢false (sym h))
   from_block A (e ∷ es) C s h g = below_from R o k A (es ++ C) e s g
 
@@ -139,7 +139,7 @@ module _ {K X B : Type 0} (R : K → K → Ordering) (o : IsTotalOrder R) (k : K
   to_block [] C s h g = absurd (true≢false (sym h))
   to_block (e ∷ es) C s h g = above_from R o k (e ∷ es ++ C) s g
 
-  to_blocks : (Cs : List B) → T (is_sorted R (flat_map fl Cs)) → AllByRecursion (λ b. IsSome (first_of (fl b))) Cs → HeadIs (λ b. IfSome (first_of (fl b)) (λ x. R x k ≡ Greater)) Cs → Above R k (flat_map fl Cs)
+  pub to_blocks : (Cs : List B) → T (is_sorted R (flat_map fl Cs)) → AllByRecursion (λ b. IsSome (first_of (fl b))) Cs → HeadIs (λ b. IfSome (first_of (fl b)) (λ x. R x k ≡ Greater)) Cs → Above R k (flat_map fl Cs)
   to_blocks [] s h g = tt
   to_blocks (c ∷ Cs) s h g = to_block (fl c) (flat_map fl Cs) s h.0 g
 

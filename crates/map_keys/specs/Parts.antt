@@ -1,6 +1,7 @@
 -- Parts of a list of entries.
-use Rattle.std.specs.Prelude.{Bool, not, ◌&&◌, List, [], ◌∷◌, Option, None, Some}
+use Rattle.std.specs.Prelude.{◌≡◌, ◌<◌, ◌++◌, length, false, IfSome, Bool, not, ◌&&◌, List, [], ◌∷◌, Option, None, Some}
 use Rattle.core.specs.declared.cmp.Ordering.{Ordering}
+use Rattle.core.specs.declared.cmp.Ordering.TheVariants.{Greater}
 use Rattle.core.specs.Ordering.{eq_by_cmp, is_lt, is_gt}
 use denote.Ref.{Bor}
 use Rattle.core.specs.FinMap.Entries.{where_key}
@@ -26,3 +27,12 @@ pointee r = r.now
 -- whether a key lies in a range that has both its ends
 abbrev pub within : {K : Type 0} → (K → K → Ordering) → K → K → K → Bool
 within R least most k = not (is_lt (R k least)) && not (is_gt (R k most))
+
+-- the members between two others in a row: each key before them is below `least` or at it, and each key past them above `most`
+pub record IsBetween {B K : Type 0} (first : B → Option K) (R : K → K → Ordering) (least most : K) (bs mid : List B) : Type 0 where
+  pub before : List B
+  pub past : List B
+  pub parts : bs ≡ before ++ (mid ++ past)
+  pub some : 0 < length mid
+  pub low : 0 < length before → HeadIs (λ b. IfSome (first b) (λ x. is_gt (R x least) ≡ false)) (mid ++ past)
+  pub high : HeadIs (λ b. IfSome (first b) (λ x. R x most ≡ Greater)) past

@@ -7,33 +7,12 @@ ghost use Rattle.core.specs.Ordering.{eq_by_cmp, is_gt};
 ghost use Rattle.core.specs.declared.cmp.Ordering.TheVariants.{Less, Equal, Greater};
 ghost use Rattle.map_keys.specs.Parts.{HeadIs, without_key, pointee, within};
 
-use crate::key::{Headed, Key};
+use crate::key::Key;
+use crate::places::{between, place};
 use crate::rows::spliced;
 use std::alloc::{AllocError, Global};
 use std::cmp::Ordering;
 use std::sync::Arc;
-
-/// The last member whose first key isn't above `key`, or else the first.
-pub fn place<K: Key, B: Headed<K>>(xs: &[Arc<B>], key: &K) -> usize
-    requires some { 0 < length xs.now }
-    requires heads { AllByRecursion (λ b. IsSome (B.first b)) (map arc_value xs.now) }
-    ensures in_range { result < length xs.now }
-    ensures low { 0 < result → HeadIs (λ b. IfSome (B.first b) (λ x. is_gt (K.cmp x key.now) ≡ false)) (drop result (map arc_value xs.now)) }
-    ensures high { HeadIs (λ b. IfSome (B.first b) (λ x. K.cmp x key.now ≡ Greater)) (drop (result + 1) (map arc_value xs.now)) }
-{
-    let mut lo = 0;
-    let mut hi = xs.len();
-    while hi - lo > 1 {
-        let mid = lo + (hi - lo) / 2;
-        let member: &Arc<B> = &xs[mid];
-        if member.head().cmp(key).is_gt() {
-            hi = mid;
-        } else {
-            lo = mid;
-        }
-    }
-    lo
-}
 
 /// The entries that `key` would replace: those from the first number on, and before the second.
 pub fn gap<K: Key, V: Drop>(xs: &[Arc<(K, V)>], key: &K) -> (usize, usize)
@@ -101,7 +80,26 @@ pub fn without_in<K: Key, V: Drop>(
 }
 
 /// The entries from `least` to `most`, at the end of `out`.
+///
+/// Only the entries of the range are looked at, and at most one on either side of them.
 pub fn range_in<'a, K: Key, V: Drop>(
+    out: &mut Vec<&'a (K, V)>,
+    xs: &'a [Arc<(K, V)>],
+    least: &K,
+    most: &K,
+) -> Result<(), AllocError>
+    requires { T (is_sorted K.cmp (map arc_value xs.now)) }
+    ensures { IfOk result (λ _. map pointee out.new.items ≡ map pointee out.old.items ++ where_key K.cmp (within K.cmp least.now most.now) (map arc_value xs.now)) }
+{
+    if xs.is_empty() {
+        return Ok(());
+    }
+    let near: &'a [Arc<(K, V)>] = between::<K, (K, V)>(xs, least, most);
+    push_within(out, near, least, most)?;
+    Ok(())
+}
+
+fn push_within<'a, K: Key, V: Drop>(
     out: &mut Vec<&'a (K, V)>,
     xs: &'a [Arc<(K, V)>],
     least: &K,

@@ -1,7 +1,7 @@
 use Rattle.std.proofs.Common.{◌≡◌, ◌-◌, ◌<◌, ◌≤◌, false, map, length, drop, is_gt, Greater, IfSome}
 use Rattle.std.specs.Arc.{arc_value}
 use Rattle.map_keys.specs.Parts.{HeadIs}
-use Rattle.map_keys.proofs.leaf.place.Given as goal
+use Rattle.map_keys.proofs.places.place.Given as goal
 
 abbrev pub invariant-loop-hi : goal.invariant-loop-hi
 invariant-loop-hi g l = record {

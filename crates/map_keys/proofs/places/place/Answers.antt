@@ -1,7 +1,7 @@
 use Rattle.std.proofs.Common.{◌≡◌, sym, subst, ap, ◌∙◌, false, is_gt, Greater, IsSome, arith}
 use Rattle.std.specs.Arc.{arc_value}
 use Rattle.map_keys.proofs.Heads.{head_at, all_at, if_some, greater}
-use Rattle.map_keys.proofs.leaf.place.Goals as goal
+use Rattle.map_keys.proofs.places.place.Goals as goal
 
 pub head-requires : goal.head-requires
 head-requires g c = subst (λ b. IsSome (g.B.Headed.first b)) (sym c.deref.ensures) (all_at (λ b. IsSome (g.B.Headed.first b)) arc_value c.args.xs.now _ c.index-xs-mid.result c.requires.heads (omega arith) c.index-xs-mid.is)
