@@ -176,3 +176,10 @@ module _ {K X : Type 0} (R : K → K → Ordering) (o : IsTotalOrder R) (k : K) 
 
   pub without_key_new : (es : List (K × X)) → T (is_sorted R es) → is_some (find R k es) ≡ false → length (without_key R k es) ≡ length es
   without_key_new es s h = let e : 0 + length (without_key R k es) ≡ length es = subst (λ b. cond b 1 0 + length (without_key R k es) ≡ length es) h (length_without R o k es s) in omega (arith, e)
+
+-- each block of a sorted row is sorted
+pub sorted_at : {K X B : Type 0} (R : K → K → Ordering) (entries : B → List (K × X)) (bs : List B) (i : ℕ) (b : B) → T (is_sorted R (flat_map entries bs)) → i < length bs → b ≡ get_or bs i b → T (is_sorted R (entries b))
+sorted_at R entries bs i b s lt is =
+    let e = ap (flat_map entries) (split_at bs i b lt is) ∙ flat_map-append entries (take i bs) (b ∷ drop (i + 1) bs) in
+    let whole = subst (λ l. T (is_sorted R l)) e s in
+    sorted_left R (entries b) (flat_map entries (drop (i + 1) bs)) (sorted_right R (flat_map entries (take i bs)) (entries b ++ flat_map entries (drop (i + 1) bs)) whole)

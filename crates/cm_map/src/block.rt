@@ -1,4 +1,4 @@
-//! What a row is made of.
+//! What a row is made of: leaves, or middle blocks.
 ghost use Rattle.std.specs.Prelude.{◌≡◌, ℕ, ◌+◌, ◌≤◌, ◌++◌, List, map, length, T, Option, IfOk, IfSome, IsSome, option_map, option_copied};
 ghost use Rattle.std.specs.Arc.{arc_value};
 ghost use Rattle.core.specs.List.{AllByRecursion, flat_map};
@@ -10,6 +10,7 @@ use map_keys::key::{Headed, Key};
 use std::alloc::{AllocError, Global};
 use std::sync::Arc;
 
+/// A block of entries in order. No block of a row is empty or has more than 128 members.
 pub trait Block<K: Key, V: Drop>: Headed<K> {
     ghost entries: { Self → List (K × V) };
 
@@ -17,6 +18,7 @@ pub trait Block<K: Key, V: Drop>: Headed<K> {
 
     ghost whole: { Self → Type 0 };
 
+    /// The number of its members, which are entries or leaves.
     fn size(&self) -> usize
         ensures { result ≡ count self.now };
 
@@ -46,6 +48,7 @@ pub trait Block<K: Key, V: Drop>: Headed<K> {
         ensures spaced { IfOk result (λ v. Spaced (map count (map arc_value v.items))) }
         ensures few { IfOk result (λ v. length v.items ≤ 2) };
 
+    /// The value at the key.
     fn found(&self, key: &K) -> Option<&V>
         requires whole { whole self.now }
         requires sorted { T (is_sorted K.cmp (entries self.now)) }
@@ -58,6 +61,8 @@ pub trait Block<K: Key, V: Drop>: Headed<K> {
         least: &K,
         most: &K,
     ) -> Result<(), AllocError>
+        requires whole { whole self.now }
+        requires sorted { T (is_sorted K.cmp (entries self.now)) }
         ensures { IfOk result (λ _. map pointee out.new.items ≡ map pointee out.old.items ++ where_key K.cmp (within K.cmp least.now most.now) (entries self.now)) };
 
     ghost heads: { (b : Self) → whole b → (Self.first b ≡ first_of (entries b)) × IsSome (Self.first b) × (1 ≤ count b) × (count b ≤ 128) };

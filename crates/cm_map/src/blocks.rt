@@ -2,14 +2,16 @@
 use map_keys::key::Key;
 use std::sync::Arc;
 
-/// At most 128 entries.
+/// A block of entries in the order of their keys. In a map it has 1 to 128 of them.
 #[derive(Drop)]
 pub struct Leaf<K: Key, V: Drop> {
+    /// The entries, shared with the maps that this one was made from.
     pub entries: Vec<Arc<(K, V)>>,
 }
 
-/// At most 128 leaves.
+/// A block of leaves. In a map it has 1 to 128 of them.
 #[derive(Drop)]
 pub struct Middle<K: Key, V: Drop> {
+    /// The leaves, shared with the maps that this one was made from.
     pub leaves: Vec<Arc<Leaf<K, V>>>,
 }

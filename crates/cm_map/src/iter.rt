@@ -1,4 +1,4 @@
-//! Entries one after another.
+//! A map's entries one after another.
 ghost use Rattle.std.specs.Prelude.{◌≡◌, ℕ, ◌+◌, ◌<◌, ◌⊎◌, ◌++◌, [], map, length};
 ghost use Rattle.std.specs.Iterator.{YieldsFirstRef, item_count};
 ghost use Rattle.cm_map.specs.Rests.{rest};
@@ -7,14 +7,20 @@ use crate::blocks::{Leaf, Middle};
 use map_keys::key::Key;
 use std::sync::Arc;
 
-/// The entries that are left.
+/// An iterator over a map's entries in the order of their keys.
+///
+/// It takes no memory, and keeps what is left of one leaf, of one middle block and of the map.
 #[derive(Drop)]
 pub struct Iter<'a, K: Key, V: Drop> {
+    /// What is left of the leaf at hand.
     pub entries: &'a [Arc<(K, V)>],
+    /// The leaves after it in its middle block.
     pub leaves: &'a [Arc<Leaf<K, V>>],
+    /// The middle blocks after that one.
     pub blocks: &'a [Arc<Middle<K, V>>],
 }
 
+// The same entries, with the next one in the leaf at hand.
 fn filled<'a, K: Key, V: Drop>(it: Iter<'a, K, V>) -> Iter<'a, K, V>
     ensures same { rest result ≡ rest it.entry }
     ensures ready { 0 < length result.entries.now ⊎ rest result ≡ [] }

@@ -16,6 +16,7 @@ use map_keys::rows::{push_all, spliced};
 use std::alloc::{AllocError, Global};
 use std::sync::Arc;
 
+// The entries with a new one in place of the key's, or with none.
 fn change_in<K: Key, V: Drop>(
     alloc: Global,
     xs: &[Arc<(K, V)>],
@@ -41,7 +42,8 @@ fn change_in<K: Key, V: Drop>(
     }
 }
 
-fn part<B: Drop>(alloc: Global, xs: &[Arc<B>]) -> Result<Vec<Arc<B>>, AllocError>
+/// The members of a row, shared.
+pub fn shared<B: Drop>(alloc: Global, xs: &[Arc<B>]) -> Result<Vec<Arc<B>>, AllocError>
     ensures items { IfOk result (λ v. map arc_value v.items ≡ map arc_value xs.now) }
     ensures len { IfOk result (λ v. length v.items ≡ length xs.now) }
 {
@@ -61,11 +63,12 @@ fn halves<B: Drop>(
     ensures low { IfOk result (λ p. length p.0.items ≡ at) }
     ensures high { IfOk result (λ p. length p.1.items + at ≡ length xs.now) }
 {
-    let low = part(alloc, &xs[..at])?;
-    let high = part(alloc, &xs[at..])?;
+    let low = shared(alloc, &xs[..at])?;
+    let high = shared(alloc, &xs[at..])?;
     Ok((low, high))
 }
 
+// One middle block.
 fn middle_of<K: Key, V: Drop>(
     alloc: Global,
     leaves: Vec<Arc<Leaf<K, V>>>,
@@ -82,7 +85,7 @@ fn middle_of<K: Key, V: Drop>(
     Ok(middle)
 }
 
-/// The entries as leaves.
+/// The entries as one or two leaves, or none: 129 entries are split in two.
 pub fn leaf_pieces<K: Key, V: Drop>(
     alloc: Global,
     entries: Vec<Arc<(K, V)>>,
@@ -110,7 +113,7 @@ pub fn leaf_pieces<K: Key, V: Drop>(
     Ok(out)
 }
 
-/// The leaves as middle blocks.
+/// The leaves as one or two middle blocks, or none: 129 leaves are split in two.
 pub fn middle_pieces<K: Key, V: Drop>(
     alloc: Global,
     leaves: Vec<Arc<Leaf<K, V>>>,
@@ -161,7 +164,7 @@ impl<K: Key, V: Drop> Block<K, V> for Leaf<K, V> {
     }
 
     fn join(&self, other: &Self, alloc: Global) -> Result<Arc<Self>, AllocError> {
-        let mut entries = part(alloc, &self.entries)?;
+        let mut entries = shared(alloc, &self.entries)?;
         push_all(&mut entries, &other.entries)?;
         let leaf = Arc::new(alloc, Leaf { entries })?;
         Ok(leaf)
@@ -200,6 +203,8 @@ impl<K: Key, V: Drop> Block<K, V> for Leaf<K, V> {
         least: &K,
         most: &K,
     ) -> Result<(), AllocError>
+        requires whole { IsLeaf self.now }
+        requires sorted { T (is_sorted K.cmp (leaf_entries self.now)) }
         ensures { IfOk result (λ _. map pointee out.new.items ≡ map pointee out.old.items ++ where_key K.cmp (within K.cmp least.now most.now) (leaf_entries self.now)) }
     {
         range_in(out, &self.entries, least, most)?;
@@ -232,7 +237,7 @@ impl<K: Key, V: Drop> Block<K, V> for Middle<K, V> {
     }
 
     fn join(&self, other: &Self, alloc: Global) -> Result<Arc<Self>, AllocError> {
-        let low = part(alloc, &self.leaves)?;
+        let low = shared(alloc, &self.leaves)?;
         let leaves = joined::<K, V, Leaf<K, V>>(alloc, low, &other.leaves)?;
         let middle = Arc::new(alloc, Middle { leaves })?;
         Ok(middle)
@@ -271,6 +276,8 @@ impl<K: Key, V: Drop> Block<K, V> for Middle<K, V> {
         least: &K,
         most: &K,
     ) -> Result<(), AllocError>
+        requires whole { IsMiddle self.now }
+        requires sorted { T (is_sorted K.cmp (middle_entries self.now)) }
         ensures { IfOk result (λ _. map pointee out.new.items ≡ map pointee out.old.items ++ where_key K.cmp (within K.cmp least.now most.now) (middle_entries self.now)) }
     {
         row_ranged::<K, V, Leaf<K, V>>(out, &self.leaves, least, most)?;

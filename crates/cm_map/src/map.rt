@@ -1,24 +1,27 @@
-//! Maps.
-ghost use Rattle.std.specs.Prelude.{◌≡◌, ℕ, ◌+◌, ◌*◌, ◌/◌, ◌≤◌, List, [], None, Some, map, length, T, IfOk, IfSome, option_map, option_copied};
+//! Finite maps that keep their older states.
+ghost use Rattle.std.specs.Prelude.{◌≡◌, ◌↔◌, ℕ, ◌+◌, ◌*◌, ◌/◌, ◌≤◌, List, [], None, Some, map, length, T, IsTrue, IfOk, IfSome, option_map, option_copied};
 ghost use Rattle.std.specs.Arc.{arc_value};
 ghost use Rattle.core.specs.List.{AllByRecursion, flat_map};
 ghost use Rattle.core.specs.FinMap.Entries.{put, find, is_sorted, where_key};
 ghost use Rattle.map_keys.specs.Parts.{without_key, pointee, within};
 ghost use Rattle.cm_map.specs.Rows.{Spaced, change};
 ghost use Rattle.cm_map.specs.Blocks.{middle_entries, middle_count, IsMiddle};
-ghost use Rattle.cm_map.specs.Maps.{IsMap};
+ghost use Rattle.cm_map.specs.Maps.{IsMap, IsWidth};
 ghost use Rattle.cm_map.specs.Rests.{rest};
 
 use crate::blocks::Middle;
 use crate::iter::Iter;
-use crate::levels::{leaf_pieces, middle_pieces};
+use crate::levels::{leaf_pieces, middle_pieces, shared};
 use crate::row::{row_changed, row_found, row_ranged};
 use map_keys::key::Key;
 use std::alloc::{AllocError, Global};
 use std::marker::Model;
 use std::sync::Arc;
 
-/// A finite map, pointee as its entries in the order of their keys.
+/// A finite map, seen as the list of its entries in the order of their keys.
+///
+/// Each change takes `&self` and makes a new map that shares all other blocks with the old one, so both stand.
+/// `put`, `find` and `where_key` of the contracts are std's words for a list of entries in order.
 #[derive(Drop)]
 pub struct Map<K: Key, V: Drop> {
     blocks: Vec<Arc<Middle<K, V>>>,
@@ -33,6 +36,7 @@ impl<K: Key, V: Drop> Model for Map<K, V> {
     ghost invariant = { λ m. IsMap K.cmp m.len (map arc_value m.blocks.items) };
 }
 
+// The middle blocks with a new entry in place of the key's, or with none.
 fn blocks_changed<K: Key, V: Drop>(
     alloc: Global,
     xs: &[Arc<Middle<K, V>>],
@@ -66,6 +70,7 @@ fn blocks_changed<K: Key, V: Drop>(
 }
 
 impl<K: Key, V: Drop> Map<K, V> {
+    /// The map without entries. It takes no memory.
     pub fn empty(alloc: Global) -> Self
         ensures { result ≡ [] }
     {
@@ -75,6 +80,7 @@ impl<K: Key, V: Drop> Map<K, V> {
         }
     }
 
+    /// The number of entries.
     pub fn len(&self) -> u64
         ensures len { result ≡ length self.now }
         ensures sorted { T (is_sorted K.cmp self.now) }
@@ -82,19 +88,38 @@ impl<K: Key, V: Drop> Map<K, V> {
         self.len
     }
 
-    /// The number of middle blocks.
+    /// Whether there is no entry.
+    pub fn is_empty(&self) -> bool
+        ensures { IsTrue result ↔ (length self.now ≡ 0) }
+    {
+        self.len == 0
+    }
+
+    /// The number of middle blocks. A map of this width has at least 2048 entries for each two of them.
     pub fn width(&self) -> u64
-        ensures { 2048 * (result / 2) ≤ length self.now }
+        ensures blocks { IsWidth result self.now }
+        ensures long { 2048 * (result / 2) ≤ length self.now }
     {
         self.blocks.len() as u64
     }
 
+    /// The middle blocks: each has 1 to 128 leaves of 1 to 128 entries, and two neighbours have together more than 64 members.
+    pub fn blocks(&self) -> &[Arc<Middle<K, V>>]
+        ensures entries { flat_map middle_entries (map arc_value result.now) ≡ self.now }
+        ensures bounded { AllByRecursion IsMiddle (map arc_value result.now) }
+        ensures spaced { Spaced (map middle_count (map arc_value result.now)) }
+    {
+        &self.blocks
+    }
+
+    /// The value at the key, or none. It takes no memory, and compares about as many keys as the length has binary digits.
     pub fn get(&self, key: &K) -> Option<&V>
         ensures { option_copied result ≡ find K.cmp key.now self.now }
     {
         row_found::<K, V, Middle<K, V>>(&self.blocks, key)
     }
 
+    // The map with a new entry in place of the key's, or with none.
     fn edited(
         &self,
         alloc: Global,
@@ -110,6 +135,9 @@ impl<K: Key, V: Drop> Map<K, V> {
         Ok(Map { blocks, len })
     }
 
+    /// The map with the value at the key, in place of an older one.
+    ///
+    /// A new key where there are 2^64 - 1 entries is refused as want of memory.
     pub fn with(&self, alloc: Global, key: K, value: V) -> Result<Self, AllocError>
         ensures { IfOk result (λ m. m ≡ put K.cmp key value self.now) }
     {
@@ -126,6 +154,7 @@ impl<K: Key, V: Drop> Map<K, V> {
         Ok(map)
     }
 
+    /// The map without the key. Where it has none, all stays.
     pub fn without(&self, alloc: Global, key: &K) -> Result<Self, AllocError>
         ensures { IfOk result (λ m. m ≡ without_key K.cmp key.now self.now) }
     {
@@ -139,7 +168,20 @@ impl<K: Key, V: Drop> Map<K, V> {
         Ok(map)
     }
 
-    /// The entries from `least` to `most`, in order.
+    /// The same map once more. The middle blocks are shared, and no entry is copied.
+    pub fn share(&self, alloc: Global) -> Result<Self, AllocError>
+        ensures { IfOk result (λ m. m ≡ self.now) }
+    {
+        let blocks = shared(alloc, &self.blocks)?;
+        Ok(Map {
+            blocks,
+            len: self.len,
+        })
+    }
+
+    /// The entries whose keys lie from `least` to `most`, both counted, in order.
+    ///
+    /// It looks at the entries of the range, and at a bounded number of others.
     pub fn range(&self, alloc: Global, least: &K, most: &K) -> Result<Vec<&(K, V)>, AllocError>
         ensures { IfOk result (λ r. map pointee r.items ≡ where_key K.cmp (within K.cmp least.now most.now) self.now) }
     {
@@ -148,7 +190,7 @@ impl<K: Key, V: Drop> Map<K, V> {
         Ok(out)
     }
 
-    /// The entries in order.
+    /// An iterator over the entries in order, which takes no memory.
     pub fn iter(&self) -> Iter<'_, K, V>
         ensures all { rest result ≡ self.now }
         ensures sorted { T (is_sorted K.cmp self.now) }

@@ -8,7 +8,7 @@ ghost use Rattle.cm_map.specs.Rows.{Spaced, change};
 
 use crate::block::Block;
 use map_keys::key::Key;
-use map_keys::leaf::place;
+use map_keys::places::{between, place};
 use map_keys::rows::push_all;
 use std::alloc::{AllocError, Global};
 use std::sync::Arc;
@@ -118,12 +118,35 @@ pub fn row_found<'a, K: Key, V: Drop, B: Block<K, V>>(xs: &'a [Arc<B>], key: &K)
 }
 
 /// The entries from `least` to `most`, at the end of `out`.
+///
+/// Only blocks in which such keys can lie are looked at.
 pub fn row_ranged<'a, K: Key, V: Drop, B: Block<K, V>>(
     out: &mut Vec<&'a (K, V)>,
     xs: &'a [Arc<B>],
     least: &K,
     most: &K,
 ) -> Result<(), AllocError>
+    requires whole { AllByRecursion B.whole (map arc_value xs.now) }
+    requires sorted { T (is_sorted K.cmp (flat_map B.entries (map arc_value xs.now))) }
+    ensures { IfOk result (λ _. map pointee out.new.items ≡ map pointee out.old.items ++ where_key K.cmp (within K.cmp least.now most.now) (flat_map B.entries (map arc_value xs.now))) }
+{
+    if xs.is_empty() {
+        return Ok(());
+    }
+    let near: &'a [Arc<B>] = between::<K, B>(xs, least, most);
+    push_ranged::<K, V, B>(out, near, least, most)?;
+    Ok(())
+}
+
+// The entries of each block from `least` to `most`.
+fn push_ranged<'a, K: Key, V: Drop, B: Block<K, V>>(
+    out: &mut Vec<&'a (K, V)>,
+    xs: &'a [Arc<B>],
+    least: &K,
+    most: &K,
+) -> Result<(), AllocError>
+    requires whole { AllByRecursion B.whole (map arc_value xs.now) }
+    requires sorted { T (is_sorted K.cmp (flat_map B.entries (map arc_value xs.now))) }
     ensures { IfOk result (λ _. map pointee out.new.items ≡ map pointee out.old.items ++ where_key K.cmp (within K.cmp least.now most.now) (flat_map B.entries (map arc_value xs.now))) }
 {
     for x in xs {

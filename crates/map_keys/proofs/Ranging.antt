@@ -55,8 +55,8 @@ module _ {K X : Type 0} (R : K → K → Ordering) (o : IsTotalOrder R) (least m
         ap (λ l. kept (flat_map fl l)) h.parts ∙ ap kept flat ∙ filter-append _ A (M ++ C) ∙ ap (λ l. kept A ++ l) (filter-append _ M C)
         ∙ (λ i. none_below A low i ++ (kept M ++ none_above C high i)) ∙ append-nil (kept M)
 
-    pub sorted_between : (bs mid : List B) → T (is_sorted R (flat_map fl bs)) → IsBetween (λ b. first_of (fl b)) R least most bs mid → T (is_sorted R (flat_map fl mid))
-    sorted_between bs mid s h =
+    pub sorted_between : (first : B → Option K) (bs mid : List B) → T (is_sorted R (flat_map fl bs)) → IsBetween first R least most bs mid → T (is_sorted R (flat_map fl mid))
+    sorted_between first bs mid s h =
         let A = flat_map fl h.before in
         let M = flat_map fl mid in
         let C = flat_map fl h.past in
@@ -119,3 +119,11 @@ module _ {X B K : Type 0} (value : X → B) (first : B → Option K) (R : K → 
       positive zero [] h = h
       positive zero (a ∷ l) h = h
       positive (suc n) l h = omega arith
+
+all_left : {X : Type 0} (P : X → Type 0) (xs ys : List X) → AllByRecursion P (xs ++ ys) → AllByRecursion P xs
+all_left P [] ys h = tt
+all_left P (x ∷ xs) ys h = (h.0, all_left P xs ys h.1)
+
+-- what holds of all holds of those between
+pub all_between : {B K : Type 0} (P : B → Type 0) (first : B → Option K) (R : K → K → Ordering) (least most : K) (bs mid : List B) → AllByRecursion P bs → IsBetween first R least most bs mid → AllByRecursion P mid
+all_between P first R least most bs mid a h = all_left P mid h.past (all_right P h.before (mid ++ h.past) (subst (AllByRecursion P) h.parts a))
