@@ -1,5 +1,5 @@
 -- What lies in a range, in a row that parts at its ends.
-use Rattle.std.proofs.Common.{◌≡◌, ℕ, zero, suc, ◌+◌, ◌<◌, flat_map, map, take, drop, Option, Some, IfSome, IsSome, Bool, true, false, cond, not, ◌&&◌, T, List, [], ◌∷◌, ◌++◌, length, sym, subst, ap, refl, ◌∙◌, arith, Ordering, Greater, is_lt, is_gt, append_assoc, take-append-drop, length-take-le}
+use Rattle.std.proofs.Common.{◌≡◌, ℕ, zero, suc, ◌+◌, ◌<◌, flat_map, map, take, drop, Option, Some, IfSome, IsSome, Bool, true, false, cond, not, ◌&&◌, T, List, [], ◌∷◌, ◌++◌, length, sym, subst, ap, refl, ◌∙◌, arith, Ordering, Greater, is_lt, is_gt, take-append-drop, length-take-le}
 use Rattle.std.proofs.lemmas.List.{append-nil, take-map, drop-map, length-map}
 use Rattle.core.specs.List.{AllByRecursion}
 use Rattle.core.specs.FinMap.Entries.{is_sorted, where_key}

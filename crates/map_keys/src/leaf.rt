@@ -50,35 +50,6 @@ pub fn find_in<'a, K: Key, V: Drop>(xs: &'a [Arc<(K, V)>], key: &K) -> Option<&'
     }
 }
 
-/// The entries with the value at the key.
-pub fn with_in<K: Key, V: Drop>(
-    alloc: Global,
-    xs: &[Arc<(K, V)>],
-    key: K,
-    value: V,
-) -> Result<Vec<Arc<(K, V)>>, AllocError>
-    requires { T (is_sorted K.cmp (map arc_value xs.now)) }
-    ensures { IfOk result (λ v. map arc_value v.items ≡ put K.cmp key value (map arc_value xs.now)) }
-{
-    let (from, to) = gap(xs, &key);
-    let new = [Arc::new(alloc, (key, value))?];
-    spliced(alloc, xs, from, to, &new)
-}
-
-/// The entries without the key.
-pub fn without_in<K: Key, V: Drop>(
-    alloc: Global,
-    xs: &[Arc<(K, V)>],
-    key: &K,
-) -> Result<Vec<Arc<(K, V)>>, AllocError>
-    requires { T (is_sorted K.cmp (map arc_value xs.now)) }
-    ensures { IfOk result (λ v. map arc_value v.items ≡ without_key K.cmp key.now (map arc_value xs.now)) }
-{
-    let (from, to) = gap(xs, key);
-    let none: Vec<Arc<(K, V)>> = Vec::new(alloc);
-    spliced(alloc, xs, from, to, &none)
-}
-
 /// The entries from `least` to `most`, at the end of `out`.
 ///
 /// Only the entries of the range are looked at, and at most one on either side of them.

@@ -1,4 +1,4 @@
-use Rattle.std.proofs.Common.{◌≡◌, ◌<◌, ◌+◌, ◌-◌, map, length, take, drop, Greater, IfSome, IsSome, sym, ap, subst}
+use Rattle.std.proofs.Common.{◌≡◌, ◌<◌, ◌+◌, map, length, take, drop, Greater, IfSome, IsSome, sym, subst}
 use Rattle.std.specs.Arc.{arc_value}
 use Rattle.core.specs.List.{AllByRecursion}
 use Rattle.std.proofs.lemmas.List.{take_rest}
@@ -18,6 +18,6 @@ returns g c =
     let e = take_rest c.args.xs.now from in
     subst (λ l. IsBetween g.B.Headed.first g.K.Ord.cmp c.args.least.now c.args.most.now (map arc_value c.args.xs.now) (map arc_value (take (last + 1) l))) (sym e)
     (two_places arc_value g.B.Headed.first g.K.Ord.cmp c.args.least.now c.args.most.now c.args.xs.now from last c.place-from.ensures.in_range
-      (subst (λ l. last < length l) e c.place-last.ensures.in_range)
-      c.place-from.ensures.low
-      (subst (λ l. HeadIs (λ b. IfSome (g.B.Headed.first b) (λ x. g.K.Ord.cmp x c.args.most.now ≡ Greater)) (drop (last + 1) (map arc_value l))) e c.place-last.ensures.high))
+    (subst (λ l. last < length l) e c.place-last.ensures.in_range)
+    c.place-from.ensures.low
+    (subst (λ l. HeadIs (λ b. IfSome (g.B.Headed.first b) (λ x. g.K.Ord.cmp x c.args.most.now ≡ Greater)) (drop (last + 1) (map arc_value l))) e c.place-last.ensures.high))
