@@ -6,3 +6,4 @@ ghost use Rattle.std.specs.Prelude.{◌≡◌};
 pub mod definition;
 pub mod given;
 pub mod property;
+pub mod request;
