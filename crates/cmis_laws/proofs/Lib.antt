@@ -1,3 +1,4 @@
+pub mod Added
 pub mod Entries
 pub mod Lists
 pub mod Tree
