@@ -1,4 +1,6 @@
 pub mod Added
 pub mod Entries
 pub mod Lists
+pub mod Paired
+pub mod Steps
 pub mod Tree
