@@ -1,6 +1,5 @@
 -- What is there: objects and series under their numbers, their base types and their names.
-use Rattle.std.specs.Prelude.{◌≡◌, ℕ, ◌+◌, ◌<◌, Bool, true, false, if◌then◌else◌, not, ◌&&◌, ◌⊎◌, List, [], ◌∷◌, map, find, All, Option, Some, None, IfSome, is_some, option_map, option_and_then, unwrap_or, bytes_eq, codes}
-use Rattle.std.specs.List.{list_any}
+use Rattle.std.specs.Prelude.{◌≡◌, ◌<◌, true, false, if◌then◌else◌, ◌⊎◌, List, [], ◌∷◌, find, All, Option, Some, None, IfSome, option_map, unwrap_or, bytes_eq, codes}
 use Rattle.std.proofs.Common.{refl, sym, ap, subst, ◌∙◌, inl, inr, arith}
 use Rattle.std.proofs.lemmas.Bool.{both_ways}
 use Rattle.std.proofs.lemmas.List.Elements.{All-nil, All-cons}
@@ -13,9 +12,9 @@ use Rattle.cm_types.specs.declared.definition.BaseType.TheVariants as bases
 use Rattle.cm_types.specs.declared.property.PropDef.{PropDef}
 use Rattle.cm_types.specs.Properties.{value_in, value_fault}
 use Rattle.cmis_spec.specs.Repository.{Repository, same, object_at, series_at, is_a, is_base, type_of, entry_of, entry_name, name_of}
-use Rattle.cmis_spec.specs.Values.{words, texts, form_value}
-use Rattle.cmis_spec.specs.Well.{Apart, IsThere, IsBaseAt, IsSeriesAt, IsEntryAt, HasNumbers, HasSeriesNumbers, HasFirsts, HasDocuments, HasOwnNames, Belongs, IsKept, is_version}
-use Rattle.cmis_laws.proofs.Lists.{by_test, find_yes, find_no, found_holds, found_passes, none_some, same_eq, same_refl, differ, some_eq, all_zip}
+use Rattle.cmis_spec.specs.Values.{words, texts}
+use Rattle.cmis_spec.specs.Well.{Apart, IsThere, IsBaseAt, IsSeriesAt, IsEntryAt, HasNumbers, HasSeriesNumbers, HasFirsts, HasDocuments, Belongs, IsKept}
+use Rattle.cmis_laws.proofs.Lists.{by_test, find_yes, find_no, found_holds, found_passes, same_eq, same_refl, differ, some_eq, all_zip}
 
 -- ---- base types
 
@@ -29,8 +28,8 @@ not_both r x a b other h = by (type_of r x) h
     by : (o : Option TypeDef) → unwrap_or (option_map (λ t. is_base a t.base) o) false ≡ true → unwrap_or (option_map (λ t. is_base b t.base) o) false ≡ false
     by None h = refl
     by (Some t) h = by_test (is_base b t.base)
-      (λ e. absurd (both_ways (is_base a b) other (subst (λ c. is_base a c ≡ true) (sym (base_eq b t.base e)) h)))
-      (λ e. e)
+        (λ e. absurd (both_ways (is_base a b) other (subst (λ c. is_base a c ≡ true) (sym (base_eq b t.base e)) h)))
+        (λ e. e)
 
 -- ---- numbers
 
@@ -63,7 +62,7 @@ entry_below r n h k (inr (inr e)) = series_below r n e.0 k e.1
 pub all_there : (xs : List Object) → Apart (λ x y. x.id.0 < y.id.0) xs → All (λ x. find (λ y. same y.id x.id) xs ≡ Some x) xs
 all_there [] a = All-nil (λ x. find (λ y. same y.id x.id) [] ≡ Some x)
 all_there (x ∷ xs) a = All-cons (λ z. find (λ y. same y.id z.id) (x ∷ xs) ≡ Some z) x xs (find_yes (λ y. same y.id x.id) x xs (same_refl x.id))
-  (all_zip (λ z. x.id.0 < z.id.0) (λ z. find (λ y. same y.id z.id) xs ≡ Some z) (λ z. find (λ y. same y.id z.id) (x ∷ xs) ≡ Some z) xs
+    (all_zip (λ z. x.id.0 < z.id.0) (λ z. find (λ y. same y.id z.id) xs ≡ Some z) (λ z. find (λ y. same y.id z.id) (x ∷ xs) ≡ Some z) xs
     (λ z l e. find_no (λ y. same y.id z.id) x xs (is_other x.id z.id l) ∙ e) a.0 (all_there xs a.1))
 
 -- ---- what has a name
@@ -102,11 +101,11 @@ entry_folder r x (Some n) b h = absurd (both_ways (is_a r bases.Document x) (not
 -- a series has no folder's number
 pub series_other : (r : Repository) (n : Oid) → HasFirsts r → HasDocuments r → IsSeriesAt r n → (h : Oid) → IsBaseAt r bases.Folder h → same n h ≡ false
 series_other r n firsts docs s h k = differ n h (λ e.
-  let id : s.0.id ≡ n = series_found r n s.0 s.1 in
-  let first : IfSome (object_at r s.0.id) (λ z. z.series ≡ Some s.0.id) = found_holds (λ t. IfSome (object_at r t.id) (λ z. z.series ≡ Some t.id)) (λ t. same t.id n) r.series s.0 firsts s.1 in
-  let own : k.0.series ≡ Some s.0.id = subst (λ o. IfSome o (λ z. z.series ≡ Some s.0.id)) (ap (object_at r) (id ∙ e) ∙ k.1) first in
-  let belongs : Belongs r k.0 (Some s.0.id) = subst (Belongs r k.0) own (found_holds (λ z. Belongs r z z.series) (λ z. same z.id h) r.objects k.0 docs k.1) in
-  both_ways (is_a r bases.Document k.0) (not_both r k.0 bases.Folder bases.Document refl k.2) belongs.0)
+    let id : s.0.id ≡ n = series_found r n s.0 s.1 in
+    let first : IfSome (object_at r s.0.id) (λ z. z.series ≡ Some s.0.id) = found_holds (λ t. IfSome (object_at r t.id) (λ z. z.series ≡ Some t.id)) (λ t. same t.id n) r.series s.0 firsts s.1 in
+    let own : k.0.series ≡ Some s.0.id = subst (λ o. IfSome o (λ z. z.series ≡ Some s.0.id)) (ap (object_at r) (id ∙ e) ∙ k.1) first in
+    let belongs : Belongs r k.0 (Some s.0.id) = subst (Belongs r k.0) own (found_holds (λ z. Belongs r z z.series) (λ z. same z.id h) r.objects k.0 docs k.1) in
+    both_ways (is_a r bases.Document k.0) (not_both r k.0 bases.Folder bases.Document refl k.2) belongs.0)
 
 -- two objects under one number are one
 pub one_there : (r : Repository) (n : Oid) (x y : Object) → object_at r n ≡ Some x → object_at r n ≡ Some y → x ≡ y
@@ -115,7 +114,7 @@ one_there r n x y a b = some_eq x y (sym a ∙ b)
 -- what is no folder has no folder's number
 pub object_other : (r : Repository) (n : Oid) (x : Object) → object_at r n ≡ Some x → is_a r bases.Folder x ≡ false → (h : Oid) → IsBaseAt r bases.Folder h → same n h ≡ false
 object_other r n x there isnt h k = differ n h (λ e. both_ways (is_a r bases.Folder x) isnt
-  (subst (λ z. is_a r bases.Folder z ≡ true) (sym (one_there r n x k.0 there (ap (object_at r) e ∙ k.1))) k.2))
+    (subst (λ z. is_a r bases.Folder z ≡ true) (sym (one_there r n x k.0 there (ap (object_at r) e ∙ k.1))) k.2))
 
 -- an item or a series that is filed has no folder's number
 abbrev pub IsLeafAt : Repository → Oid → Type 0
@@ -127,6 +126,6 @@ leaf_other r n firsts docs (inr s) h k = series_other r n firsts docs s h k
 
 -- the entry of what is no folder is no folder's number
 pub entry_other : (r : Repository) (x : Object) (o : Option Oid) → HasFirsts r → HasDocuments r → Belongs r x o → object_at r x.id ≡ Some x → is_a r bases.Folder x ≡ false
-  → (h : Oid) → IsBaseAt r bases.Folder h → same (unwrap_or o x.id) h ≡ false
+    → (h : Oid) → IsBaseAt r bases.Folder h → same (unwrap_or o x.id) h ≡ false
 entry_other r x None firsts docs b there isnt h k = object_other r x.id x there isnt h k
 entry_other r x (Some n) firsts docs b there isnt h k = series_other r n firsts docs (b.1.0, b.1.1) h k

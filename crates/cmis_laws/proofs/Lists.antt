@@ -1,9 +1,9 @@
 -- Lists: what is found, what is apart, after an element more, a map and a filter.
-use Rattle.std.specs.Prelude.{◌≡◌, ℕ, zero, suc, ◌+◌, ◌<◌, ◌≤◌, Bool, true, false, cond, not, ◌&&◌, ◌||◌, List, [], ◌∷◌, ◌++◌, map, filter, find, All, count_by, Option, Some, None, option_map, ◌==◌}
+use Rattle.std.specs.Prelude.{◌≡◌, ◌+◌, ◌<◌, ◌≤◌, Bool, true, false, cond, List, [], ◌∷◌, ◌++◌, map, find, All, count_by, Some, None}
 use Rattle.std.specs.List.{list_any}
-use Rattle.std.proofs.Common.{refl, sym, ap, subst, ◌∙◌, ◌⊎◌, inl, inr, ⊎_elim, arith}
-use Rattle.std.proofs.lemmas.Bool.{eqb-true, eq-eqb, ne_eqb, eqb-false, both_ways}
-use Rattle.std.proofs.lemmas.List.Elements.{All-nil, All-cons, All-head, All-tail, All-push, All-weaker, All-map, All-filter}
+use Rattle.std.proofs.Common.{refl, sym, ap, subst, ◌∙◌, arith}
+use Rattle.std.proofs.lemmas.Bool.{eqb-true, eq-eqb, both_ways}
+use Rattle.std.proofs.lemmas.List.Elements.{All-nil, All-cons, All-head, All-tail, All-push, All-map}
 use Rattle.std.proofs.lemmas.List.Sums.{sum_by-cons, sum_by_push}
 use Rattle.cm_base.specs.declared.number.Oid.{Oid}
 use Rattle.cmis_spec.specs.Repository.{same}
@@ -37,20 +37,20 @@ none_some x h = both_ways false refl (ap (λ o. elim o [ None ↦ false | Some y
 pub found_passes : {A : Type 0} (p : A → Bool) (xs : List A) (x : A) → find p xs ≡ Some x → p x ≡ true
 found_passes p [] x h = absurd (none_some x h)
 found_passes p (y ∷ ys) x h = by_test (p y)
-  (λ e. subst (λ z. p z ≡ true) (ap (λ o. elim o [ None ↦ y | Some z ↦ z ]) (sym (find_yes p y ys e) ∙ h)) e)
-  (λ e. found_passes p ys x (sym (find_no p y ys e) ∙ h))
+    (λ e. subst (λ z. p z ≡ true) (ap (λ o. elim o [ None ↦ y | Some z ↦ z ]) (sym (find_yes p y ys e) ∙ h)) e)
+    (λ e. found_passes p ys x (sym (find_no p y ys e) ∙ h))
 
 pub found_holds : {A : Type 0} (P : A → Type 0) (p : A → Bool) (xs : List A) (x : A) → All P xs → find p xs ≡ Some x → P x
 found_holds P p [] x all h = absurd (none_some x h)
 found_holds P p (y ∷ ys) x all h = by_test (p y)
-  (λ e. subst P (ap (λ o. elim o [ None ↦ y | Some z ↦ z ]) (sym (find_yes p y ys e) ∙ h)) (All-head P y ys all))
-  (λ e. found_holds P p ys x (All-tail P y ys all) (sym (find_no p y ys e) ∙ h))
+    (λ e. subst P (ap (λ o. elim o [ None ↦ y | Some z ↦ z ]) (sym (find_yes p y ys e) ∙ h)) (All-head P y ys all))
+    (λ e. found_holds P p ys x (All-tail P y ys all) (sym (find_no p y ys e) ∙ h))
 
 pub find_more : {A : Type 0} (p : A → Bool) (xs : List A) (y x : A) → find p xs ≡ Some x → find p (xs ++ y ∷ []) ≡ Some x
 find_more p [] y x h = absurd (none_some x h)
 find_more p (z ∷ zs) y x h = by_test (p z)
-  (λ e. find_yes p z (zs ++ y ∷ []) e ∙ (sym (find_yes p z zs e) ∙ h))
-  (λ e. find_no p z (zs ++ y ∷ []) e ∙ find_more p zs y x (sym (find_no p z zs e) ∙ h))
+    (λ e. find_yes p z (zs ++ y ∷ []) e ∙ (sym (find_yes p z zs e) ∙ h))
+    (λ e. find_no p z (zs ++ y ∷ []) e ∙ find_more p zs y x (sym (find_no p z zs e) ∙ h))
 
 pub find_none : {A : Type 0} (p : A → Bool) (xs : List A) → All (λ x. p x ≡ false) xs → find p xs ≡ None
 find_none p [] all = refl
@@ -64,14 +64,14 @@ find_last p (x ∷ xs) y all h = find_no p x (xs ++ y ∷ []) (All-head (λ x. p
 pub find_passed_over : {A : Type 0} (p : A → Bool) (xs : List A) (y : A) → p y ≡ false → find p (xs ++ y ∷ []) ≡ find p xs
 find_passed_over p [] y h = find_no p y [] h
 find_passed_over p (x ∷ xs) y h = by_test (p x)
-  (λ e. find_yes p x (xs ++ y ∷ []) e ∙ sym (find_yes p x xs e))
-  (λ e. find_no p x (xs ++ y ∷ []) e ∙ (find_passed_over p xs y h ∙ sym (find_no p x xs e)))
+    (λ e. find_yes p x (xs ++ y ∷ []) e ∙ sym (find_yes p x xs e))
+    (λ e. find_no p x (xs ++ y ∷ []) e ∙ (find_passed_over p xs y h ∙ sym (find_no p x xs e)))
 
 pub all_from_any : {A : Type 0} (p : A → Bool) (xs : List A) → list_any p xs ≡ false → All (λ x. p x ≡ false) xs
 all_from_any p [] h = All-nil (λ x. p x ≡ false)
 all_from_any p (x ∷ xs) h = by_test (p x)
-  (λ e. absurd (both_ways true (rw e at h) refl))
-  (λ e. All-cons (λ x. p x ≡ false) x xs e (all_from_any p xs (rw e at h)))
+    (λ e. absurd (both_ways true (rw e at h) refl))
+    (λ e. All-cons (λ x. p x ≡ false) x xs e (all_from_any p xs (rw e at h)))
 
 -- ---- All and Apart
 
@@ -87,7 +87,7 @@ apart_push R (x ∷ xs) y ap all = (All-push (R x) xs y ap.0 (All-head (λ x. R 
 pub apart_weaker : {A : Type 0} (P : A → Type 0) (R S : A → A → Type 0) (xs : List A) → ((x y : A) → P x → P y → R x y → S x y) → All P xs → Apart R xs → Apart S xs
 apart_weaker P R S [] f all ap = tt
 apart_weaker P R S (x ∷ xs) f all ap =
-  (all_zip P (R x) (S x) xs (λ y p q. f x y (All-head P x xs all) p q) (All-tail P x xs all) ap.0, apart_weaker P R S xs f (All-tail P x xs all) ap.1)
+    (all_zip P (R x) (S x) xs (λ y p q. f x y (All-head P x xs all) p q) (All-tail P x xs all) ap.0, apart_weaker P R S xs f (All-tail P x xs all) ap.1)
 
 pub apart_map : {A : Type 0} (R : A → A → Type 0) (f : A → A) (xs : List A) → Apart (λ x y. R (f x) (f y)) xs → Apart R (map f xs)
 apart_map R f [] ap = tt
@@ -103,20 +103,20 @@ count_push p xs y = sum_by_push (λ z. cond (p z) 1 0) xs y
 
 pub count_passed_over : {A : Type 0} (p : A → Bool) (xs : List A) (y : A) → p y ≡ false → count_by p (xs ++ y ∷ []) ≡ count_by p xs
 count_passed_over p xs y h =
-  let e : count_by p (xs ++ y ∷ []) ≡ count_by p xs + 0 = subst (λ b. count_by p (xs ++ y ∷ []) ≡ count_by p xs + cond b 1 0) h (count_push p xs y) in
-  omega (arith, e)
+    let e : count_by p (xs ++ y ∷ []) ≡ count_by p xs + 0 = subst (λ b. count_by p (xs ++ y ∷ []) ≡ count_by p xs + cond b 1 0) h (count_push p xs y) in
+    omega (arith, e)
 
 pub count_none : {A : Type 0} (p : A → Bool) (xs : List A) → All (λ x. p x ≡ false) xs → count_by p xs ≡ 0
 count_none p [] all = refl
 count_none p (x ∷ xs) all =
-  count_cons p x xs ∙ (ap (λ b. cond b 1 0 + count_by p xs) (All-head (λ x. p x ≡ false) x xs all) ∙ (ap (λ n. 0 + n) (count_none p xs (All-tail (λ x. p x ≡ false) x xs all))))
+    count_cons p x xs ∙ (ap (λ b. cond b 1 0 + count_by p xs) (All-head (λ x. p x ≡ false) x xs all) ∙ (ap (λ n. 0 + n) (count_none p xs (All-tail (λ x. p x ≡ false) x xs all))))
 
 pub count_last : {A : Type 0} (p : A → Bool) (xs : List A) (y : A) → All (λ x. p x ≡ false) xs → count_by p (xs ++ y ∷ []) ≤ 1
 count_last p xs y all =
-  let e : count_by p (xs ++ y ∷ []) ≡ count_by p xs + cond (p y) 1 0 = count_push p xs y in
-  let z : count_by p xs ≡ 0 = count_none p xs all in
-  let b : cond (p y) 1 0 ≤ 1 = by_test (p y) (λ h. rw h (omega arith)) (λ h. rw h (omega arith)) in
-  omega (arith, e, z, b)
+    let e : count_by p (xs ++ y ∷ []) ≡ count_by p xs + cond (p y) 1 0 = count_push p xs y in
+    let z : count_by p xs ≡ 0 = count_none p xs all in
+    let b : cond (p y) 1 0 ≤ 1 = by_test (p y) (λ h. rw h (omega arith)) (λ h. rw h (omega arith)) in
+    omega (arith, e, z, b)
 
 -- ---- numbers in order
 
@@ -124,9 +124,9 @@ count_last p xs y all =
 pub found_by_number : {A : Type 0} (id : A → Oid) (q : A → Bool) (xs : List A) (x : A) → Apart (λ y z. (id y).0 < (id z).0) xs → find q xs ≡ Some x → find (λ y. same (id y) (id x)) xs ≡ Some x
 found_by_number id q [] x ap h = absurd (none_some x h)
 found_by_number id q (y ∷ ys) x apart h = by_test (q y)
-  (λ e. let at : y ≡ x = ap (λ o. elim o [ None ↦ y | Some z ↦ z ]) (sym (find_yes q y ys e) ∙ h) in
+    (λ e. let at : y ≡ x = ap (λ o. elim o [ None ↦ y | Some z ↦ z ]) (sym (find_yes q y ys e) ∙ h) in
     find_yes (λ z. same (id z) (id x)) y ys (subst (λ z. same (id z) (id x) ≡ true) (sym at) (same_refl (id x))) ∙ ap Some at)
-  (λ e. let there : find q ys ≡ Some x = sym (find_no q y ys e) ∙ h in
+    (λ e. let there : find q ys ≡ Some x = sym (find_no q y ys e) ∙ h in
     let above : (id y).0 < (id x).0 = found_holds (λ z. (id y).0 < (id z).0) q ys x apart.0 there in
     find_no (λ z. same (id z) (id x)) y ys (differ (id y) (id x) (λ k. let l : (id y).0 ≡ (id x).0 = ap (λ n. n.0) k in omega (arith, l, above)))
-      ∙ found_by_number id q ys x apart.1 there)
+    ∙ found_by_number id q ys x apart.1 there)
