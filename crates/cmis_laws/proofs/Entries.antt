@@ -6,30 +6,30 @@ use Rattle.std.proofs.lemmas.List.Elements.{All-nil, All-cons}
 use Rattle.cm_base.specs.declared.number.Oid.{Oid}
 use Rattle.cm_base.specs.declared.object.Object.{Object}
 use Rattle.cm_base.specs.declared.series.Series.{Series}
-use Rattle.cm_types.specs.declared.definition.TypeDef.{TypeDef}
 use Rattle.cm_types.specs.declared.definition.BaseType.{BaseType}
 use Rattle.cm_types.specs.declared.definition.BaseType.TheVariants as bases
 use Rattle.cm_types.specs.declared.property.PropDef.{PropDef}
-use Rattle.cm_types.specs.Properties.{value_in, value_fault}
-use Rattle.cmis_spec.specs.Repository.{Repository, same, object_at, series_at, is_a, is_base, type_of, entry_of, entry_name, name_of}
+use Rattle.cm_types.specs.Types.{same_base, base_of}
+use Rattle.cm_types.specs.Properties.{value_in, is_faulty}
+use Rattle.cmis_spec.specs.Repository.{Repository, same, object_at, series_at, is_a, entry_of, entry_name, name_of}
 use Rattle.cmis_spec.specs.Values.{words, texts}
 use Rattle.cmis_spec.specs.Well.{Apart, IsThere, IsBaseAt, IsSeriesAt, IsEntryAt, HasNumbers, HasSeriesNumbers, HasFirsts, HasDocuments, Belongs, IsKept}
 use Rattle.cmis_laws.proofs.Lists.{by_test, find_yes, find_no, found_holds, found_passes, same_eq, same_refl, differ, some_eq, all_zip}
 
 -- ---- base types
 
-base_eq : (a b : BaseType) → is_base a b ≡ true → a ≡ b
+base_eq : (a b : BaseType) → same_base a b ≡ true → a ≡ b
 base_eq a b h = grind (arith, h)
 
 -- an object has one base type
-pub not_both : (r : Repository) (x : Object) (a b : BaseType) → is_base a b ≡ false → is_a r a x ≡ true → is_a r b x ≡ false
-not_both r x a b other h = by (type_of r x) h
+pub not_both : (r : Repository) (x : Object) (a b : BaseType) → same_base a b ≡ false → is_a r a x ≡ true → is_a r b x ≡ false
+not_both r x a b other h = by (base_of r.types x.kind) h
   where
-    by : (o : Option TypeDef) → unwrap_or (option_map (λ t. is_base a t.base) o) false ≡ true → unwrap_or (option_map (λ t. is_base b t.base) o) false ≡ false
+    by : (o : Option BaseType) → unwrap_or (option_map (same_base a) o) false ≡ true → unwrap_or (option_map (same_base b) o) false ≡ false
     by None h = refl
-    by (Some t) h = by_test (is_base b t.base)
-        (λ e. absurd (both_ways (is_base a b) other (subst (λ c. is_base a c ≡ true) (sym (base_eq b t.base e)) h)))
-        (λ e. e)
+    by (Some c) h = by_test (same_base b c)
+      (λ e. absurd (both_ways (same_base a b) other (subst (λ d. same_base a d ≡ true) (sym (base_eq b c e)) h)))
+      (λ e. e)
 
 -- ---- numbers
 
@@ -82,10 +82,10 @@ belongs_is_named r x (Some n) there b = inr (b.1.0, b.1.1)
 
 -- an object's values are judged by its name alone, besides what is kept with it
 pub kept_by_name : (r r' : Repository) (defs : List PropDef) (x : Object) → name_of r' x ≡ name_of r x → IsKept r defs x → IsKept r' defs x
-kept_by_name r r' defs x e k = subst (λ name. All (λ d. value_fault d (if bytes_eq d.id (codes "cmis:name") then words name
+kept_by_name r r' defs x e k = subst (λ name. All (λ d. is_faulty d (if bytes_eq d.id (codes "cmis:name") then words name
     else if bytes_eq d.id (codes "cmis:objectTypeId") then words x.kind
     else if bytes_eq d.id (codes "cmis:secondaryObjectTypeIds") then texts x.secondary
-    else value_in x.values d.id) ≡ None) defs) (sym e) k
+    else value_in x.values d.id) ≡ false) defs) (sym e) k
 
 -- where the entries keep their names, the objects do
 pub name_by_entry : (r r' : Repository) (x : Object) → entry_name r' (entry_of x) ≡ entry_name r (entry_of x) → name_of r' x ≡ name_of r x
