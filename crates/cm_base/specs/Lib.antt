@@ -1,5 +1,6 @@
 pub mod Arguments
 pub mod Causes
+pub mod Decimals
 pub mod Exceptions
 pub mod Judged
 pub mod Names

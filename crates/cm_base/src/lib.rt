@@ -8,6 +8,7 @@ pub mod argument;
 pub mod cause;
 pub mod content;
 pub mod copies;
+pub mod decimal;
 pub mod exception;
 pub mod fail;
 pub mod filing;

@@ -123,7 +123,7 @@ stated d g = value_of_texts d.kind g.several g.texts
 
 -- ---- faults of a scalar
 
--- it is not of the property's kind
+-- a scalar is of the kind of a property
 abbrev pub is_of_kind : PropertyKind → Scalar → Bool
 is_of_kind kinds.Boolean (Flag b) = true
 is_of_kind kinds.Integer (Whole n) = true
