@@ -26,15 +26,15 @@ pub struct Ace {
 /// An access control list.
 pub type Aces = Items<Ace>;
 
-/// An entry of the list of an object, or of a version series for all its documents.
+/// The list of an object that is no document, or of a version series for all its documents.
 #[derive(Drop)]
-pub struct Grant {
+pub struct AccessList {
     pub at: Oid,
-    pub ace: Ace,
+    pub aces: Aces,
 }
 
-/// The entries of all lists.
-pub type Grants = Items<Grant>;
+/// The lists of all objects and series, in the order of their numbers.
+pub type AccessLists = Items<AccessList>;
 
 impl Copies for Ace {
     fn copied(&self, alloc: Global) -> Result<Ace, AllocError> {
@@ -45,11 +45,11 @@ impl Copies for Ace {
     }
 }
 
-impl Copies for Grant {
-    fn copied(&self, alloc: Global) -> Result<Grant, AllocError> {
-        Ok(Grant {
+impl Copies for AccessList {
+    fn copied(&self, alloc: Global) -> Result<AccessList, AllocError> {
+        Ok(AccessList {
             at: self.at,
-            ace: self.ace.copied(alloc)?,
+            aces: self.aces.copied(alloc)?,
         })
     }
 }
