@@ -1,10 +1,8 @@
 //! Sets of keys.
-ghost use Rattle.std.specs.Prelude.{◌≡◌, ◌↔◌, ℕ, ◌++◌, List, [], map, filter, not, length, IsTrue, IfOk};
-ghost use Rattle.std.specs.List.{list_any};
-ghost use Rattle.std.specs.Ordering.{eq_by_cmp};
-ghost use Rattle.std.specs.BTreeSet.{insert_key};
+ghost use Rattle.std.specs.Prelude.{◌≡◌, ◌||◌, ◌&&◌, not, List, [], map, filter, length, IfOk};
+ghost use Rattle.core.specs.Ordering.{eq_by_cmp};
 ghost use Rattle.map_keys.specs.Parts.{pointee, within};
-ghost use Rattle.cm_map.specs.Sets.{IsRising, key_of};
+ghost use Rattle.cm_map.specs.Sets.{IsRising, has_key, with_key, all_but_key, key_of};
 ghost use Rattle.cm_map.specs.Rests.{rest};
 
 use crate::iter::Iter;
@@ -45,22 +43,25 @@ impl<K: Key> Set<K> {
 
     /// Whether the key is there. It takes no memory.
     pub fn has(&self, key: &K) -> bool
-        ensures { result ≡ list_any (eq_by_cmp K.cmp key.now) self.now }
+        ensures { result ≡ has_key K.cmp key.now self.now }
     {
         self.entries.get(key).is_some()
     }
 
     /// The set with the key. Where it is there, all stays.
     pub fn with(&self, alloc: Global, key: K) -> Result<Self, AllocError>
-        ensures { IfOk result (λ s. s ≡ insert_key K.cmp self.now key) }
+        ensures keys { IfOk result (λ s. s ≡ with_key K.cmp self.now key) }
+        ensures has { IfOk result (λ s. (q : K) → has_key K.cmp q s ≡ (eq_by_cmp K.cmp q key || has_key K.cmp q self.now)) }
     {
+        let _count = self.entries.len();
         let entries = self.entries.with(alloc, key, ())?;
         Ok(Set { entries })
     }
 
     /// The set without the key. Where it isn't there, all stays.
     pub fn without(&self, alloc: Global, key: &K) -> Result<Self, AllocError>
-        ensures { IfOk result (λ s. s ≡ filter (λ x. not (eq_by_cmp K.cmp key.now x)) self.now) }
+        ensures keys { IfOk result (λ s. s ≡ all_but_key K.cmp key.now self.now) }
+        ensures has { IfOk result (λ s. (q : K) → has_key K.cmp q s ≡ (has_key K.cmp q self.now && not (eq_by_cmp K.cmp q key.now))) }
     {
         let entries = self.entries.without(alloc, key)?;
         Ok(Set { entries })
