@@ -1,4 +1,5 @@
 -- The repository that the parts of a state are.
+use Rattle.std.specs.Prelude.{[]}
 use Rattle.cmis_spec.specs.Repository.{Repository}
 use Rattle.cm_state.specs.declared.state.State.TheInside.{Inside}
 
@@ -6,7 +7,7 @@ abbrev pub repository_of : Inside → Repository
 repository_of s = record {
   types = s.types;
   users = s.users;
-  groups = s.groups;
+  groups = [];
   objects = s.objects;
   series = s.series;
   filed = s.filed;

