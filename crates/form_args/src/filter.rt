@@ -1,5 +1,6 @@
 //! The property filter.
-ghost use Rattle.std.specs.Prelude.{◌≡◌, ◌++◌, [], map, filter, Some, None, option_map, IfOk};
+ghost use Rattle.std.specs.Prelude.{◌≡◌, ◌++◌, ◌∷◌, [], map, filter, Some, None, option_map, IfOk};
+ghost use Rattle.std.specs.List.{flat_map};
 ghost use Rattle.std.specs.Result.{OnOk};
 ghost use Rattle.cm_base.specs.Judged.{Meets};
 ghost use Rattle.form_args.specs.Filter.{commas, spaces, tabs, has_bytes, words, one_word, each_onto, name_in, is_star, read_filter, filter_by, filter_of};
@@ -41,29 +42,34 @@ fn add_word<'a>(words: &mut Vec<&'a str>, word: &'a str) -> Result<(), AllocErro
     Ok(())
 }
 
-fn add_words<'a>(
-    alloc: Global,
-    words: &mut Vec<&'a str>,
-    part: &'a str,
-) -> Result<(), AllocError>
+fn add_words<'a>(words: &mut Vec<&'a str>, more: &[&'a str]) -> Result<(), AllocError>
     ensures { OnOk result (map (λ x. x.now) words.new.items
-        ≡ map (λ x. x.now) words.old.items ++ filter has_bytes (tabs part.now)) }
+        ≡ map (λ x. x.now) words.old.items ++ filter has_bytes (map (λ x. x.now) more.now)) }
 {
-    for word in &tabs(alloc, part)? {
+    for word in more {
         add_word(words, word)?;
     }
     Ok(())
+}
+
+fn words_in<'a>(alloc: Global, parts: &[&'a str]) -> Result<Vec<&'a str>, AllocError>
+    ensures { IfOk result (λ v. map (λ x. x.now) v.items
+        ≡ filter has_bytes (flat_map tabs (map (λ x. x.now) parts.now))) }
+{
+    let mut words = Vec::new(alloc);
+    for part in parts {
+        let more = tabs(alloc, part)?;
+        add_words(&mut words, &more)?;
+    }
+    Ok(words)
 }
 
 // What stands between the blanks of a text.
 fn words<'a>(alloc: Global, text: &'a str) -> Result<Vec<&'a str>, AllocError>
     ensures { IfOk result (λ v. map (λ x. x.now) v.items ≡ words text.now) }
 {
-    let mut words = Vec::new(alloc);
-    for part in &spaces(alloc, text)? {
-        add_words(alloc, &mut words, part)?;
-    }
-    Ok(words)
+    let parts = spaces(alloc, text)?;
+    words_in(alloc, &parts)
 }
 
 fn one_word(alloc: Global, words: &[&str]) -> Result<Text, Fail>
