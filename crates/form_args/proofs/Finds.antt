@@ -20,13 +20,13 @@ value_if p false = None
 -- the first of a name is among the pairs before, or is the pair at the end
 first_push : (done : List Pair) (p : Pair) (q : List ℕ) → first_of (done ++ p ∷ []) q ≡ or_else (first_of done q) (value_if p (bytes_eq p.name q))
 first_push [] p q = elim (bytes_eq p.name q) as (λ t. (bytes_eq p.name q ≡ t) → first_of (p ∷ []) q ≡ value_if p t) [
-    | true ↦ λ e. rw e refl
-    | false ↦ λ e. rw e refl
-  ] refl
+  | true ↦ λ e. rw e refl
+  | false ↦ λ e. rw e refl
+] refl
 first_push (x ∷ xs) p q = elim (bytes_eq x.name q) as (λ t. (bytes_eq x.name q ≡ t) → first_of ((x ∷ xs) ++ p ∷ []) q ≡ or_else (first_of (x ∷ xs) q) (value_if p (bytes_eq p.name q))) [
-    | true ↦ λ e. rw e refl
-    | false ↦ λ e. rw e (first_push xs p q)
-  ] refl
+  | true ↦ λ e. rw e refl
+  | false ↦ λ e. rw e (first_push xs p q)
+] refl
 
 -- places before the end keep their values
 values_stay : (done : List Pair) (p d : Pair) (o : Option ℕ) → IfSome o (λ i. i < length done)

@@ -11,3 +11,5 @@ pub mod number;
 pub mod pairs;
 pub mod properties;
 pub mod read;
+#[cfg(test)]
+mod tests;
