@@ -1,13 +1,10 @@
-// A library with one function.
+//! Replies as JSON (CMIS 1.1, sections 5.2.10 and 5.2.11).
 #![tactic(auto)]
 
 ghost use Rattle.std.specs.Prelude.{◌≡◌};
-ghost use Rattle.bind_json.specs.Echo.{echo_of};
 
-// The `ensures` clause is the contract: what `echo` returns is `echo_of` of its argument, a definition
-// in `specs/Echo.antt`, which a caller's clause can cite too.
-pub fn echo(x: usize) -> usize
-    ensures { result ≡ echo_of x }
-{
-    x
-}
+pub mod objects;
+pub mod replies;
+#[cfg(test)]
+mod tests;
+pub mod values;
