@@ -17,6 +17,14 @@ pub struct Given {
 /// The given properties in their order, each id once.
 pub type Givens = Items<Given>;
 
+/// A call that gives properties; of an update, whether the object is a private working copy.
+#[derive(Clone, Copy, Debug, PartialEq, Eq)]
+pub enum PropertyCall {
+    Create,
+    Update(bool),
+    CheckIn,
+}
+
 impl Copies for Given {
     fn copied(&self, alloc: Global) -> Result<Given, AllocError> {
         Ok(Given {

@@ -4,5 +4,9 @@
 ghost use Rattle.std.specs.Prelude.{◌≡◌};
 
 pub mod definition;
+pub mod fault;
 pub mod given;
 pub mod property;
+pub mod request;
+#[cfg(test)]
+mod tests;

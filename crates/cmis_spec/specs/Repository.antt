@@ -17,8 +17,7 @@ use Rattle.cm_base.specs.declared.user.User.{User}
 use Rattle.cm_base.specs.declared.user.Group.{Group}
 use Rattle.cm_types.specs.declared.definition.TypeDef.{TypeDef}
 use Rattle.cm_types.specs.declared.definition.BaseType.{BaseType}
-use Rattle.cm_types.specs.declared.definition.BaseType.TheVariants as bases
-use Rattle.cm_types.specs.Types.{type_in}
+use Rattle.cm_types.specs.Types.{type_in, is_of_base}
 
 -- ---- the record
 
@@ -123,21 +122,12 @@ opening types users m step =
 abbrev pub object_at : Repository → Oid → Option Object
 object_at r n = find (λ x. same x.id n) r.objects
 
-abbrev pub is_base : BaseType → BaseType → Bool
-is_base bases.Document bases.Document = true
-is_base bases.Folder bases.Folder = true
-is_base bases.Relationship bases.Relationship = true
-is_base bases.Policy bases.Policy = true
-is_base bases.Item bases.Item = true
-is_base bases.Secondary bases.Secondary = true
-is_base _ _ = false
-
 abbrev pub type_of : Repository → Object → Option TypeDef
 type_of r x = type_in r.types x.kind
 
 -- the base type of x is this one
 abbrev pub is_a : Repository → BaseType → Object → Bool
-is_a r base x = unwrap_or (option_map (λ t. is_base base t.base) (type_of r x)) false
+is_a r base x = is_of_base r.types base x.kind
 
 -- ---- version series (section 2.1.13)
 

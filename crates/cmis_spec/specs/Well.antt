@@ -20,7 +20,7 @@ use Rattle.cm_types.specs.declared.definition.BaseType.{BaseType}
 use Rattle.cm_types.specs.declared.definition.BaseType.TheVariants as bases
 use Rattle.cm_types.specs.declared.property.PropDef.{PropDef}
 use Rattle.cm_types.specs.Types.{type_in, props_of, longest_chain}
-use Rattle.cm_types.specs.Properties.{value_in, texts_of, value_fault}
+use Rattle.cm_types.specs.Properties.{value_in, texts_of, value_fault, is_faulty}
 use Rattle.cmis_spec.specs.Repository.{Repository, same, root, most_levels, most_steps, most_cost, object_at, series_at, is_a, type_of, entry_name, parent_in}
 use Rattle.cmis_spec.specs.Access.{object_named, rank}
 use Rattle.cmis_spec.specs.Values.{form_value}
@@ -213,9 +213,9 @@ IsDef types d = All (λ t. Agrees d t.properties) types × (value_fault d d.defa
 abbrev pub HasDefs : Repository → Type 0
 HasDefs r = All (λ t. All (IsDef r.types) t.properties) r.types
 
--- no value that a form or a default may give has a fault
+-- no value that a form or a default may give has a fault, or is missing
 abbrev pub IsKept : Repository → List PropDef → Object → Type 0
-IsKept r defs x = All (λ d. value_fault d (form_value r x d.id) ≡ None) defs
+IsKept r defs x = All (λ d. is_faulty d (form_value r x d.id) ≡ false) defs
 
 abbrev pub HasKept : Repository → Type 0
 HasKept r = All (λ x. IsKept r (props_of r.types x.kind x.secondary) x) r.objects

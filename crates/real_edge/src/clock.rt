@@ -1,5 +1,6 @@
 //! The system's clock.
 ghost use Rattle.std.specs.Prelude.{◌≡◌, ◌≤◌, None, IfSome};
+ghost use Rattle.real_edge.specs.declared.clock.TheConstants.{LATEST_MS};
 
 use outside::Clock;
 use std::rt::Clock as System;

@@ -5,7 +5,6 @@
 mod clock;
 mod sink;
 mod source;
-
 #[cfg(test)]
 mod tests;
 

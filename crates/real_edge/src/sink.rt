@@ -1,5 +1,5 @@
 //! A sink over a writer of the system.
-ghost use Rattle.std.specs.Prelude.{None};
+ghost use Rattle.std.specs.Prelude.{◌≡◌, None, false};
 
 use outside::{Failed, Sink};
 use std::io::Write;
@@ -13,12 +13,16 @@ pub struct StdSink<W: Write> {
 
 impl<W: Write> StdSink<W> {
     /// A sink over what `rt.stdout()` answers, or over another writer.
-    pub fn new(writer: W) -> StdSink<W> {
+    pub fn new(writer: W) -> StdSink<W>
+        ensures { ⟦<StdSink<W> as Sink>⟧.told result ≡ record { held = None; faults = 0 } }
+    {
         StdSink { writer, faults: 0 }
     }
 
     /// How many writes have failed.
-    pub fn faults(&self) -> u64 {
+    pub fn faults(&self) -> u64
+        ensures { result ≡ (⟦<StdSink<W> as Sink>⟧.told self.now).faults }
+    {
         self.faults
     }
 }

@@ -1,5 +1,5 @@
 //! A source over a reader of the system.
-ghost use Rattle.std.specs.Prelude.{None, refl, tt};
+ghost use Rattle.std.specs.Prelude.{◌≡◌, None, false};
 
 use outside::{Failed, Source};
 use std::io::Read;
@@ -14,7 +14,9 @@ pub struct StdSource<R: Read> {
 
 impl<R: Read> StdSource<R> {
     /// A source over what `rt.stdin()` answers, or over another reader.
-    pub fn new(reader: R) -> StdSource<R> {
+    pub fn new(reader: R) -> StdSource<R>
+        ensures { ⟦<StdSource<R> as Source>⟧.told result ≡ record { left = None; given = None; ended = false; faults = 0 } }
+    {
         StdSource {
             reader,
             ended: false,
@@ -23,7 +25,9 @@ impl<R: Read> StdSource<R> {
     }
 
     /// How many reads have failed.
-    pub fn faults(&self) -> u64 {
+    pub fn faults(&self) -> u64
+        ensures { result ≡ (⟦<StdSource<R> as Source>⟧.told self.now).faults }
+    {
         self.faults
     }
 }

@@ -60,7 +60,10 @@ fn sink_counts_a_write_that_takes_nothing(rt: HostRuntime) {
 fn clock_stops_at_its_last_moment(rt: HostRuntime) {
     assert_eq!(rt; SystemClock::new(Still(None)).now(), 0);
     assert_eq!(rt; SystemClock::new(Still(Some(1999))).now(), 1999);
-    assert_eq!(rt; SystemClock::new(Still(Some(LATEST_MS + 1))).now(), LATEST_MS);
+    assert_eq!(rt;
+        SystemClock::new(Still(Some(LATEST_MS + 1))).now(),
+        LATEST_MS
+    );
     let mut system = SystemClock::new(&rt);
     assert!(rt; system.now() > 1_600_000_000_000);
 }
