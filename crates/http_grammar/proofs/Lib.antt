@@ -1,0 +1,4 @@
+pub mod Lists
+pub mod Judged
+pub mod Heads
+pub mod OneBody
