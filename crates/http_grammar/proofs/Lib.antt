@@ -2,3 +2,4 @@ pub mod Lists
 pub mod Judged
 pub mod Heads
 pub mod OneBody
+pub mod KeptBody
