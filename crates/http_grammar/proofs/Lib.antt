@@ -3,3 +3,4 @@ pub mod Judged
 pub mod Heads
 pub mod OneBody
 pub mod KeptBody
+pub mod OneFront
