@@ -1,0 +1,79 @@
+//! Version series of documents (CMIS 1.1, section 2.1.13).
+ghost use Rattle.std.specs.Prelude.{◌≡◌};
+
+use crate::copies::Copies;
+use crate::items::Items;
+use crate::number::Oid;
+use crate::text::Text;
+use std::alloc::{AllocError, Global};
+
+/// A version label, printed as `major.minor`.
+#[derive(Clone, Copy, Debug, PartialEq, Eq)]
+pub struct Label {
+    pub major: u64,
+    pub minor: u64,
+}
+
+/// A version in its series. A document made with versioning state `none` has no label.
+#[derive(Clone, Copy, Debug, PartialEq, Eq)]
+pub struct DocumentVersion {
+    pub object: Oid,
+    pub label: Option<Label>,
+}
+
+/// The versions of a series in order, the latest last.
+pub type DocumentVersions = Items<DocumentVersion>;
+
+/// The private working copy of a series, and who checked it out.
+#[derive(Drop)]
+pub struct WorkingCopy {
+    pub copy: Oid,
+    pub owner: Text,
+}
+
+/// A version series. Its number is that of the object with which it began.
+#[derive(Drop)]
+pub struct Series {
+    pub id: Oid,
+    pub name: Text,
+    pub versions: DocumentVersions,
+    pub working: Option<WorkingCopy>,
+}
+
+/// A list of series.
+pub type SeriesList = Items<Series>;
+
+/// The versioning state that a create asks for (CMIS 1.1, section 2.2.4.1).
+#[derive(Clone, Copy, Debug, PartialEq, Eq)]
+pub enum VersioningState {
+    None,
+    CheckedOut,
+    Minor,
+    Major,
+}
+
+impl Copies for DocumentVersion {
+    fn copied(&self, _alloc: Global) -> Result<DocumentVersion, AllocError> {
+        Ok(*self)
+    }
+}
+
+impl Copies for WorkingCopy {
+    fn copied(&self, alloc: Global) -> Result<WorkingCopy, AllocError> {
+        Ok(WorkingCopy {
+            copy: self.copy,
+            owner: self.owner.copied(alloc)?,
+        })
+    }
+}
+
+impl Copies for Series {
+    fn copied(&self, alloc: Global) -> Result<Series, AllocError> {
+        Ok(Series {
+            id: self.id,
+            name: Copies::copied(&self.name, alloc)?,
+            versions: self.versions.copied(alloc)?,
+            working: Copies::copied(&self.working, alloc)?,
+        })
+    }
+}

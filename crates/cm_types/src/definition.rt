@@ -1,0 +1,94 @@
+//! Definitions of types (CMIS 1.1, section 2.1.3.2).
+ghost use Rattle.std.specs.Prelude.{◌≡◌};
+
+use crate::property::PropDefs;
+use cm_base::copies::Copies;
+use cm_base::items::Items;
+use cm_base::text::{Text, Texts};
+use std::alloc::{AllocError, Global};
+
+/// The base types.
+#[derive(Clone, Copy, Debug, PartialEq, Eq)]
+pub enum BaseType {
+    Document,
+    Folder,
+    Relationship,
+    Policy,
+    Item,
+    Secondary,
+}
+
+/// Whether a document may, must or must not have content.
+#[derive(Clone, Copy, Debug, PartialEq, Eq)]
+pub enum ContentAllowed {
+    NotAllowed,
+    Allowed,
+    Required,
+}
+
+/// What may be done with a type.
+#[derive(Clone, Copy, Debug, PartialEq, Eq)]
+pub struct TypeMutability {
+    pub create: bool,
+    pub update: bool,
+    pub delete: bool,
+}
+
+/// The definition of a type, with its own property definitions alone. A base type has no parent.
+#[derive(Drop)]
+pub struct TypeDef {
+    pub id: Text,
+    pub local_name: Text,
+    pub local_namespace: Text,
+    pub display_name: Text,
+    pub query_name: Text,
+    pub description: Text,
+    pub base: BaseType,
+    pub parent: Option<Text>,
+    pub creatable: bool,
+    pub fileable: bool,
+    pub queryable: bool,
+    pub fulltext_indexed: bool,
+    pub included_in_supertype_query: bool,
+    pub controllable_policy: bool,
+    pub controllable_acl: bool,
+    pub mutability: TypeMutability,
+    /// Of documents.
+    pub versionable: bool,
+    pub content_allowed: ContentAllowed,
+    /// Of relationships; empty for any.
+    pub allowed_source_types: Texts,
+    pub allowed_target_types: Texts,
+    pub properties: PropDefs,
+}
+
+/// A list of definitions of types.
+pub type TypeDefs = Items<TypeDef>;
+
+impl Copies for TypeDef {
+    fn copied(&self, alloc: Global) -> Result<TypeDef, AllocError> {
+        Ok(TypeDef {
+            id: self.id.copied(alloc)?,
+            local_name: self.local_name.copied(alloc)?,
+            local_namespace: self.local_namespace.copied(alloc)?,
+            display_name: self.display_name.copied(alloc)?,
+            query_name: self.query_name.copied(alloc)?,
+            description: self.description.copied(alloc)?,
+            base: self.base,
+            parent: Copies::copied(&self.parent, alloc)?,
+            creatable: self.creatable,
+            fileable: self.fileable,
+            queryable: self.queryable,
+            fulltext_indexed: self.fulltext_indexed,
+            included_in_supertype_query: self.included_in_supertype_query,
+            controllable_policy: self.controllable_policy,
+            controllable_acl: self.controllable_acl,
+            mutability: self.mutability,
+            versionable: self.versionable,
+            content_allowed: self.content_allowed,
+            allowed_source_types: self.allowed_source_types.copied(alloc)?,
+            allowed_target_types: self.allowed_target_types.copied(alloc)?,
+            properties: self.properties.copied(alloc)?,
+        })
+    }
+}
