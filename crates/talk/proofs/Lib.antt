@@ -1,0 +1,4 @@
+pub mod ListFacts
+pub mod WireLaws
+pub mod Longer
+pub mod Alones
