@@ -2,3 +2,5 @@ pub mod ListFacts
 pub mod WireLaws
 pub mod Longer
 pub mod Alones
+pub mod FromSession
+pub mod OneAlone
