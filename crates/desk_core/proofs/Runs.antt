@@ -104,3 +104,12 @@ run-adds m w s (e ∷ es) l =
     let base = happens-base m w e in
     let rest = subst (λ b. Adds b s (happens m w e).journal (run m (happens m w e) es).journal (accepted s es (answers m (happens m w e) es))) base (run-adds m (happens m w e) s es (happens-lawful m w e l)) in
     rest ∙ (ap (λ xs. xs ++ accepted s es (answers m (happens m w e) es)) one ∙ append_assoc (map request_of (own w.base s w.journal)) (accepted_by s e (told m w e)) (accepted s es (answers m (happens m w e) es)))
+
+-- one event more at the end of a run
+pub run-more : {S C Q A X : Type 0} (m : Rules S C Q A X) (w : World S C) (es : List (Event C Q)) (e : Event C Q) → run m w (es ++ e ∷ []) ≡ happens m (run m w es) e
+run-more m w [] e = refl
+run-more m w (x ∷ es) e = run-more m (happens m w x) es e
+
+pub answers-more : {S C Q A X : Type 0} (m : Rules S C Q A X) (w : World S C) (es : List (Event C Q)) (e : Event C Q) → answers m w (es ++ e ∷ []) ≡ answers m w es ++ told m (run m w es) e ∷ []
+answers-more m w [] e = refl
+answers-more m w (x ∷ es) e = ap (λ ds. told m w x ∷ ds) (answers-more m (happens m w x) es e)

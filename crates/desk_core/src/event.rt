@@ -1,6 +1,7 @@
 //! Events and their answers.
 use cm_base::number::Moment;
 use cm_base::text::Text;
+use std::alloc::{AllocError, AllocFailed};
 
 /// A step of one session.
 #[derive(Drop)]
@@ -35,4 +36,24 @@ pub enum CoreStop<X> {
     Refused { cause: X, number: u64 },
     /// There was no memory. Nothing has changed.
     Memory,
+}
+
+impl<X> From<AllocError> for CoreStop<X> {
+    ghost use Rattle.std.specs.Prelude.{◌≡◌};
+    ghost use Rattle.desk_core.specs.declared.event.CoreStop.TheVariants.{Memory};
+    ghost from_gives = { λ e r. r ≡ Memory };
+
+    fn from(_error: AllocError) -> CoreStop<X> {
+        CoreStop::Memory
+    }
+}
+
+impl<X, T: Drop> From<AllocFailed<T>> for CoreStop<X> {
+    ghost use Rattle.std.specs.Prelude.{◌≡◌};
+    ghost use Rattle.desk_core.specs.declared.event.CoreStop.TheVariants.{Memory};
+    ghost from_gives = { λ e r. r ≡ Memory };
+
+    fn from(_error: AllocFailed<T>) -> CoreStop<X> {
+        CoreStop::Memory
+    }
 }

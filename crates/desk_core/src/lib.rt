@@ -4,8 +4,10 @@
 mod event;
 mod hold;
 mod laws;
+mod run;
 mod turns;
 
 pub use event::{CoreStop, Done, Event};
 pub use laws::{accepted_writes_stand_once, run_is_lawful};
+pub use run::{Dones, run_events};
 pub use turns::Core;

@@ -82,6 +82,127 @@ impl<M: Machine> Core<M> {
             None => None,
         }
     }
+
+    // A session begins. It holds what the core began with.
+    fn enter(
+        &mut self,
+        alloc: Global,
+        session: u32,
+    ) -> Result<Done<M::Shown>, CoreStop<M::Cause>>
+        ensures { Stepped (record { next = M.next; answer = M.answer; number = M.number }) self.old (Enter session) result self.new }
+    {
+        match self.serial_of(session) {
+            Some(_) => return Err(CoreStop::Known),
+            None => {}
+        }
+        let number = self.begin.number();
+        let held = with_held(alloc, &self.held, session, &self.begin, 0)?;
+        self.held = held;
+        Ok(Done::Entered(number))
+    }
+
+    // A session looks at the whole.
+    fn look(&mut self, alloc: Global, session: u32) -> Result<Done<M::Shown>, CoreStop<M::Cause>>
+        ensures { Stepped (record { next = M.next; answer = M.answer; number = M.number }) self.old (Look session) result self.new }
+    {
+        let serial = match self.serial_of(session) {
+            Some(serial) => serial,
+            None => return Err(CoreStop::Unknown),
+        };
+        let number = self.version.number();
+        let held = with_held(alloc, &self.held, session, &self.version, serial)?;
+        self.held = held;
+        Ok(Done::Looked(number))
+    }
+
+    // A session writes. Accepted or refused, it then holds the whole.
+    fn write(
+        &mut self,
+        alloc: Global,
+        session: u32,
+        user: Text,
+        moment: Moment,
+        call: M::Call,
+    ) -> Result<Done<M::Shown>, CoreStop<M::Cause>>
+        ensures { Stepped (record { next = M.next; answer = M.answer; number = M.number }) self.old (Write session user moment call) result self.new }
+    {
+        let serial = match self.serial_of(session) {
+            Some(serial) => serial,
+            None => return Err(CoreStop::Unknown),
+        };
+        let entry = Entry {
+            caller: session,
+            serial,
+            user,
+            moment,
+            call,
+        };
+        match self.version.next(alloc, entry) {
+            Ok((version, shown)) => {
+                let _len = version.len();
+                let number = version.number();
+                let version = Arc::new(alloc, version)?;
+                let held = with_held(alloc, &self.held, session, &version, serial + 1)?;
+                self.version = version;
+                self.held = held;
+                Ok(Done::Wrote(shown, number))
+            }
+            Err(Halt::Refused(cause)) => {
+                let number = self.version.number();
+                let held = with_held(alloc, &self.held, session, &self.version, serial)?;
+                self.held = held;
+                Err(CoreStop::Refused { cause, number })
+            }
+            Err(Halt::Memory) => Err(CoreStop::Memory),
+        }
+    }
+
+    // A session asks at what it holds.
+    fn ask(
+        &self,
+        alloc: Global,
+        session: u32,
+        user: &Text,
+        question: &M::Question,
+    ) -> Result<Done<M::Shown>, CoreStop<M::Cause>>
+        ensures { Stepped (record { next = M.next; answer = M.answer; number = M.number }) self.now (Ask session user.now question.now) result self.now }
+    {
+        let version = match self.version_of(session) {
+            Some(version) => version,
+            None => return Err(CoreStop::Unknown),
+        };
+        let number = version.number();
+        match M::answer(alloc, version.state(), user, question) {
+            Ok(shown) => Ok(Done::Said(shown, number)),
+            Err(Halt::Refused(cause)) => Err(CoreStop::Refused { cause, number }),
+            Err(Halt::Memory) => Err(CoreStop::Memory),
+        }
+    }
+
+    /// Makes one step of one session.
+    pub fn step(
+        &mut self,
+        alloc: Global,
+        event: Event<M::Call, M::Question>,
+    ) -> Result<Done<M::Shown>, CoreStop<M::Cause>>
+        ensures { Stepped (record { next = M.next; answer = M.answer; number = M.number }) self.old event result self.new }
+    {
+        match event {
+            Event::Enter { session } => self.enter(alloc, session),
+            Event::Write {
+                session,
+                user,
+                moment,
+                call,
+            } => self.write(alloc, session, user, moment, call),
+            Event::Look { session } => self.look(alloc, session),
+            Event::Ask {
+                session,
+                user,
+                question,
+            } => self.ask(alloc, session, &user, &question),
+        }
+    }
 }
 
 // What is held, with a version held by a session that has so many entries in it.
