@@ -21,6 +21,8 @@ pub mod object;
 pub mod pieces;
 pub mod series;
 pub mod shown;
+#[cfg(test)]
+mod tests;
 pub mod text;
 pub mod user;
 pub mod users;

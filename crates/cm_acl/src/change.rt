@@ -1,0 +1,2 @@
+//! How an access control list changes.
+ghost use Rattle.std.specs.Prelude.{◌≡◌};
