@@ -1,4 +1,4 @@
--- What is known once a refusal is none.
+-- What is addressed is there, under its number.
 use Rattle.std.specs.Prelude.{◌≡◌, ℕ, Bool, true, false, ◌&&◌, if◌then◌else◌, List, [], ◌∷◌, find, All, Option, Some, None, Ok, Err, option_and_then, bytes_eq}
 use Rattle.std.proofs.Common.{refl, sym, ap, subst, ◌∙◌}
 use Rattle.std.proofs.lemmas.Bool.{both_ways}
@@ -15,50 +15,7 @@ use Rattle.cmis_spec.specs.Access.{reads, read_at, read_named, object_named, oid
 use Rattle.cmis_spec.specs.Well.{Apart, HasNumbers}
 use Rattle.cmis_laws.proofs.Lists.{found_holds, found_passes, none_some, same_eq}
 use Rattle.cmis_laws.proofs.Entries.{all_there}
-
--- ---- lines of a refusal
-
-pub err_ok : {A : Type 0} (c : Cause) (x : A) → Err c ≡ Ok x → ⊥
-err_ok c x h = both_ways false refl (ap (λ j. elim j [ Ok y ↦ true | Err d ↦ false ]) h)
-
-pub some_none : {A : Type 0} (x : A) → Some x ≡ None → ⊥
-some_none x h = none_some x (sym h)
-
-pub refused_not : (c : Cause) (b : Bool) → refuse c b ≡ Ok tt → b ≡ false
-refused_not c true h = absurd (err_ok {A = Unit {0}} c tt h)
-refused_not c false h = refl
-
-pub then_ok : (j rest : Judged (Unit {0})) → j >> rest ≡ Ok tt → (j ≡ Ok tt) × (rest ≡ Ok tt)
-then_ok (Ok tt') rest h = (refl, h)
-then_ok (Err c) rest h = absurd (err_ok {A = Unit {0}} c tt h)
-
-pub refuse_ok : (c : Cause) (b : Bool) (rest : Judged (Unit {0})) → refuse c b >> rest ≡ Ok tt → (b ≡ false) × (rest ≡ Ok tt)
-refuse_ok c true rest h = absurd (err_ok {A = Unit {0}} c tt h)
-refuse_ok c false rest h = (refl, h)
-
-pub find_ok : {A : Type 0} (c : Cause) (o : Option A) (f : A → Judged (Unit {0})) → find_or c o >>= f ≡ Ok tt → (x : A) × (o ≡ Some x) × (f x ≡ Ok tt)
-find_ok c None f h = absurd (err_ok {A = Unit {0}} c tt h)
-find_ok c (Some x) f h = (x, refl, h)
-
-judged_none : (o : Option Cause) → judge_by o ≡ Ok tt → o ≡ None
-judged_none None e = refl
-judged_none (Some c) e = absurd (err_ok {A = Unit {0}} c tt e)
-
-pub first_none : {A : Type 0} (f : A → Option Cause) (xs : List A) → first_cause f xs ≡ Ok tt → All (λ x. f x ≡ None) xs
-first_none f [] h = All-nil (λ x. f x ≡ None)
-first_none f (x ∷ xs) h =
-    let s : (judge_by (f x) ≡ Ok tt) × (first_cause f xs ≡ Ok tt) = then_ok (judge_by (f x)) (first_cause f xs) h in
-    All-cons (λ x. f x ≡ None) x xs (judged_none (f x) s.0) (first_none f xs s.1)
-
--- ---- what is addressed is there, under its number
-
-pub and_then_some : {A B : Type 0} (f : A → Option B) (o : Option A) (y : B) → option_and_then f o ≡ Some y → (x : A) × (o ≡ Some x) × (f x ≡ Some y)
-and_then_some f None y h = absurd (none_some y h)
-and_then_some f (Some x) y h = (x, refl, h)
-
-pub if_some : {A : Type 0} (b : Bool) (x y : A) → if b then Some x else None ≡ Some y → (b ≡ true) × (x ≡ y)
-if_some true x y h = (refl, ap (λ o. elim o [ None ↦ x | Some z ↦ z ]) h)
-if_some false x y h = absurd (none_some y h)
+use Rattle.cmis_laws.proofs.Passed.{and_then_some, if_some}
 
 -- an object that a search finds is the one of its number
 pub found_there : (r : Repository) (p : Object → Bool) (x : Object) → HasNumbers r → find p r.objects ≡ Some x → object_at r x.id ≡ Some x
