@@ -1,5 +1,5 @@
 -- What is wrong with a given property, and the values that are kept (CMIS 1.1, sections 2.1.2.1 and 2.1.3.3).
-use Rattle.std.specs.Prelude.{ℕ, ◌-◌, ◌^◌, ◌==◌, nat_lt, ℤ, pos, negsuc, int_lt, int_le, Bool, true, false, ◌&&◌, ◌||◌, not, if◌then◌else◌, List, [], ◌∷◌, length, drop, map, filter_map, find, Option, Some, None, unwrap_or, option_map, bytes_eq, codes, count_by}
+use Rattle.std.specs.Prelude.{ℕ, ◌^◌, ◌==◌, nat_lt, ℤ, pos, negsuc, int_lt, Bool, true, false, ◌&&◌, ◌||◌, not, if◌then◌else◌, List, [], ◌∷◌, length, drop, map, filter_map, find, Option, Some, None, unwrap_or, option_map, bytes_eq, codes, count_by}
 use Rattle.std.specs.List.{list_any, list_all}
 use Rattle.std.specs.Char.{is_ascii_digit}
 use Rattle.std.specs.Str.Parse.{signed_digits_value, starts_with_minus}
@@ -75,9 +75,10 @@ is_plain_whole text =
     if starts_with_minus text then is_plain_number (drop 1 text) && not (bytes_eq (drop 1 text) (codes "0"))
     else is_plain_number text
 
--- a number of 64 bits with a sign
+-- a number of 64 bits with a sign; negsuc n is the negative of n + 1
 abbrev pub is_in_64_bits : ℤ → Bool
-is_in_64_bits n = int_le (negsuc (2 ^ 63 - 1)) n && int_lt n (pos (2 ^ 63))
+is_in_64_bits (pos n) = nat_lt n (2 ^ 63)
+is_in_64_bits (negsuc n) = nat_lt n (2 ^ 63)
 
 abbrev pub whole_of_text : List ℕ → Option ℤ
 whole_of_text text =
