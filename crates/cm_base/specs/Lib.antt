@@ -1,5 +1,10 @@
 pub mod Arguments
 pub mod Causes
+pub mod Decimals
 pub mod Exceptions
 pub mod Judged
+pub mod Names
+pub mod OrderLaws
+pub mod Orders
+pub mod UserLists
 pub mod Whole

@@ -42,6 +42,14 @@ scalars_of Unset = []
 scalars_of (One s) = s ∷ []
 scalars_of (Many ss) = ss
 
+abbrev pub text_of_scalar : Scalar → Option (List ℕ)
+text_of_scalar (Words t) = Some t
+text_of_scalar _ = None
+
+-- the texts of a value
+abbrev pub texts_of : Value → List (List ℕ)
+texts_of v = filter_map text_of_scalar (scalars_of v)
+
 abbrev pub same_flag : Bool → Bool → Bool
 same_flag true b = b
 same_flag false b = not b

@@ -1,0 +1,2 @@
+//! Access control lists: levels and changes.
+#![tactic(auto)]

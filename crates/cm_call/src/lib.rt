@@ -1,0 +1,10 @@
+//! The calls of the repository, as values: writes, questions, and what they are answered.
+#![tactic(auto)]
+
+ghost use Rattle.std.specs.Prelude.{◌≡◌};
+
+pub mod place;
+pub mod question;
+pub mod reply;
+pub mod weight;
+pub mod write;

@@ -1,0 +1,20 @@
+-- Rows of blocks.
+use Rattle.std.specs.Prelude.{ℕ, ◌+◌, ◌<◌, ◌≤◌, List, [], ◌∷◌, Option, None, Some}
+use Rattle.core.specs.declared.cmp.Ordering.{Ordering}
+use Rattle.core.specs.FinMap.Entries.{put}
+use Rattle.map_keys.specs.Parts.{HeadIs, without_key}
+
+-- no block of these sizes is empty or above 128, and two neighbours have more than 64 together
+abbrev pub Spaced : List ℕ → Type 0
+Spaced [] = Unit {0}
+Spaced (x ∷ xs) = (1 ≤ x) × (x ≤ 128) × HeadIs (λ y. 64 < x + y) xs × Spaced xs
+
+-- what f gives for the first
+abbrev pub first_block : {B K : Type 0} → (B → Option K) → List B → Option K
+first_block f [] = None
+first_block f (b ∷ bs) = f b
+
+-- the entries with a new one in place of the key's, or with none
+abbrev pub change : {K X : Type 0} → (K → K → Ordering) → K → Option (K × X) → List (K × X) → List (K × X)
+change R k None es = without_key R k es
+change R k (Some e) es = put R k e.1 es

@@ -1,0 +1,72 @@
+//! A map's entries one after another.
+ghost use Rattle.std.specs.Prelude.{◌≡◌, ℕ, ◌+◌, ◌<◌, ◌⊎◌, ◌++◌, [], map, length};
+ghost use Rattle.std.specs.Iterator.{YieldsFirstRef, item_count};
+ghost use Rattle.cm_map.specs.Rests.{rest};
+
+use crate::blocks::{Leaf, Middle};
+use map_keys::key::Key;
+use std::sync::Arc;
+
+/// An iterator over a map's entries in the order of their keys.
+///
+/// It takes no memory, and keeps what is left of one leaf, of one middle block and of the map.
+#[derive(Drop)]
+pub struct Iter<'a, K: Key, V: Drop> {
+    /// What is left of the leaf at hand.
+    pub entries: &'a [Arc<(K, V)>],
+    /// The leaves after it in its middle block.
+    pub leaves: &'a [Arc<Leaf<K, V>>],
+    /// The middle blocks after that one.
+    pub blocks: &'a [Arc<Middle<K, V>>],
+}
+
+// The same entries, with the next one in the leaf at hand.
+fn filled<'a, K: Key, V: Drop>(it: Iter<'a, K, V>) -> Iter<'a, K, V>
+    ensures same { rest result ≡ rest it.entry }
+    ensures ready { 0 < length result.entries.now ⊎ rest result ≡ [] }
+{
+    let mut entries = it.entries;
+    let mut leaves = it.leaves;
+    let mut blocks = it.blocks;
+    while entries.is_empty() {
+        if let Some((leaf, others)) = leaves.split_first() {
+            let leaf: &'a Leaf<K, V> = leaf;
+            entries = &leaf.entries;
+            leaves = others;
+        } else if let Some((block, others)) = blocks.split_first() {
+            let block: &'a Middle<K, V> = block;
+            leaves = &block.leaves;
+            blocks = others;
+        } else {
+            break;
+        }
+    }
+    Iter {
+        entries,
+        leaves,
+        blocks,
+    }
+}
+
+impl<'a, K: Key, V: Drop> Iterator for Iter<'a, K, V> {
+    type Item = &'a (K, V);
+
+    ghost next_gives = { YieldsFirstRef rest };
+
+    ghost remaining = { item_count rest };
+
+    fn next(&mut self) -> Option<&'a (K, V)> {
+        let it = filled(Iter {
+            entries: self.entries,
+            leaves: self.leaves,
+            blocks: self.blocks,
+        });
+        self.entries = it.entries;
+        self.leaves = it.leaves;
+        self.blocks = it.blocks;
+        let (first, others) = it.entries.split_first()?;
+        self.entries = others;
+        let entry: &'a (K, V) = first;
+        Some(entry)
+    }
+}

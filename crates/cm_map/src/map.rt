@@ -1,0 +1,287 @@
+//! Finite maps that keep their older states.
+ghost use Rattle.std.specs.Prelude.{◌≡◌, ◌↔◌, ℕ, ◌+◌, ◌*◌, ◌/◌, ◌≤◌, List, [], None, Some, map, length, T, IsTrue, IfOk, IfSome, option_map, option_copied};
+ghost use Rattle.std.specs.Arc.{arc_value};
+ghost use Rattle.core.specs.List.{AllByRecursion, flat_map};
+ghost use Rattle.core.specs.FinMap.Entries.{put, find, is_sorted, where_key};
+ghost use Rattle.map_keys.specs.Parts.{without_key, pointee, within};
+ghost use Rattle.cm_map.specs.Rows.{Spaced, change};
+ghost use Rattle.cm_map.specs.Blocks.{middle_entries, middle_count, IsMiddle};
+ghost use Rattle.cm_map.specs.Maps.{IsMap, IsWidth};
+ghost use Rattle.cm_map.specs.Rests.{rest};
+
+use crate::blocks::Middle;
+use crate::iter::Iter;
+use crate::levels::{leaf_pieces, middle_pieces, shared};
+use crate::row::{row_changed, row_found, row_ranged};
+use map_keys::key::Key;
+use std::alloc::{AllocError, Global};
+use std::marker::Model;
+use std::sync::Arc;
+
+/// A finite map, seen as the list of its entries in the order of their keys.
+///
+/// Each change takes `&self` and makes a new map that shares all other blocks with the old one, so both stand.
+/// `put`, `find` and `where_key` of the contracts are std's words for a list of entries in order.
+#[derive(Drop)]
+pub struct Map<K: Key, V: Drop> {
+    blocks: Vec<Arc<Middle<K, V>>>,
+    len: u64,
+}
+
+impl<K: Key, V: Drop> Model for Map<K, V> {
+    ghost Value = { List (K × V) };
+
+    ghost view = { λ m. flat_map middle_entries (map arc_value m.blocks.items) };
+
+    ghost invariant = { λ m. IsMap K.cmp m.len (map arc_value m.blocks.items) };
+}
+
+// The middle blocks with a new entry in place of the key's, or with none.
+fn blocks_changed<K: Key, V: Drop>(
+    alloc: Global,
+    xs: &[Arc<Middle<K, V>>],
+    key: &K,
+    new: Option<Arc<(K, V)>>,
+) -> Result<Vec<Arc<Middle<K, V>>>, AllocError>
+    requires whole { AllByRecursion IsMiddle (map arc_value xs.now) }
+    requires spaced { Spaced (map middle_count (map arc_value xs.now)) }
+    requires sorted { T (is_sorted K.cmp (flat_map middle_entries (map arc_value xs.now))) }
+    requires at_key { IfSome new (λ e. (arc_value e).0 ≡ key.now) }
+    ensures entries { IfOk result (λ v. flat_map middle_entries (map arc_value v.items) ≡ change K.cmp key.now (option_map arc_value new) (flat_map middle_entries (map arc_value xs.now))) }
+    ensures whole { IfOk result (λ v. AllByRecursion IsMiddle (map arc_value v.items)) }
+    ensures spaced { IfOk result (λ v. Spaced (map middle_count (map arc_value v.items))) }
+{
+    if xs.is_empty() {
+        let mut entries = Vec::new(alloc);
+        match new {
+            Some(entry) => {
+                entries.push(entry)?;
+                let leaves = leaf_pieces(alloc, entries)?;
+                let blocks = middle_pieces(alloc, leaves)?;
+                return Ok(blocks);
+            }
+            None => {
+                return Ok(Vec::new(alloc));
+            }
+        }
+    }
+    let blocks = row_changed::<K, V, Middle<K, V>>(alloc, xs, key, new)?;
+    Ok(blocks)
+}
+
+impl<K: Key, V: Drop> Map<K, V> {
+    /// The map without entries. It takes no memory.
+    pub fn empty(alloc: Global) -> Self
+        ensures { result ≡ [] }
+    {
+        Map {
+            blocks: Vec::new(alloc),
+            len: 0,
+        }
+    }
+
+    /// The number of entries.
+    pub fn len(&self) -> u64
+        ensures len { result ≡ length self.now }
+        ensures sorted { T (is_sorted K.cmp self.now) }
+    {
+        self.len
+    }
+
+    /// Whether there is no entry.
+    pub fn is_empty(&self) -> bool
+        ensures { IsTrue result ↔ (length self.now ≡ 0) }
+    {
+        self.len == 0
+    }
+
+    /// The number of middle blocks. A map of this width has at least 2048 entries for each two of them.
+    pub fn width(&self) -> u64
+        ensures blocks { IsWidth result self.now }
+        ensures long { 2048 * (result / 2) ≤ length self.now }
+    {
+        self.blocks.len() as u64
+    }
+
+    /// The middle blocks: each has 1 to 128 leaves of 1 to 128 entries, and two neighbours have together more than 64 members.
+    pub fn blocks(&self) -> &[Arc<Middle<K, V>>]
+        ensures entries { flat_map middle_entries (map arc_value result.now) ≡ self.now }
+        ensures bounded { AllByRecursion IsMiddle (map arc_value result.now) }
+        ensures spaced { Spaced (map middle_count (map arc_value result.now)) }
+    {
+        &self.blocks
+    }
+
+    /// The value at the key, or none. It takes no memory, and compares about as many keys as the length has binary digits.
+    pub fn get(&self, key: &K) -> Option<&V>
+        ensures { option_copied result ≡ find K.cmp key.now self.now }
+    {
+        row_found::<K, V, Middle<K, V>>(&self.blocks, key)
+    }
+
+    // The map with a new entry in place of the key's, or with none.
+    fn edited(
+        &self,
+        alloc: Global,
+        key: &K,
+        new: Option<Arc<(K, V)>>,
+        len: u64,
+    ) -> Result<Self, AllocError>
+        requires at_key { IfSome new (λ e. (arc_value e).0 ≡ key.now) }
+        requires len { len ≡ length (change K.cmp key.now (option_map arc_value new) self.now) }
+        ensures { IfOk result (λ m. m ≡ change K.cmp key.now (option_map arc_value new) self.now) }
+    {
+        let blocks = blocks_changed(alloc, &self.blocks, key, new)?;
+        Ok(Map { blocks, len })
+    }
+
+    /// The map with the value at the key, in place of an older one.
+    ///
+    /// A new key where there are 2^64 - 1 entries is refused as want of memory.
+    pub fn with(&self, alloc: Global, key: K, value: V) -> Result<Self, AllocError>
+        ensures { IfOk result (λ m. m ≡ put K.cmp key value self.now) }
+    {
+        let found = self.get(&key).is_some();
+        let old = self.len();
+        if !found && old == u64::MAX {
+            return Err(AllocError);
+        }
+        let len = if found { old } else { old + 1 };
+        let entry = Arc::new(alloc, (key, value))?;
+        let again = Arc::try_clone(&entry)?;
+        let at: &Arc<(K, V)> = &again;
+        let map = self.edited(alloc, &at.0, Some(entry), len)?;
+        Ok(map)
+    }
+
+    /// The map without the key. Where it has none, all stays.
+    pub fn without(&self, alloc: Global, key: &K) -> Result<Self, AllocError>
+        ensures { IfOk result (λ m. m ≡ without_key K.cmp key.now self.now) }
+    {
+        let old = self.len();
+        let len = if self.get(key).is_some() {
+            old - 1
+        } else {
+            old
+        };
+        let map = self.edited(alloc, key, None, len)?;
+        Ok(map)
+    }
+
+    /// The same map once more. The middle blocks are shared, and no entry is copied.
+    pub fn share(&self, alloc: Global) -> Result<Self, AllocError>
+        ensures { IfOk result (λ m. m ≡ self.now) }
+    {
+        let blocks = shared(alloc, &self.blocks)?;
+        Ok(Map {
+            blocks,
+            len: self.len,
+        })
+    }
+
+    /// The entries whose keys lie from `least` to `most`, both counted, in order.
+    ///
+    /// It looks at the entries of the range, and at a bounded number of others.
+    pub fn range(&self, alloc: Global, least: &K, most: &K) -> Result<Vec<&(K, V)>, AllocError>
+        ensures { IfOk result (λ r. map pointee r.items ≡ where_key K.cmp (within K.cmp least.now most.now) self.now) }
+    {
+        let mut out = Vec::new(alloc);
+        row_ranged::<K, V, Middle<K, V>>(&mut out, &self.blocks, least, most)?;
+        Ok(out)
+    }
+
+    /// An iterator over the entries in order, which takes no memory.
+    pub fn iter(&self) -> Iter<'_, K, V>
+        ensures all { rest result ≡ self.now }
+        ensures sorted { T (is_sorted K.cmp self.now) }
+    {
+        Iter {
+            entries: &[],
+            leaves: &[],
+            blocks: &self.blocks,
+        }
+    }
+}
+
+#[cfg(test)]
+mod tests {
+    use super::*;
+    use std::test::Fail;
+
+    fn next_number(x: u64) -> u64 {
+        x.wrapping_mul(6364136223846793005)
+            .wrapping_add(1442695040888963407)
+    }
+
+    fn plain_put(list: &mut Vec<(u64, u64)>, key: u64, value: u64) -> Result<(), AllocError> {
+        for entry in list.iter_mut() {
+            if entry.0 == key {
+                entry.1 = value;
+                return Ok(());
+            }
+        }
+        list.push((key, value))?;
+        Ok(())
+    }
+
+    fn agree(map: &Map<u64, u64>, list: &[(u64, u64)]) -> bool {
+        list.iter().all(|e| map.get(&e.0) == Some(&e.1)) && map.len() == list.len() as u64
+    }
+
+    fn rises(map: &Map<u64, u64>) -> bool {
+        let mut next = 0;
+        for e in map.iter() {
+            if e.0 < next || e.0 == u64::MAX {
+                return false;
+            }
+            next = e.0 + 1;
+        }
+        true
+    }
+
+    #[test]
+    fn agrees_with_a_plain_list(rt: HostRuntime) -> Result<(), Fail> {
+        let alloc = rt.alloc();
+        let mut list: Vec<(u64, u64)> = Vec::new(alloc);
+        let mut map: Map<u64, u64> = Map::empty(alloc);
+        let mut x = 1;
+        for _ in 0..1000 {
+            x = next_number(x);
+            let key = (x >> 33) % 700;
+            if (x >> 20) % 3 == 0 {
+                list.retain(|e| e.0 != key);
+                map = map.without(alloc, &key)?;
+            } else {
+                plain_put(&mut list, key, x)?;
+                map = map.with(alloc, key, x)?;
+            }
+            assert!(rt; agree(&map, &list) && rises(&map));
+        }
+        let within = list.iter().filter(|e| 100 <= e.0 && e.0 <= 300).count();
+        assert_eq!(rt; map.range(alloc, &100, &300)?.len(), within);
+        assert!(rt; !map.is_empty());
+        Ok(())
+    }
+
+    #[test]
+    fn older_maps_stand(rt: HostRuntime) -> Result<(), Fail> {
+        let alloc = rt.alloc();
+        let mut map: Map<u64, u64> = Map::empty(alloc);
+        for key in 0..20_000u64 {
+            map = map.with(alloc, key, key)?;
+        }
+        let whole = map.share(alloc)?;
+        for key in 100..19_900u64 {
+            map = map.without(alloc, &key)?;
+        }
+        assert_eq!(rt; map.len(), 200);
+        assert_eq!(rt; map.width(), 1);
+        assert_eq!(rt; map.blocks().len(), 1);
+        assert_eq!(rt; whole.len(), 20_000);
+        assert!(rt; whole.width() > 1);
+        assert!(rt; rises(&map) && rises(&whole));
+        assert_eq!(rt; whole.get(&10_000), Some(&10_000));
+        assert_eq!(rt; map.get(&10_000), None);
+        Ok(())
+    }
+}

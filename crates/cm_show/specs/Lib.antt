@@ -1,0 +1,3 @@
+pub mod Addressed
+pub mod Shown
+pub mod System

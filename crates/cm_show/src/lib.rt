@@ -1,0 +1,6 @@
+//! What a reply shows of an object: its properties as the caller sees them.
+#![tactic(auto)]
+
+ghost use Rattle.std.specs.Prelude.{◌≡◌};
+
+pub mod system;

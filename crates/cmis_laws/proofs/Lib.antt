@@ -1,0 +1,9 @@
+pub mod Added
+pub mod Entries
+pub mod Lists
+pub mod Made
+pub mod Objects
+pub mod Paired
+pub mod Placed
+pub mod Steps
+pub mod Tree

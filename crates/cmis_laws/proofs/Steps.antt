@@ -1,0 +1,88 @@
+-- A step taken and an event noted keep what is well formed.
+use Rattle.std.specs.Prelude.{ℕ, ◌+◌, ◌≤◌, Bool, List, All, Option, Some, None, IfSome}
+use Rattle.std.proofs.Common.{arith}
+use Rattle.std.proofs.lemmas.List.Elements.{All-weaker}
+use Rattle.cm_base.specs.declared.number.Oid.{Oid}
+use Rattle.cm_base.specs.declared.number.Moment.{Moment}
+use Rattle.cm_base.specs.declared.log.ChangeKind.{ChangeKind}
+use Rattle.cm_base.specs.declared.series.Label.{Label}
+use Rattle.cm_types.specs.declared.definition.BaseType.TheVariants as bases
+use Rattle.cmis_spec.specs.Repository.{Repository, most_steps, most_cost}
+use Rattle.cmis_spec.specs.Changes.{stepped, noted}
+use Rattle.cmis_spec.specs.Well.{IsBaseAt, HasContents, HasTokens, HasLabels, IsLabel, IsWellFormed}
+
+-- there is room for one step more, at this cost
+pub record HasRoom (r : Repository) (cost : ℕ) : Type 0 where
+  pub steps : r.step + 1 ≤ most_steps
+  pub bytes : r.cost + cost ≤ most_cost
+
+label_stepped : (step : ℕ) (o : Option Label) → IfSome o (IsLabel step) → IfSome o (IsLabel (step + 1))
+label_stepped step None h = h
+label_stepped step (Some l) h = (omega (arith, h.0), omega (arith, h.1))
+
+labels_stepped : (r : Repository) (cost : ℕ) → HasLabels r → HasLabels (stepped r cost)
+labels_stepped r cost h = All-weaker (λ s. All (λ v. IfSome v.label (IsLabel r.step)) s.versions) (λ s. All (λ v. IfSome v.label (IsLabel (r.step + 1))) s.versions)
+    (λ s l. All-weaker (λ v. IfSome v.label (IsLabel r.step)) (λ v. IfSome v.label (IsLabel (r.step + 1))) (λ v k. label_stepped r.step v.label k) s.versions l) r.series h
+
+tokens_stepped : (r : Repository) (cost : ℕ) → HasTokens r → HasTokens (stepped r cost)
+tokens_stepped r cost h = All-weaker (λ y. y.token ≤ r.step) (λ y. y.token ≤ r.step + 1) (λ y m. omega (arith, m)) r.objects h
+
+contents_stepped : (r : Repository) (cost : ℕ) → HasContents r → HasContents (stepped r cost)
+contents_stepped r cost h = (h.0, All-weaker (λ c. IsBaseAt r bases.Document c.of × (c.step ≤ r.step)) (λ c. IsBaseAt r bases.Document c.of × (c.step ≤ r.step + 1)) (λ c k. (k.0, omega (arith, k.1))) r.contents h.1)
+
+pub step_keeps : (r : Repository) (cost : ℕ) → IsWellFormed r → HasRoom r cost → IsWellFormed (stepped r cost)
+step_keeps r cost w room = record {
+  numbers = w.numbers;
+  series_numbers = w.series_numbers;
+  firsts = w.firsts;
+  renditions = w.renditions;
+  root = w.root;
+  ways = w.ways;
+  one_parent = w.one_parent;
+  pairs = w.pairs;
+  names = w.names;
+  documents = w.documents;
+  series = w.series;
+  plain = w.plain;
+  own_names = w.own_names;
+  relationships = w.relationships;
+  policies = w.policies;
+  access = w.access;
+  contents = contents_stepped r cost w.contents;
+  typed = w.typed;
+  types = w.types;
+  defs = w.defs;
+  kept = w.kept;
+  bounds = (room.steps, room.bytes, omega (arith, w.bounds.2));
+  tokens = tokens_stepped r cost w.tokens;
+  labels = labels_stepped r cost w.labels;
+}
+
+-- no fact reads the log
+pub note_keeps : (r : Repository) (kind : ChangeKind) (n : Oid) (m : Moment) (readers : List Bool) → IsWellFormed r → IsWellFormed (noted r kind n m readers)
+note_keeps r kind n m readers w = record {
+  numbers = w.numbers;
+  series_numbers = w.series_numbers;
+  firsts = w.firsts;
+  renditions = w.renditions;
+  root = w.root;
+  ways = w.ways;
+  one_parent = w.one_parent;
+  pairs = w.pairs;
+  names = w.names;
+  documents = w.documents;
+  series = w.series;
+  plain = w.plain;
+  own_names = w.own_names;
+  relationships = w.relationships;
+  policies = w.policies;
+  access = w.access;
+  contents = w.contents;
+  typed = w.typed;
+  types = w.types;
+  defs = w.defs;
+  kept = w.kept;
+  bounds = w.bounds;
+  tokens = w.tokens;
+  labels = w.labels;
+}

@@ -1,0 +1,41 @@
+-- The values of an object's properties: those that are kept, and those that follow from the repository (CMIS 1.1, section 2.1.4).
+use Rattle.std.specs.Prelude.{ℕ, ◌+◌, ◌==◌, Bool, true, false, ◌&&◌, ◌||◌, not, if◌then◌else◌, List, [], ◌∷◌, ◌++◌, map, filter, find, length, decimal, Option, Some, None, is_some, is_none, unwrap_or, option_map, option_and_then, bytes_eq, codes}
+use Rattle.std.specs.List.{list_any}
+use Rattle.cm_base.specs.declared.number.Oid.{Oid}
+use Rattle.cm_base.specs.declared.number.Moment.{Moment}
+use Rattle.cm_base.specs.declared.object.Object.{Object}
+use Rattle.cm_base.specs.declared.value.Value.{Value}
+use Rattle.cm_base.specs.declared.value.Value.TheVariants.{Unset, One, Many}
+use Rattle.cm_base.specs.declared.value.Scalar.{Scalar}
+use Rattle.cm_base.specs.declared.value.Scalar.TheVariants.{Flag, Whole, Time, Words}
+use Rattle.cm_base.specs.declared.value.Slot.{Slot}
+use Rattle.cm_base.specs.declared.series.Series.{Series}
+use Rattle.cm_base.specs.declared.series.DocumentVersion.{DocumentVersion}
+use Rattle.cm_base.specs.declared.series.Label.{Label}
+use Rattle.cm_types.specs.declared.property.PropDef.{PropDef}
+use Rattle.cm_types.specs.Properties.{value_in, is_set}
+use Rattle.cmis_spec.specs.Repository.{Repository, name_of}
+
+abbrev pub words : List ℕ → Value
+words text = One (Words text)
+
+-- a list of texts; the empty list is unset
+abbrev pub texts : List (List ℕ) → Value
+texts [] = Unset
+texts (t ∷ ts) = Many (map Words (t ∷ ts))
+
+-- these three are kept beside the other values
+abbrev pub is_apart : List ℕ → Bool
+is_apart id = bytes_eq id (codes "cmis:name") || bytes_eq id (codes "cmis:objectTypeId") || bytes_eq id (codes "cmis:secondaryObjectTypeIds")
+
+-- the values that are kept with an object: the set ones but those three
+abbrev pub kept_beside : List Slot → List Slot
+kept_beside slots = filter (λ s. not (is_apart s.id) && is_set s.value) slots
+
+-- the value of a property that a form or a default may give
+abbrev pub form_value : Repository → Object → List ℕ → Value
+form_value r x id =
+    if bytes_eq id (codes "cmis:name") then words (name_of r x)
+    else if bytes_eq id (codes "cmis:objectTypeId") then words x.kind
+    else if bytes_eq id (codes "cmis:secondaryObjectTypeIds") then texts x.secondary
+    else value_in x.values id

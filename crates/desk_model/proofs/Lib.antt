@@ -1,0 +1,4 @@
+pub mod Replays
+pub mod OwnEntries
+pub mod Passes
+pub mod Places

@@ -1,0 +1,5 @@
+pub mod Histories
+pub mod Halts
+pub mod Clocks
+pub mod Desks
+pub mod Single

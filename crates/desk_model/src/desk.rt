@@ -1,0 +1,82 @@
+//! Desks: where writes are made one after the other, and looked at.
+ghost use Rattle.std.specs.Prelude.{◌≡◌, ◌≢◌, ℕ, List, Option, Some, IfSome, MatchResult, Result, drop};
+ghost use Rattle.outside.specs.Clocks.{Words, first_word, rest_words};
+ghost use Rattle.desk_model.specs.declared.entry.Entry.{Entry};
+ghost use Rattle.desk_model.specs.Clocks.{moment_of};
+ghost use Rattle.desk_model.specs.Histories.{CallersBelow};
+ghost use Rattle.desk_model.specs.Desks.{Known, IsSound, Wrote, Looked};
+
+use crate::machine::{Machine, Stop};
+use crate::snapshot::Snapshot;
+use cm_base::number::Moment;
+use cm_base::text::Text;
+use std::alloc::{AllocError, Global};
+
+/// A place at which writes are made at the end of one journal. Who writes or looks holds a pass of it.
+pub trait Desk {
+    type Kind: Machine;
+    /// What a call needs in order to wait for its turn.
+    type Leave;
+
+    type Pass;
+
+    /// The pass is one of this desk.
+    ghost is_of: { Self → Self.Pass → Type 0 };
+
+    /// What a pass knows.
+    ghost known: { Self.Pass → Known Self.Kind.State Self.Kind.Call };
+
+    /// The words of the clock that are still to come, where the desk tells them.
+    ghost words: { Self → Option Words };
+
+    /// The callers of the entries that a pass sees past its base are below this number.
+    ghost callers: { Self → ℕ };
+
+    /// The moment of the clock's next word. No other call takes one.
+    fn moment(&mut self, leave: &mut Self::Leave) -> Moment
+        ensures word { IfSome (words self.old) (λ w. (result ≡ moment_of (first_word w)) × (words self.new ≡ Some (rest_words w))) }
+        ensures callers { callers self.new ≡ callers self.old }
+        ensures passes { (p : Self.Pass) → is_of self.old p → is_of self.new p };
+
+    /// Makes a write at the end of the journal, unless the least number that it asks for is ahead there.
+    fn write(
+        &mut self,
+        alloc: Global,
+        leave: &mut Self::Leave,
+        pass: &mut Self::Pass,
+        least: u64,
+        user: &Text,
+        moment: Moment,
+        call: <Self::Kind as Machine>::Call,
+    ) -> Result<<Self::Kind as Machine>::Shown, Stop<<Self::Kind as Machine>::Cause>>
+        requires { is_of self.old pass.old }
+        ensures wrote { Wrote Self.Kind.next Self.Kind.number (known pass.old) least user.now moment call result (known pass.new) }
+        ensures words { words self.new ≡ words self.old }
+        ensures is_of { is_of self.new pass.new }
+        ensures callers { callers self.new ≡ callers self.old }
+        ensures passes { (p : Self.Pass) → (known p).caller ≢ (known pass.old).caller → is_of self.old p → is_of self.new p };
+
+    /// A version whose journal begins with all that the pass had seen.
+    fn look(
+        &mut self,
+        leave: &mut Self::Leave,
+        pass: &mut Self::Pass,
+    ) -> Result<Snapshot<Self::Kind>, AllocError>
+        requires { is_of self.old pass.old }
+        ensures looked { MatchResult result (λ v. Looked (known pass.old) v (known pass.new)) (λ _. known pass.new ≡ known pass.old) }
+        ensures words { words self.new ≡ words self.old }
+        ensures is_of { is_of self.new pass.new }
+        ensures callers { callers self.new ≡ callers self.old }
+        ensures passes { (p : Self.Pass) → is_of self.old p → is_of self.new p };
+
+    /// The pass's number. It takes no memory.
+    fn caller(&self, pass: &Self::Pass) -> u32
+        requires { is_of self.now pass.now }
+        ensures { result ≡ (known pass.now).caller };
+
+    /// The callers of what a pass of the desk sees past its base.
+    ghost below: { (d : Self) (p : Self.Pass) → is_of d p → CallersBelow (callers d) (drop (known p).base (known p).seen) };
+
+    /// Each pass of a desk is sound.
+    ghost sound: { (d : Self) (p : Self.Pass) → is_of d p → IsSound Self.Kind.next (known p) };
+}

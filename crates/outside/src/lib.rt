@@ -1,0 +1,19 @@
+//! What a session reads from and writes to: sources, sinks, links, clocks and gates, and the same in memory.
+//! Nothing here is real: a source in memory tells its bytes, so that contracts can speak of them.
+#![tactic(auto)]
+
+mod clock;
+mod gate;
+mod mem_link;
+mod mem_sink;
+mod mem_source;
+#[cfg(test)]
+mod tests;
+mod traits;
+
+pub use clock::{Clock, FixedClock, ListClock};
+pub use gate::{Gate, OpenGate};
+pub use mem_link::MemLink;
+pub use mem_sink::MemSink;
+pub use mem_source::MemSource;
+pub use traits::{Failed, Link, Sink, Source};

@@ -1,0 +1,79 @@
+//! Sources, sinks, and links of both.
+ghost use Rattle.std.specs.Prelude.{◌≡◌, ◌<◌, ◌≤◌, ℕ, List, Bool, true, length, IfOk};
+ghost use Rattle.std.specs.declared.option.Option.{Option};
+ghost use Rattle.std.specs.Io.KnownBytes.{IsAtEnd};
+ghost use Rattle.outside.specs.Outside.{HasCause, Reads, Writes, SinkTold, SourceTold};
+
+/// The outside failed, and has counted it.
+#[derive(Clone, Copy, Debug, PartialEq, Eq)]
+pub struct Failed;
+
+/// Where bytes come from.
+pub trait Source {
+    /// What is left and was given since it was made, where the source tells it, whether it has ended, and its count of faults.
+    ghost told: { Self → SourceTold };
+
+    /// What no read changes: at a link, what its sink tells.
+    ghost aside: { Self → SinkTold };
+
+    /// Reads the next bytes into room. 0 is the end, and stays so. A read that fails gives nothing.
+    fn read(&mut self, room: &mut [u8]) -> Result<usize, Failed>
+        requires { 0 < length room.old }
+        ensures bound { IfOk result (λ n. n ≤ length room.new) }
+        ensures bytes { Reads (told self.old) (told self.new) result room.new }
+        ensures aside { aside self.new ≡ aside self.old }
+        ensures cause { HasCause (told self.old).faults (told self.new).faults result };
+
+    /// What has ended has nothing left.
+    ghost end_is_empty: { (source : Self) → (told source).ended ≡ true → IsAtEnd (told source).left };
+}
+
+/// Where bytes go.
+pub trait Sink {
+    /// What it holds, where it tells it, and its count of faults.
+    ghost told: { Self → SinkTold };
+
+    /// What no write changes: at a link, what its source tells.
+    ghost aside: { Self → SourceTold };
+
+    /// Writes the front of the piece, and answers how many bytes of it were taken: at least one. A write that fails takes nothing.
+    fn write(&mut self, piece: &[u8]) -> Result<usize, Failed>
+        requires { 0 < length piece.now }
+        ensures bytes { Writes (told self.old) (told self.new) result piece.now }
+        ensures aside { aside self.new ≡ aside self.old }
+        ensures cause { HasCause (told self.old).faults (told self.new).faults result };
+}
+
+/// Both in one: neither side changes what the other tells.
+pub trait Link: Source + Sink {
+    /// Closes it, and changes nothing that is told.
+    fn finish(&mut self)
+        ensures source { Self.Source.told self.new ≡ Self.Source.told self.old }
+        ensures sink { Self.Sink.told self.new ≡ Self.Sink.told self.old };
+
+    ghost reads_keep: { (link : Self) → Self.Source.aside link ≡ Self.Sink.told link };
+
+    ghost writes_keep: { (link : Self) → Self.Sink.aside link ≡ Self.Source.told link };
+}
+
+impl<S: Source> Source for &mut S {
+    ghost told = { λ s. S.told s.now };
+
+    ghost aside = { λ s. S.aside s.now };
+
+    ghost end_is_empty = { λ s. S.end_is_empty s.now };
+
+    fn read(&mut self, room: &mut [u8]) -> Result<usize, Failed> {
+        Source::read(&mut **self, room)
+    }
+}
+
+impl<K: Sink> Sink for &mut K {
+    ghost told = { λ s. K.told s.now };
+
+    ghost aside = { λ s. K.aside s.now };
+
+    fn write(&mut self, piece: &[u8]) -> Result<usize, Failed> {
+        Sink::write(&mut **self, piece)
+    }
+}

@@ -1,0 +1,2 @@
+//! Readings along the folder tree.
+#![tactic(auto)]

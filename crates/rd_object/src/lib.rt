@@ -1,0 +1,2 @@
+//! Readings of one object.
+#![tactic(auto)]

@@ -1,0 +1,13 @@
+//! The real objects behind the traits of `outside`: standard input, standard output and the system's clock.
+//! They keep their count of faults, and tell nothing of content.
+#![tactic(auto)]
+
+mod clock;
+mod sink;
+mod source;
+#[cfg(test)]
+mod tests;
+
+pub use clock::{LATEST_MS, SystemClock};
+pub use sink::StdSink;
+pub use source::StdSource;

@@ -1,0 +1,44 @@
+//! A sink over a writer of the system.
+ghost use Rattle.std.specs.Prelude.{◌≡◌, None, false};
+
+use outside::{Failed, Sink};
+use std::io::Write;
+
+/// A sink over standard output, or another writer of bytes. A write that takes nothing is a fault.
+#[derive(Drop)]
+pub struct StdSink<W: Write> {
+    writer: W,
+    faults: u64,
+}
+
+impl<W: Write> StdSink<W> {
+    /// A sink over what `rt.stdout()` answers, or over another writer.
+    pub fn new(writer: W) -> StdSink<W>
+        ensures { ⟦<StdSink<W> as Sink>⟧.told result ≡ record { held = None; faults = 0 } }
+    {
+        StdSink { writer, faults: 0 }
+    }
+
+    /// How many writes have failed.
+    pub fn faults(&self) -> u64
+        ensures { result ≡ (⟦<StdSink<W> as Sink>⟧.told self.now).faults }
+    {
+        self.faults
+    }
+}
+
+impl<W: Write> Sink for StdSink<W> {
+    ghost told = { λ s. record { held = None; faults = s.faults } };
+
+    ghost aside = { λ _. record { left = None; given = None; ended = false; faults = 0 } };
+
+    fn write(&mut self, piece: &[u8]) -> Result<usize, Failed> {
+        match self.writer.write(piece) {
+            Ok(count) if count > 0 => Ok(count),
+            _ => {
+                self.faults = self.faults.saturating_add(1);
+                Err(Failed)
+            }
+        }
+    }
+}

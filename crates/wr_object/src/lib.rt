@@ -1,0 +1,2 @@
+//! Writes on objects: creating, changing, filing and deleting.
+#![tactic(auto)]

@@ -1,0 +1,2 @@
+//! What the refusals and effects of writes share.
+#![tactic(auto)]
