@@ -3,5 +3,10 @@
 
 ghost use Rattle.std.specs.Prelude.{◌≡◌};
 
+pub mod check;
+pub mod fault;
+pub mod kept;
 pub mod lookup;
+#[cfg(test)]
+mod tests;
 pub mod text;
