@@ -105,7 +105,7 @@ fn judge_one(alloc: Global, call: PropertyCall, defs: &[PropDef], given: &Given)
 }
 
 #[tactic(auto, using(crate::proofs::Exits::first_more, crate::proofs::Exits::first_fails, crate::proofs::Exits::first_none))]
-pub fn judge_given(
+pub(crate) fn judge_given(
     alloc: Global,
     call: PropertyCall,
     defs: &[PropDef],

@@ -159,7 +159,7 @@ fn judge_one(
 }
 
 #[tactic(auto, using(crate::proofs::Exits::first_more, crate::proofs::Exits::first_fails, crate::proofs::Exits::first_none))]
-pub fn judge_missing(
+pub(crate) fn judge_missing(
     alloc: Global,
     call: PropertyCall,
     defs: &[PropDef],
