@@ -164,20 +164,23 @@ is_many_for Multi ss = false
 abbrev pub has_wrong_value : PropDef → Bool
 has_wrong_value d = not (is_none (value_fault d d.default)) || list_any (is_wrong_choice d) d.choices
 
-abbrev pub is_wrong_request : PropRequest → Bool
-is_wrong_request p = is_many_for (cardinality_of p) (unwrap_or p.default []) || has_wrong_value (made_prop p)
+abbrev pub gives_many : PropRequest → Bool
+gives_many p = is_many_for (cardinality_of p) (unwrap_or p.default [])
 
 -- several values have no order
 abbrev pub is_wrongly_ordered : PropDef → Bool
 is_wrongly_ordered d = d.orderable && not (is_single d.cardinality)
 
 -- new property definitions break a rule
+abbrev pub breaks_def_rule : List TypeDef → List PropDef → Bool
+breaks_def_rule types defs =
+    list_any has_wrong_value defs
+    || list_any is_wrongly_ordered defs
+    || list_any (is_taken_prop types) defs
+    || has_clash defs
+
 abbrev pub breaks_prop_rule : List TypeDef → List PropRequest → Bool
-breaks_prop_rule types ps =
-    list_any is_wrong_request ps
-    || list_any is_wrongly_ordered (made_props ps)
-    || list_any (is_taken_prop types) (made_props ps)
-    || has_clash (made_props ps)
+breaks_prop_rule types ps = list_any gives_many ps || breaks_def_rule types (made_props ps)
 
 -- ---- createType
 
