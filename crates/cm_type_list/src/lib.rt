@@ -3,6 +3,8 @@
 
 ghost use Rattle.std.specs.Prelude.{◌≡◌};
 
+pub mod changes;
 pub mod made;
 pub mod placed;
 pub mod rules;
+pub mod same;

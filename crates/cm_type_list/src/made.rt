@@ -1,5 +1,6 @@
 //! What is made of a request, with the defaults of what is not given.
-ghost use Rattle.std.specs.Prelude.{◌≡◌, ℕ, List, [], Option, IfOk, unwrap_or, map, filter, is_none};
+ghost use Rattle.std.specs.Prelude.{◌≡◌, ℕ, List, [], ◌∷◌, ◌++◌, Option, IfOk, OnOk, unwrap_or, map, filter, is_none};
+ghost use Rattle.std.specs.Option.{option_copied};
 ghost use Rattle.cm_types.specs.Properties.{def_of};
 ghost use Rattle.cm_types.specs.Changes.{text_or, default_of, of_kind, is_single, cardinality_of, made_prop, made_props, made_mutability, made_type, is_document, is_relationship, is_secondary, if_kept, flag_or, new_props};
 
@@ -99,6 +100,41 @@ pub fn scalars_asked(request: &PropRequest) -> &[Scalar]
         Some(scalars) => scalars.as_slice(),
         None => &[],
     }
+}
+
+/// The definition of a property.
+pub fn prop_of<'a>(defs: &'a [PropDef], id: &Text) -> Option<&'a PropDef>
+    ensures { option_copied result ≡ def_of defs.now id.now }
+{
+    defs.iter().find(|d| d.id.is(id))
+}
+
+fn is_new(defs: &[PropDef], request: &PropRequest) -> bool
+    ensures { result ≡ is_none (def_of defs.now request.now.id) }
+{
+    prop_of(defs, &request.id).is_none()
+}
+
+fn add_new(alloc: Global, all: &mut PropDefs, defs: &[PropDef], request: &PropRequest) -> Result<(), AllocError>
+    ensures { OnOk result (all.new ≡ all.old ++ made_props (new_props defs.now (request.now ∷ []))) }
+{
+    if is_new(defs, request) {
+        let made = made_prop(alloc, request)?;
+        all.push(made)
+    } else {
+        Ok(())
+    }
+}
+
+/// The property definitions that requests make where these are none yet.
+pub fn made_new(alloc: Global, defs: &[PropDef], requests: &[PropRequest]) -> Result<PropDefs, AllocError>
+    ensures { IfOk result (λ all. all ≡ made_props (new_props defs.now requests.now)) }
+{
+    let mut all = Items::new(alloc);
+    for request in requests {
+        add_new(alloc, &mut all, defs, request)?;
+    }
+    Ok(all)
 }
 
 /// The property definition that a request makes.
