@@ -1,1 +1,3 @@
+mod Firsting
+mod Keyed
 mod Pointwise

@@ -160,9 +160,16 @@ fn changes_prop_kind(def: &PropDef, request: &PropRequest) -> bool
 fn changes_prop_limits(def: &PropDef, request: &PropRequest) -> bool
     ensures { result ≡ (changes_limit (of_kind kinds.String def.now.kind request.now.max_length) def.now.max_length || changes_limit (of_kind kinds.Integer def.now.kind request.now.min_value) def.now.min_value || changes_limit (of_kind kinds.Integer def.now.kind request.now.max_value) def.now.max_value) }
 {
-    changes_limit(limit_of(PropertyKind::String, def.kind, request.max_length), def.max_length)
-        || changes_limit(limit_of(PropertyKind::Integer, def.kind, request.min_value), def.min_value)
-        || changes_limit(limit_of(PropertyKind::Integer, def.kind, request.max_value), def.max_value)
+    changes_limit(
+        limit_of(PropertyKind::String, def.kind, request.max_length),
+        def.max_length,
+    ) || changes_limit(
+        limit_of(PropertyKind::Integer, def.kind, request.min_value),
+        def.min_value,
+    ) || changes_limit(
+        limit_of(PropertyKind::Integer, def.kind, request.max_value),
+        def.max_value,
+    )
 }
 
 fn changes_prop_values(def: &PropDef, request: &PropRequest) -> bool
@@ -201,7 +208,9 @@ pub fn changes_old_props(defs: &[PropDef], requests: &[PropRequest]) -> bool
 fn changes_mutability(old: TypeMutability, request: MutabilityRequest) -> bool
     ensures { result ≡ changes_mutability old request }
 {
-    changes_flag(request.create, old.create) || changes_flag(request.update, old.update) || changes_flag(request.delete, old.delete)
+    changes_flag(request.create, old.create)
+        || changes_flag(request.update, old.update)
+        || changes_flag(request.delete, old.delete)
 }
 
 fn changes_flags(def: &TypeDef, request: &TypeRequest) -> bool
@@ -211,7 +220,10 @@ fn changes_flags(def: &TypeDef, request: &TypeRequest) -> bool
         || changes_flag(request.fileable, def.fileable)
         || changes_flag(request.queryable, def.queryable)
         || changes_flag(request.fulltext_indexed, def.fulltext_indexed)
-        || changes_flag(request.included_in_supertype_query, def.included_in_supertype_query)
+        || changes_flag(
+            request.included_in_supertype_query,
+            def.included_in_supertype_query,
+        )
         || changes_flag(request.controllable_policy, def.controllable_policy)
         || changes_flag(request.controllable_acl, def.controllable_acl)
 }
@@ -256,9 +268,21 @@ fn changes_own(def: &TypeDef, request: &TypeRequest) -> bool
     ensures { result ≡ changes_own def.now request.now }
 {
     changes_flag_if(is_document(def.base), request.versionable, def.versionable)
-        || changes_content_allowed(is_document(def.base), request.content_allowed, def.content_allowed)
-        || changes_types(is_relationship(def.base), &request.allowed_source_types, &def.allowed_source_types)
-        || changes_types(is_relationship(def.base), &request.allowed_target_types, &def.allowed_target_types)
+        || changes_content_allowed(
+            is_document(def.base),
+            request.content_allowed,
+            def.content_allowed,
+        )
+        || changes_types(
+            is_relationship(def.base),
+            &request.allowed_source_types,
+            &def.allowed_source_types,
+        )
+        || changes_types(
+            is_relationship(def.base),
+            &request.allowed_target_types,
+            &def.allowed_target_types,
+        )
 }
 
 /// Whether a request changes an attribute of the type but the display name and the description.

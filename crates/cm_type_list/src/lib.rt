@@ -8,3 +8,4 @@ pub mod made;
 pub mod placed;
 pub mod rules;
 pub mod same;
+pub mod types;

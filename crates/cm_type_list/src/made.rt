@@ -31,7 +31,11 @@ fn text_or_empty(alloc: Global, given: &Option<Text>) -> Result<Text, AllocError
     }
 }
 
-fn default_of(alloc: Global, cardinality: Cardinality, scalars: &[Scalar]) -> Result<Value, AllocError>
+fn default_of(
+    alloc: Global,
+    cardinality: Cardinality,
+    scalars: &[Scalar],
+) -> Result<Value, AllocError>
     ensures { IfOk result (λ v. v ≡ default_of cardinality scalars.now) }
 {
     match scalars {
@@ -115,7 +119,12 @@ fn is_new(defs: &[PropDef], request: &PropRequest) -> bool
     prop_of(defs, &request.id).is_none()
 }
 
-fn add_new(alloc: Global, all: &mut PropDefs, defs: &[PropDef], request: &PropRequest) -> Result<(), AllocError>
+fn add_new(
+    alloc: Global,
+    all: &mut PropDefs,
+    defs: &[PropDef],
+    request: &PropRequest,
+) -> Result<(), AllocError>
     ensures { OnOk result (all.new ≡ all.old ++ made_props (new_props defs.now (request.now ∷ []))) }
 {
     if is_new(defs, request) {
@@ -127,7 +136,11 @@ fn add_new(alloc: Global, all: &mut PropDefs, defs: &[PropDef], request: &PropRe
 }
 
 /// The property definitions that requests make where these are none yet.
-pub fn made_new(alloc: Global, defs: &[PropDef], requests: &[PropRequest]) -> Result<PropDefs, AllocError>
+pub fn made_new(
+    alloc: Global,
+    defs: &[PropDef],
+    requests: &[PropRequest],
+) -> Result<PropDefs, AllocError>
     ensures { IfOk result (λ all. all ≡ made_props (new_props defs.now requests.now)) }
 {
     let mut all = Items::new(alloc);
@@ -240,7 +253,12 @@ fn types_if(alloc: Global, kept: bool, given: &Option<Texts>) -> Result<Texts, A
 }
 
 /// The type that a request makes below its parent, with these property definitions.
-pub fn made_type(alloc: Global, parent: &TypeDef, request: &TypeRequest, properties: PropDefs) -> Result<TypeDef, AllocError>
+pub fn made_type(
+    alloc: Global,
+    parent: &TypeDef,
+    request: &TypeRequest,
+    properties: PropDefs,
+) -> Result<TypeDef, AllocError>
     ensures { IfOk result (λ t. t ≡ record (made_type parent.now request.now) { properties = properties }) }
 {
     let of_documents = is_document(parent.base);
@@ -256,14 +274,22 @@ pub fn made_type(alloc: Global, parent: &TypeDef, request: &TypeRequest, propert
         parent: Some(parent.id.copied(alloc)?),
         creatable: request.creatable.unwrap_or(parent.creatable),
         fileable: parent.fileable,
-        queryable: request.queryable.unwrap_or(is_secondary(parent.base) || parent.queryable),
+        queryable: request
+            .queryable
+            .unwrap_or(is_secondary(parent.base) || parent.queryable),
         fulltext_indexed: false,
         included_in_supertype_query: request.included_in_supertype_query.unwrap_or(true),
-        controllable_policy: request.controllable_policy.unwrap_or(parent.controllable_policy),
+        controllable_policy: request
+            .controllable_policy
+            .unwrap_or(parent.controllable_policy),
         controllable_acl: request.controllable_acl.unwrap_or(parent.controllable_acl),
         mutability: made_mutability(request.mutability),
         versionable: flag_if(of_documents, request.versionable, parent.versionable),
-        content_allowed: content_if(of_documents, request.content_allowed, parent.content_allowed),
+        content_allowed: content_if(
+            of_documents,
+            request.content_allowed,
+            parent.content_allowed,
+        ),
         allowed_source_types: types_if(alloc, of_relationships, &request.allowed_source_types)?,
         allowed_target_types: types_if(alloc, of_relationships, &request.allowed_target_types)?,
         properties,

@@ -19,7 +19,9 @@ pub fn clashes(a: &PropDef, b: &PropDef) -> bool
 fn is_wrong_choice(def: &PropDef, choice: &Choice) -> bool
     ensures { result ≡ is_wrong_choice def.now choice.now }
 {
-    !is_of_kind(def.kind, &choice.value) || is_too_long(def, &choice.value) || is_out_of_range(def, &choice.value)
+    !is_of_kind(def.kind, &choice.value)
+        || is_too_long(def, &choice.value)
+        || is_out_of_range(def, &choice.value)
 }
 
 fn is_many_for(cardinality: Cardinality, scalars: &[Scalar]) -> bool

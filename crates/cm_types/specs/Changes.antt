@@ -229,6 +229,12 @@ judge_new_type types q = do
   refuse causes.TypeRule (breaks_type_rule types parent q)
   Ok (made_type parent q)
 
+-- the list of types with the new one
+abbrev pub judge_with_type : List TypeDef → TypeRequest → Judged (List TypeDef)
+judge_with_type types q = do
+  t ← judge_new_type types q
+  Ok (placed_type t types)
+
 -- ---- updateType
 
 -- it is given, and differs
@@ -374,6 +380,12 @@ judge_changed_type types q = do
   refuse causes.TypeRule (breaks_change_rule types t q)
   Ok (changed_type t q)
 
+-- the list of types with the changed one
+abbrev pub judge_with_change : List TypeDef → TypeRequest → Judged (List TypeDef)
+judge_with_change types q = do
+  t ← judge_changed_type types q
+  Ok (placed_type t types)
+
 -- ---- deleteType
 
 -- the type that may be removed as far as the types tell, or the first cause against it
@@ -386,3 +398,9 @@ judge_removed_type types id = do
 
 abbrev pub without_type : List TypeDef → List ℕ → List TypeDef
 without_type types id = filter (λ t. not (bytes_eq t.id id)) types
+
+-- the list of types without the one that is removed
+abbrev pub judge_without_type : List TypeDef → List ℕ → Judged (List TypeDef)
+judge_without_type types id = do
+  t ← judge_removed_type types id
+  Ok (without_type types id)
