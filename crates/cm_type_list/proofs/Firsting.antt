@@ -4,9 +4,13 @@ use Rattle.std.specs.Prelude.{bytes_eq, filter}
 use Rattle.std.specs.List.{list_any}
 use Rattle.std.proofs.lemmas.Cmp.{nat_list_eq_equiv}
 use Rattle.std.proofs.lemmas.List.Elements.{filter-append}
+use Rattle.std.proofs.lemmas.List.{map-append}
+use denote.Ref.{Bor}
+use Rattle.map_keys.specs.Parts.{pointee}
 use Rattle.cm_types.specs.declared.definition.TypeDef.{TypeDef}
 use Rattle.cm_types.specs.Types.{first_of_each}
 use Rattle.cm_type_list.specs.Firsts.{with_first}
+use Rattle.cm_type_list.proofs.Looping.{any_map}
 
 other : TypeDef → TypeDef → Bool
 other x s = not (bytes_eq s.id x.id)
@@ -65,3 +69,15 @@ first_more [] t = refl
 first_more (x ∷ ts) t =
     ap (λ l. x ∷ filter (λ s. not (bytes_eq s.id x.id)) l) (first_more ts t)
     ∙ behind x t (first_of_each ts) (bytes_eq x.id t.id) (list_any (λ s. bytes_eq s.id t.id) (first_of_each ts)) refl refl
+
+-- a type that is not there yet is pushed
+pub pushed_first : (ts : List (Bor TypeDef)) (t : Bor TypeDef) → list_any (λ (s : Bor TypeDef). bytes_eq s.now.id t.now.id) ts ≡ false
+    → map pointee (ts ++ t ∷ []) ≡ with_first (map pointee ts) t.now
+pushed_first ts t h =
+    map-append pointee ts (t ∷ [])
+    ∙ sym (ap (λ b. cond b (map pointee ts) (map pointee ts ++ t.now ∷ [])) (any_map (λ s. bytes_eq s.id t.now.id) pointee ts ∙ h))
+
+-- a type that is there stays
+pub kept_first : (ts : List (Bor TypeDef)) (t : Bor TypeDef) → list_any (λ (s : Bor TypeDef). bytes_eq s.now.id t.now.id) ts ≡ true
+    → map pointee ts ≡ with_first (map pointee ts) t.now
+kept_first ts t h = sym (ap (λ b. cond b (map pointee ts) (map pointee ts ++ t.now ∷ [])) (any_map (λ s. bytes_eq s.id t.now.id) pointee ts ∙ h))

@@ -3,6 +3,7 @@ ghost use Rattle.std.specs.Prelude.{◌≡◌, ℕ, List, [], ◌∷◌, ◌++�
 ghost use Rattle.std.specs.Option.{option_copied};
 ghost use Rattle.std.specs.List.{list_any, flat_map};
 ghost use Rattle.cm_types.specs.Types.{type_in, chain_of, chain, is_below, is_below_any, longest_chain, first_of_each, types_of, props_of};
+ghost use denote.Ref.{Bor};
 ghost use Rattle.map_keys.specs.Parts.{pointee};
 ghost use Rattle.cm_type_list.specs.Firsts.{with_first};
 ghost use Rattle.cm_type_list.specs.Keys.{IsKeyed, values_of};
@@ -32,7 +33,7 @@ fn with_last<'a>(line: Vec<&'a TypeDef>, def: &'a TypeDef) -> Result<Vec<&'a Typ
 }
 
 fn has_type(types: &[&TypeDef], id: &Text) -> bool
-    ensures { result ≡ list_any (λ t. bytes_eq t.id id.now) (map pointee types.now) }
+    ensures { result ≡ list_any (λ (t : Bor TypeDef). bytes_eq t.now.id id.now) types.now }
 {
     types.iter().any(|t| t.id.is(id))
 }

@@ -38,11 +38,16 @@ is_before a b = is_lt (slice_cmp nat_cmp a b)
 abbrev pub placed : {A : Type 0} → (A → List ℕ) → A → List A → List A
 placed name x xs = filter (λ y. is_before (name y) (name x)) xs ++ x ∷ filter (λ y. is_before (name x) (name y)) xs
 
-abbrev pub placed_props : List PropDef → List PropDef → List PropDef
-placed_props defs new = fold (λ all d. placed (λ e. e.id) d all) defs new
+-- property definitions in byte order of their ids, a later one in place of an earlier one of its id
+abbrev pub sorted_props : List PropDef → List PropDef
+sorted_props defs = fold (λ all d. placed (λ e. e.id) d all) [] defs
 
 abbrev pub placed_type : TypeDef → List TypeDef → List TypeDef
 placed_type t types = placed (λ s. s.id) t types
+
+-- types in byte order of their ids
+abbrev pub sorted_types : List TypeDef → List TypeDef
+sorted_types types = fold (λ all t. placed_type t all) [] types
 
 -- ---- what is made of a request
 
@@ -136,7 +141,7 @@ made_type parent q = record {
   content_allowed = unwrap_or (if_kept (is_document parent.base) q.content_allowed) parent.content_allowed;
   allowed_source_types = unwrap_or (if_kept (is_relationship parent.base) q.allowed_source_types) [];
   allowed_target_types = unwrap_or (if_kept (is_relationship parent.base) q.allowed_target_types) [];
-  properties = placed_props [] (made_props q.properties);
+  properties = sorted_props (made_props q.properties);
 }
 
 -- ---- rules of property definitions
@@ -369,7 +374,7 @@ abbrev pub changed_type : TypeDef → TypeRequest → TypeDef
 changed_type t q = record t {
   display_name = text_or t.display_name q.display_name;
   description = text_or t.description q.description;
-  properties = placed_props t.properties (made_props (new_props t.properties q.properties));
+  properties = sorted_props (t.properties ++ made_props (new_props t.properties q.properties));
 }
 
 -- the type that a request changes, as it is then, or the first cause against it
