@@ -9,4 +9,5 @@ pub mod made;
 pub mod placed;
 pub mod rules;
 pub mod same;
+pub mod scan;
 pub mod types;

@@ -23,7 +23,7 @@ loop-def-preserved c =
           ∙ name_step (λ d. d.query_name) q defs i x lt;
       found = c.either-found.ensures
           ∙ ap (λ b. c.loop-def.found || b) (c.either-here.ensures ∙ ap (λ b. b || c.has_name-in-loop-def.result) (c.has_name.ensures ∙ c.loop-def.invariant.ids x.id)
-            ∙ ap (λ b. list_any (λ e. bytes_eq e.id x.id) front || b) (c.has_name-in-loop-def.ensures ∙ c.loop-def.invariant.names x.query_name))
+          ∙ ap (λ b. list_any (λ e. bytes_eq e.id x.id) front || b) (c.has_name-in-loop-def.ensures ∙ c.loop-def.invariant.names x.query_name))
           ∙ ap (λ b. b || (list_any (λ e. bytes_eq e.id x.id) front || list_any (λ e. bytes_eq e.query_name x.query_name) front)) c.loop-def.invariant.found
           ∙ ap (λ d. has_clash front || (list_any (λ e. bytes_eq e.id d.id) front || list_any (λ e. bytes_eq e.query_name d.query_name) front)) c.def-item.is
           ∙ clash_step defs i x lt;
