@@ -12,7 +12,7 @@ use cm_types::given::{Givens, PropertyCall};
 use cm_types::property::PropDefs;
 use std::alloc::Global;
 
-#[tactic(auto, using(crate::proofs::Exits::fails_then))]
+#[tactic(auto, using(cm_types::proofs::Exits::fails_then))]
 fn judge_properties(
     alloc: Global,
     call: PropertyCall,
@@ -32,7 +32,7 @@ fn judge_properties(
     )
 }
 
-#[tactic(auto, using(crate::proofs::Exits::fails_then))]
+#[tactic(auto, using(cm_types::proofs::Exits::fails_then))]
 fn judge_values(
     alloc: Global,
     call: PropertyCall,

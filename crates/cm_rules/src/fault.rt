@@ -104,7 +104,7 @@ fn judge_one(alloc: Global, call: PropertyCall, defs: &[PropDef], given: &Given)
     }
 }
 
-#[tactic(auto, using(crate::proofs::Exits::first_more, crate::proofs::Exits::first_fails, crate::proofs::Exits::first_none))]
+#[tactic(auto, using(cm_types::proofs::Exits::first_more, cm_types::proofs::Exits::first_fails, cm_types::proofs::Exits::first_none))]
 pub(crate) fn judge_given(
     alloc: Global,
     call: PropertyCall,

@@ -158,7 +158,7 @@ fn judge_one(
     Ok(())
 }
 
-#[tactic(auto, using(crate::proofs::Exits::first_more, crate::proofs::Exits::first_fails, crate::proofs::Exits::first_none))]
+#[tactic(auto, using(cm_types::proofs::Exits::first_more, cm_types::proofs::Exits::first_fails, cm_types::proofs::Exits::first_none))]
 pub(crate) fn judge_missing(
     alloc: Global,
     call: PropertyCall,

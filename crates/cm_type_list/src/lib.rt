@@ -5,6 +5,7 @@ ghost use Rattle.std.specs.Prelude.{◌≡◌};
 
 pub mod changes;
 pub mod clash;
+pub mod edit;
 pub mod made;
 pub mod placed;
 pub mod rules;

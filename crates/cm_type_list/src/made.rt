@@ -2,7 +2,7 @@
 ghost use Rattle.std.specs.Prelude.{◌≡◌, ℕ, List, [], ◌∷◌, ◌++◌, Option, IfOk, OnOk, unwrap_or, map, filter, is_none};
 ghost use Rattle.std.specs.Option.{option_copied};
 ghost use Rattle.cm_types.specs.Properties.{def_of};
-ghost use Rattle.cm_types.specs.Changes.{text_or, default_of, of_kind, is_single, cardinality_of, made_prop, made_props, made_mutability, made_type, is_document, is_relationship, is_secondary, if_kept, flag_or, new_props};
+ghost use Rattle.cm_types.specs.Changes.{text_or, default_of, of_kind, is_single, cardinality_of, made_prop, made_props, made_mutability, made_type, is_document, is_relationship, is_secondary, if_kept, flag_or, new_props, changed_type};
 
 use cm_base::copies::Copies;
 use cm_base::items::Items;
@@ -113,7 +113,8 @@ pub fn prop_of<'a>(defs: &'a [PropDef], id: &Text) -> Option<&'a PropDef>
     defs.iter().find(|d| d.id.is(id))
 }
 
-fn is_new(defs: &[PropDef], request: &PropRequest) -> bool
+/// Whether no definition has the id that is asked for.
+pub fn is_new(defs: &[PropDef], request: &PropRequest) -> bool
     ensures { result ≡ is_none (def_of defs.now request.now.id) }
 {
     prop_of(defs, &request.id).is_none()
@@ -292,6 +293,40 @@ pub fn made_type(
         ),
         allowed_source_types: types_if(alloc, of_relationships, &request.allowed_source_types)?,
         allowed_target_types: types_if(alloc, of_relationships, &request.allowed_target_types)?,
+        properties,
+    })
+}
+
+/// A type with the display name and the description that a request gives, and with these property definitions.
+pub fn changed_type(
+    alloc: Global,
+    def: &TypeDef,
+    request: &TypeRequest,
+    properties: PropDefs,
+) -> Result<TypeDef, AllocError>
+    ensures { IfOk result (λ t. t ≡ record (changed_type def.now request.now) { properties = properties }) }
+{
+    Ok(TypeDef {
+        id: def.id.copied(alloc)?,
+        local_name: def.local_name.copied(alloc)?,
+        local_namespace: def.local_namespace.copied(alloc)?,
+        display_name: text_or(alloc, &def.display_name, &request.display_name)?,
+        query_name: def.query_name.copied(alloc)?,
+        description: text_or(alloc, &def.description, &request.description)?,
+        base: def.base,
+        parent: Copies::copied(&def.parent, alloc)?,
+        creatable: def.creatable,
+        fileable: def.fileable,
+        queryable: def.queryable,
+        fulltext_indexed: def.fulltext_indexed,
+        included_in_supertype_query: def.included_in_supertype_query,
+        controllable_policy: def.controllable_policy,
+        controllable_acl: def.controllable_acl,
+        mutability: def.mutability,
+        versionable: def.versionable,
+        content_allowed: def.content_allowed,
+        allowed_source_types: def.allowed_source_types.copied(alloc)?,
+        allowed_target_types: def.allowed_target_types.copied(alloc)?,
         properties,
     })
 }

@@ -1,5 +1,5 @@
 //! The list of types, as a value that keeps its older states.
-ghost use Rattle.std.specs.Prelude.{◌≡◌, ℕ, List, [], ◌∷◌, ◌++◌, OnOk, length, IfOk, bytes_eq, map, reverse};
+ghost use Rattle.std.specs.Prelude.{◌≡◌, ℕ, List, [], ◌∷◌, ◌++◌, OnOk, ◌≤◌, length, IfOk, bytes_eq, map, reverse};
 ghost use Rattle.std.specs.Option.{option_copied};
 ghost use Rattle.std.specs.List.{list_any, flat_map};
 ghost use Rattle.cm_types.specs.Types.{type_in, chain_of, chain, is_below, is_below_any, longest_chain, first_of_each, types_of, props_of};
@@ -8,6 +8,7 @@ ghost use Rattle.map_keys.specs.Parts.{pointee};
 ghost use Rattle.cm_type_list.specs.Firsts.{with_first};
 ghost use Rattle.cm_type_list.specs.Keys.{IsKeyed, values_of};
 
+use crate::scan::all_of;
 use cm_base::copies::Copies;
 use cm_base::items::Items;
 use cm_base::text::Text;
@@ -18,7 +19,7 @@ use std::alloc::{AllocError, Global};
 use std::marker::Model;
 
 #[tactic(auto, unfolding(cm_types::specs::Types::longest_chain))]
-fn longest_chain() -> u64
+pub(crate) fn longest_chain() -> u64
     ensures { result ≡ longest_chain }
 {
     16
@@ -84,7 +85,7 @@ fn props_in(alloc: Global, types: &[&TypeDef]) -> Result<PropDefs, AllocError>
 /// Each change takes `&self` and makes a new list that shares the definitions with the old one, so both stand.
 #[derive(Drop)]
 pub struct Types {
-    map: Map<Text, TypeDef>,
+    pub(crate) map: Map<Text, TypeDef>,
 }
 
 impl Model for Types {
@@ -217,5 +218,30 @@ impl Types {
         let types = self.types_of(alloc, id, secondaries)?;
         let all = props_in(alloc, &types)?;
         Ok(all)
+    }
+
+    /// All types in order.
+    pub fn all(&self, alloc: Global) -> Result<Vec<&TypeDef>, AllocError>
+        ensures { IfOk result (λ all. map pointee all.items ≡ self.now) }
+    {
+        let all = all_of(alloc, &self.map)?;
+        Ok(all)
+    }
+
+    /// The number of types of a type's chain, at most so many.
+    pub(crate) fn chain_len(&self, levels: u64, id: &Text) -> u64
+        ensures len { result ≡ length (chain_of levels self.now id.now) }
+        ensures most { result ≤ levels }
+    {
+        if levels == 0 {
+            return 0;
+        }
+        match self.find(id) {
+            None => 0,
+            Some(def) => match &def.parent {
+                Some(parent) => self.chain_len(levels - 1, parent) + 1,
+                None => 1,
+            },
+        }
     }
 }

@@ -224,15 +224,20 @@ breaks_type_rule types parent q =
     || breaks_attribute_rule parent q
     || breaks_prop_rule types q.properties
 
+-- the type that a request makes below this parent
+abbrev pub judge_below : List TypeDef → TypeDef → TypeRequest → Judged TypeDef
+judge_below types parent q = do
+  refuse causes.TypeFixed (not parent.mutability.create)
+  refuse causes.TypeRule (breaks_type_rule types parent q)
+  Ok (made_type parent q)
+
 -- the type that a request makes, or the first cause against it
 abbrev pub judge_new_type : List TypeDef → TypeRequest → Judged TypeDef
 judge_new_type types q = do
   refuse causes.TypeNotFound (lacks_parent types q)
   refuse causes.TypeTaken (is_taken types q)
   parent ← find_or causes.TypeRule (option_and_then (type_in types) q.parent)
-  refuse causes.TypeFixed (not parent.mutability.create)
-  refuse causes.TypeRule (breaks_type_rule types parent q)
-  Ok (made_type parent q)
+  judge_below types parent q
 
 -- the list of types with the new one
 abbrev pub judge_with_type : List TypeDef → TypeRequest → Judged (List TypeDef)
@@ -377,13 +382,18 @@ changed_type t q = record t {
   properties = sorted_props (t.properties ++ made_props (new_props t.properties q.properties));
 }
 
+-- the changed type
+abbrev pub judge_change_of : List TypeDef → TypeDef → TypeRequest → Judged TypeDef
+judge_change_of types t q = do
+  refuse causes.TypeFixed (not t.mutability.update)
+  refuse causes.TypeRule (breaks_change_rule types t q)
+  Ok (changed_type t q)
+
 -- the type that a request changes, as it is then, or the first cause against it
 abbrev pub judge_changed_type : List TypeDef → TypeRequest → Judged TypeDef
 judge_changed_type types q = do
   t ← find_or causes.TypeNotFound (type_in types q.id)
-  refuse causes.TypeFixed (not t.mutability.update)
-  refuse causes.TypeRule (breaks_change_rule types t q)
-  Ok (changed_type t q)
+  judge_change_of types t q
 
 -- the list of types with the changed one
 abbrev pub judge_with_change : List TypeDef → TypeRequest → Judged (List TypeDef)
@@ -393,13 +403,17 @@ judge_with_change types q = do
 
 -- ---- deleteType
 
--- the type that may be removed as far as the types tell, or the first cause against it
-abbrev pub judge_removed_type : List TypeDef → List ℕ → Judged TypeDef
+-- it may be removed
+abbrev pub judge_removal_of : List TypeDef → TypeDef → Judged (Unit {0})
+judge_removal_of types t = do
+  refuse causes.TypeFixed (not t.mutability.delete)
+  refuse causes.TypeInUse (list_any (is_child_type t.id) types)
+
+-- the type may be removed as far as the types tell, or the first cause against it
+abbrev pub judge_removed_type : List TypeDef → List ℕ → Judged (Unit {0})
 judge_removed_type types id = do
   t ← find_or causes.TypeNotFound (type_in types id)
-  refuse causes.TypeFixed (not t.mutability.delete)
-  refuse causes.TypeInUse (list_any (is_child_type id) types)
-  Ok t
+  judge_removal_of types t
 
 abbrev pub without_type : List TypeDef → List ℕ → List TypeDef
 without_type types id = filter (λ t. not (bytes_eq t.id id)) types
@@ -407,5 +421,5 @@ without_type types id = filter (λ t. not (bytes_eq t.id id)) types
 -- the list of types without the one that is removed
 abbrev pub judge_without_type : List TypeDef → List ℕ → Judged (List TypeDef)
 judge_without_type types id = do
-  t ← judge_removed_type types id
+  judge_removed_type types id
   Ok (without_type types id)

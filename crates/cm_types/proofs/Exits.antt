@@ -5,11 +5,15 @@ use Rattle.std.proofs.lemmas.List.{drop_all}
 use Rattle.cm_base.specs.declared.cause.Cause.{Cause}
 use Rattle.cm_base.specs.declared.fail.Fail.{Fail}
 use Rattle.cm_base.specs.declared.fail.Fail.TheVariants as fails
-use Rattle.cm_base.specs.Judged.{Judged, Fails, ◌>>◌, judge_by, first_cause}
+use Rattle.cm_base.specs.Judged.{Judged, Fails, ◌>>=◌, ◌>>◌, judge_by, first_cause}
 
 pub fails_then : {B : Type 0} (e : Fail) (j : Judged (Unit {0})) (rest : Judged B) → Fails e j → Fails e (j >> rest)
 fails_then (fails.Refused c) j rest h = rw h refl
 fails_then fails.Memory j rest h = tt
+
+pub fails_bind : {A B : Type 0} (e : Fail) (j : Judged A) (f : A → Judged B) → Fails e j → Fails e (j >>= f)
+fails_bind (fails.Refused c) j f h = rw h refl
+fails_bind fails.Memory j f h = tt
 
 cut : {A : Type 0} (xs : List A) (i : ℕ) (d : A) → i < length xs → drop i xs ≡ get_or xs i d ∷ drop (i + 1) xs
 cut xs i d lt = rw (add-one, drop-cons xs i d) refl
