@@ -123,6 +123,20 @@ impl Types {
         Ok(Types { map })
     }
 
+    /// The types in byte order of their ids, a later one in place of an earlier one of its id.
+    pub fn from_defs(alloc: Global, defs: &TypeDefs) -> Result<Types, AllocError>
+        ensures { IfOk result (λ types. types ≡ sorted_types defs.now) }
+    {
+        let defs = defs.as_slice();
+        let mut types = Types::empty(alloc);
+        for def in defs {
+            let copy = def.copied(alloc)?;
+            let more = types.with_def(alloc, copy)?;
+            types = more;
+        }
+        Ok(types)
+    }
+
     fn without_def(&self, alloc: Global, id: &Text) -> Result<Types, AllocError>
         ensures { IfOk result (λ types. types ≡ without_type self.now id.now) }
     {

@@ -245,3 +245,10 @@ impl Types {
         }
     }
 }
+
+impl Copies for Types {
+    fn copied(&self, alloc: Global) -> Result<Types, AllocError> {
+        let map = self.map.share(alloc)?;
+        Ok(Types { map })
+    }
+}
