@@ -1,0 +1,3 @@
+pub mod Ranges
+pub mod Digits
+pub mod Named

@@ -1,0 +1,9 @@
+//! Requests from bytes, for any cutting of the input, and replies to bytes.
+#![tactic(auto)]
+
+mod fault;
+mod fields;
+mod reading;
+mod window;
+
+pub use fault::WireStop;
