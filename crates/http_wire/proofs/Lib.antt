@@ -1,3 +1,4 @@
 pub mod Ranges
 pub mod Digits
 pub mod Named
+pub mod SeenHeads

@@ -1,2 +1,3 @@
 pub mod Windows
 pub mod Found
+pub mod Seen

@@ -3,6 +3,7 @@
 
 mod fault;
 mod fields;
+mod heads;
 mod reading;
 mod window;
 
