@@ -2,3 +2,4 @@ pub mod Ranges
 pub mod Digits
 pub mod Named
 pub mod SeenHeads
+pub mod HeadReading

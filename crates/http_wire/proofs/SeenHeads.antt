@@ -102,8 +102,8 @@ whole_part bytes part spans r e within (h, at) =
 pub none_where_hopeless : (bytes : List ℕ) → HasNoFuture (take head_limit bytes) → First bytes (Fault BadHead) × HoldsNone bytes
 none_where_hopeless bytes f = (hopeless f refl, λ head x. not_hopeless bytes x.text x.rest x.has f)
 
-pub none_where_open : (bytes : List ℕ) → length bytes < head_limit → IsOpen bytes → (0 < length bytes → First bytes Beginning) × HoldsNone bytes
-none_where_open bytes few o = (λ some. partial some few o refl, λ head x. o.none x.text x.rest x.has.reads)
+pub none_where_open : (bytes : List ℕ) → length bytes < head_limit → IsOpen bytes → (length bytes < head_limit) × (0 < length bytes → First bytes Beginning) × HoldsNone bytes
+none_where_open bytes few o = (few, λ some. partial some few o refl, λ head x. o.none x.text x.rest x.has.reads)
 
 pub none_where_long : (bytes : List ℕ) → head_limit ≤ length bytes → IsOpen (take head_limit bytes) → First bytes (Fault LongHead) × HoldsNone bytes
 none_where_long bytes long o = (too_long long o refl, λ head x. o.none x.text _ (in_part bytes x.text x.rest x.has))

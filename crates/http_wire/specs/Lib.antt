@@ -1,3 +1,4 @@
 pub mod Windows
 pub mod Found
 pub mod Seen
+pub mod HeadAnswers

@@ -4,6 +4,7 @@ use Rattle.httparse.specs.Grammar.{RequestHead, print_request}
 use Rattle.httparse.specs.Spans.{IsWithin, IsHeaderWithin, IsRequestAt, IsRequestWithin, span_bytes}
 use Rattle.httparse.specs.declared.spans.HeaderSpan.{HeaderSpan}
 use Rattle.httparse.specs.declared.spans.RequestSpans.{RequestSpans}
+use Rattle.http_grammar.specs.Limits.{head_limit}
 use Rattle.http_grammar.specs.Request.{Head, head_of}
 use Rattle.http_grammar.specs.Fields.{head_framing, expects_continue}
 use Rattle.http_grammar.specs.First.{First, Beginning, Fault, HasHead, IsOpen, HasNoFuture, HoldsHead}
@@ -51,6 +52,6 @@ HoldsNone bytes = (head : Head) → HoldsHead bytes head → ⊥
 
 -- what the bytes say of the head
 abbrev pub SeesHead : List ℕ → List HeaderSpan → HeadSeen → Type 0
-SeesHead bytes spans seen.Open = (0 < length bytes → First bytes Beginning) × HoldsNone bytes
+SeesHead bytes spans seen.Open = (length bytes < head_limit) × (0 < length bytes → First bytes Beginning) × HoldsNone bytes
 SeesHead bytes spans (seen.Bad f) = First bytes (Fault f) × HoldsNone bytes
 SeesHead bytes spans (seen.Whole r framing expects) = SeesWhole bytes spans r framing expects

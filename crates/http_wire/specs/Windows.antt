@@ -14,5 +14,5 @@ abbrev pub More : List ℕ → List ℕ → SourceTold → SourceTold → Result
 More before after old new (Ok true) = (got : List ℕ) × (after ≡ before ++ got) × (0 < length got) × Gave old new got
 More before after old new (Ok false) = (after ≡ before) × (new.ended ≡ true) × Gave old new []
 More before after old new (Err ReadFault) = (after ≡ before) × Rose old.faults new.faults × Gave old new []
-More before after old new (Err Memory) = Gave old new []
+More before after old new (Err Memory) = (after ≡ before) × Gave old new []
 More before after old new (Err (Bad fault)) = ⊥

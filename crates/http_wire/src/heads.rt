@@ -37,6 +37,14 @@ pub enum HeadSeen {
     Whole(RequestSpans, Framing, bool),
 }
 
+/// A whole head at the front of the bytes: its places, how its body is framed, and whether it expects the interim reply.
+#[derive(Clone, Copy)]
+pub struct Framed {
+    pub head: RequestSpans,
+    pub framing: Framing,
+    pub expects: bool,
+}
+
 // Whether a byte is a line feed.
 fn feeds(bytes: &[u8]) -> bool
     ensures { result ≡ has_line_feed bytes.now }

@@ -3,8 +3,12 @@
 
 mod fault;
 mod fields;
+mod head;
+mod head_reader;
 mod heads;
+mod pace;
 mod reading;
 mod window;
 
 pub use fault::WireStop;
+pub use head::{Head, Request};
