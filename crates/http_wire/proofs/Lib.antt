@@ -3,3 +3,4 @@ pub mod Digits
 pub mod Named
 pub mod SeenHeads
 pub mod HeadReading
+pub mod BodyReading

@@ -2,3 +2,4 @@ pub mod Windows
 pub mod Found
 pub mod Seen
 pub mod HeadAnswers
+pub mod Bodies

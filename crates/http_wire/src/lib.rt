@@ -1,6 +1,7 @@
 //! Requests from bytes, for any cutting of the input, and replies to bytes.
 #![tactic(auto)]
 
+mod body;
 mod fault;
 mod fields;
 mod head;
