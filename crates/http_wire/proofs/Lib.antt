@@ -4,3 +4,4 @@ pub mod Named
 pub mod SeenHeads
 pub mod HeadReading
 pub mod BodyReading
+pub mod PieceSeeing

@@ -3,3 +3,4 @@ pub mod Found
 pub mod Seen
 pub mod HeadAnswers
 pub mod Bodies
+pub mod Pieces

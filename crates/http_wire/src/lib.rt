@@ -8,6 +8,8 @@ mod head;
 mod head_reader;
 mod heads;
 mod pace;
+mod piece;
+mod pieces;
 mod reading;
 mod window;
 
