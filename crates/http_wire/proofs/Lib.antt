@@ -5,3 +5,5 @@ pub mod SeenHeads
 pub mod HeadReading
 pub mod BodyReading
 pub mod PieceSeeing
+pub mod ChunkReading
+pub mod DataReading

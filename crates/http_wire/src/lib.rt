@@ -2,6 +2,7 @@
 #![tactic(auto)]
 
 mod body;
+mod chunks;
 mod fault;
 mod fields;
 mod head;
