@@ -7,3 +7,4 @@ pub mod BodyReading
 pub mod PieceSeeing
 pub mod ChunkReading
 pub mod DataReading
+pub mod RequestReading

@@ -4,3 +4,5 @@ pub mod Seen
 pub mod HeadAnswers
 pub mod Bodies
 pub mod Pieces
+pub mod Buffers
+pub mod Answers

@@ -55,3 +55,13 @@ abbrev pub SeesHead : List ℕ → List HeaderSpan → HeadSeen → Type 0
 SeesHead bytes spans seen.Open = (length bytes < head_limit) × (0 < length bytes → First bytes Beginning) × HoldsNone bytes
 SeesHead bytes spans (seen.Bad f) = First bytes (Fault f) × HoldsNone bytes
 SeesHead bytes spans (seen.Whole r framing expects) = SeesWhole bytes spans r framing expects
+
+-- a head that was read whole, and copied
+pub record IsRead (bytes : List ℕ) (r : RequestSpans) (framing : Framing) (expects : Bool) (head : Head) : Type 0 where
+  pub text : RequestHead
+  pub has : HasHead bytes text (drop r.len bytes)
+  pub head_is : head ≡ head_of text
+  pub len : r.len ≡ length (print_request text)
+  pub inside : r.len ≤ length bytes
+  pub framing_is : head_framing (head_of text) ≡ Ok framing
+  pub expects_is : expects ≡ expects_continue (head_of text)

@@ -8,11 +8,15 @@ mod fields;
 mod head;
 mod head_reader;
 mod heads;
+mod incoming;
 mod pace;
 mod piece;
 mod pieces;
+mod reader;
 mod reading;
 mod window;
 
 pub use fault::WireStop;
 pub use head::{Head, Request};
+pub use incoming::Incoming;
+pub use reader::{Buffer, read_request};
