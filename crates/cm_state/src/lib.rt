@@ -1,0 +1,9 @@
+//! The repository as a value that shares what does not change.
+#![tactic(auto)]
+
+ghost use Rattle.std.specs.Prelude.{◌≡◌};
+
+pub mod change;
+pub mod look;
+pub mod open;
+pub mod state;
