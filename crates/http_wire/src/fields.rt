@@ -138,13 +138,7 @@ fn below_half(n: Option<u64>) -> Option<u64>
     ensures { result ≡ below_half n }
 {
     match n {
-        Some(n) => {
-            if n < 1 << 63 {
-                Some(n)
-            } else {
-                None
-            }
-        }
+        Some(n) => { if n < 1 << 63 { Some(n) } else { None } }
         None => None,
     }
 }
@@ -190,11 +184,7 @@ fn by_coding(value: &[u8]) -> Result<Framing, HttpFault>
 
 /// How the body behind a head with these fields is framed, or the fault of the head.
 #[tactic(auto, unfolding(http_grammar::specs::Fields::head_framing))]
-pub fn framing_of(
-    text: &[u8],
-    minor: u8,
-    fields: &[HeaderSpan],
-) -> Result<Framing, HttpFault>
+pub fn framing_of(text: &[u8], minor: u8, fields: &[HeaderSpan]) -> Result<Framing, HttpFault>
     requires { All (IsHeaderWithin (length text.now)) fields.now }
     ensures { (head : Head) → head.minor ≡ minor → head.fields ≡ fields_at text.now fields.now → result ≡ head_framing head }
 {

@@ -34,7 +34,7 @@ impl Model for Head {
     } };
 
     ghost invariant = { λ h. IsWithin (length h.text.items) h.method × IsWithin (length h.text.items) h.target
-      × All (IsHeaderWithin (length h.text.items)) h.fields.items };
+        × All (IsHeaderWithin (length h.text.items)) h.fields.items };
 }
 
 impl Head {

@@ -12,11 +12,7 @@ use std::alloc::{AllocError, Global};
 const LEAST_ROOM: usize = 8192;
 
 /// Reads once into the bytes from end on.
-pub fn read_at<S: Source>(
-    source: &mut S,
-    bytes: &mut Vec<u8>,
-    end: usize,
-) -> Result<usize, Failed>
+pub fn read_at<S: Source>(source: &mut S, bytes: &mut Vec<u8>, end: usize) -> Result<usize, Failed>
     requires { end < length bytes.old.items }
     ensures front { take end bytes.new.items ≡ take end bytes.old.items }
     ensures len { length bytes.new.items ≡ length bytes.old.items }

@@ -25,4 +25,4 @@ returns-in-Err c =
     let short : length c.front.result.now ≤ 65536 = part_short c.args.text.now c.front.result.now c.front.ensures in
     hopeless_trailers c.args.text.now c.front.result.now c.front.ensures
     (c.in-Err.ensures.invalid (λ s. never_too_many_trailers c.front.result.now short
-        (subst (λ (n : ℕ). SectionExceeds n c.front.result.now) c.requires (c.in-Err.ensures.too_many (ap Err s)))))
+    (subst (λ (n : ℕ). SectionExceeds n c.front.result.now) c.requires (c.in-Err.ensures.too_many (ap Err s)))))
