@@ -80,10 +80,11 @@ module _ {S C Q A X : Type 0} (m : Rules S C Q A X) where
       let after : u ≡ grown v f = grows ∙ ap (grown v) entry in
       let count : length u.journal ≡ length v.journal + 1 = ap (λ u. length u.journal) after ∙ length-append v.journal (f ∷ []) in
       let here : n ≡ m.number (replay m.next v.opening (v.journal ++ f ∷ [])) = num ∙ ap (λ u. m.number (state_of m.next u)) after in
-      let held : held_of fs ≡ put nat_cmp s (length v.journal + 1) (held_of es) = ap held_of is ∙ (held-put s (record { seen = u; serial = serial }) es ∙ ap (λ k. put nat_cmp s k (held_of es)) count) in
-      (rw (some, due) (ap (λ k. Ok (Wrote a k)) (sym here)),
-       rw (some, due) (ap (λ h. record { opening = u.opening; base = b; journal = u.journal; held = h }) held
-         ∙ ap (λ u. record { opening = u.opening; base = b; journal = u.journal; held = put nat_cmp s (length v.journal + 1) (held_of es) }) after))
+      let held : held_of fs ≡ put nat_cmp s (length v.journal + 1) (held_of es) = ap held_of is ∙ (held-put s (record { seen = u; serial = serial }) es ∙ ap (λ k. put nat_cmp s k (held_of es)) count) in (
+        rw (some, due) (ap (λ k. Ok (Wrote a k)) (sym here)),
+        rw (some, due) (ap (λ h. record { opening = u.opening; base = b; journal = u.journal; held = h }) held
+            ∙ ap (λ u. record { opening = u.opening; base = b; journal = u.journal; held = put nat_cmp s (length v.journal + 1) (held_of es) }) after),
+      )
 
 -- the number of the entries of a session, with one more, is no more than the length of the journal
 pub serial_fits : {S C : Type 0} (b s n : ℕ) (begin v u : History S C) (es : List (ℕ × Hold S C)) (e : Entry C) → IsCore b begin v es → u ≡ grown v e → e.caller ≡ s → n ≡ length (own b s v.journal) → n + 1 ≤ length u.journal
