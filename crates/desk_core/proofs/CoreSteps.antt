@@ -1,5 +1,5 @@
 -- The steps of a core, as events of its world.
-use Rattle.std.proofs.Common.{◌≡◌, ℕ, zero, suc, ◌+◌, ◌≤◌, ◌<◌, List, [], ◌∷◌, ◌++◌, Option, Some, None, Result, Ok, Err, length, take, refl, ap, sym, ◌∙◌, arith, length-append, subst}
+use Rattle.std.proofs.Common.{◌≡◌, ℕ, ◌+◌, ◌≤◌, List, [], ◌∷◌, ◌++◌, Option, Some, None, Ok, Err, length, take, refl, ap, sym, ◌∙◌, arith, length-append}
 use Rattle.std.specs.Ordering.{nat_cmp}
 use Rattle.std.specs.FinMap.Entries.{put, find}
 use Rattle.std.specs.Option.{option_map}
@@ -7,12 +7,12 @@ use Rattle.cm_base.specs.declared.number.Moment.{Moment}
 use Rattle.desk_model.specs.declared.entry.Entry.{Entry}
 use Rattle.desk_model.specs.Histories.{History, replay, own, grown, shown_by, state_of}
 use Rattle.desk_model.proofs.OwnEntries.{own-mine, own-length, prefix-le}
-use Rattle.desk_core.specs.declared.event.Event.TheVariants.{Enter, Write, Look, Ask}
-use Rattle.desk_core.specs.declared.event.Done.TheVariants.{Entered, Wrote, Looked, Said}
-use Rattle.desk_core.specs.declared.event.CoreStop.TheVariants.{Unknown, Known, Refused}
-use Rattle.desk_core.specs.Interleaving.{Rules, World, holds, holding, entry_by, verdict, judged, happens, told, wrote, said, state_at, state_now}
+use Rattle.desk_core.specs.declared.event.Event.TheVariants.{Enter, Write, Look}
+use Rattle.desk_core.specs.declared.event.Done.TheVariants.{Entered, Wrote, Looked}
+use Rattle.desk_core.specs.declared.event.CoreStop.TheVariants.{Known, Refused}
+use Rattle.desk_core.specs.Interleaving.{Rules, World, holds, holding, entry_by, verdict, happens, told}
 use Rattle.desk_core.specs.Holds.{Hold, held_of, world_of, IsHold, IsCore}
-use Rattle.desk_core.proofs.Holdings.{long, find-held, held-put, core-puts, core-grows, prefix-take}
+use Rattle.desk_core.proofs.Holdings.{long, find-held, held-put, prefix-take}
 
 none_under : {A B : Type 0} (f : A → B) (o : Option A) → option_map f o ≡ None → o ≡ None
 none_under f None e = refl

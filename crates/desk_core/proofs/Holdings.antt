@@ -1,5 +1,5 @@
 -- What sessions hold, after one holds something else, and after an entry more.
-use Rattle.std.proofs.Common.{true≢false, zero-add, ◌≡◌, ◌≢◌, ℕ, ◌+◌, ◌≤◌, ◌==◌, Bool, true, false, cond, List, [], ◌∷◌, ◌++◌, Option, Some, None, length, take, map, refl, ap, sym, ◌∙◌, arith, length-append, subst, inl, inr, ◌⊎◌}
+use Rattle.std.proofs.Common.{true≢false, zero-add, ◌≡◌, ◌≢◌, ℕ, ◌+◌, ◌≤◌, Bool, true, false, cond, List, [], ◌∷◌, ◌++◌, Some, None, length, take, refl, ap, sym, ◌∙◌, arith, length-append, subst, inl, inr, ◌⊎◌}
 use Rattle.std.specs.Ordering.{nat_cmp, eq_by_cmp}
 use Rattle.std.specs.FinMap.Entries.{put, find, find-put}
 use Rattle.core.specs.FinMap.Entries.{by_order}
@@ -16,7 +16,7 @@ use mathlib.Core.List.{IsPrefix}
 use Rattle.desk_model.specs.declared.entry.Entry.{Entry}
 use Rattle.desk_model.specs.Histories.{History, own, IsNumbered, CountsFrom, grown}
 use Rattle.desk_model.proofs.OwnEntries.{own-mine, own-other, counts-more, prefix-more, prefix-le}
-use Rattle.desk_core.specs.Interleaving.{World, holds, holding}
+use Rattle.desk_core.specs.Interleaving.{World, holds}
 use Rattle.desk_core.specs.Holds.{Hold, held_of, world_of, IsHold, IsCore}
 
 -- how long what a session holds is

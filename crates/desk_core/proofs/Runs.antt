@@ -1,18 +1,17 @@
 -- Each run keeps a world lawful, and puts each accepted write into the history once.
-use Rattle.std.proofs.Common.{OnErr, ◌≡◌, ◌≢◌, ℕ, ◌+◌, ◌≤◌, ◌==◌, Bool, true, false, cond, List, [], ◌∷◌, ◌++◌, Option, Some, None, Result, Ok, Err, IsOk, length, map, refl, ap, sym, ◌∙◌, arith, length-append, append_assoc, subst, inl, inr, zero-add, eq-eqb, if◌then◌else◌}
+use Rattle.std.proofs.Common.{OnErr, ◌≡◌, ◌≢◌, ℕ, ◌≤◌, ◌==◌, List, [], ◌∷◌, ◌++◌, Option, Some, None, Result, Ok, Err, IsOk, length, map, refl, ap, sym, ◌∙◌, arith, length-append, append_assoc, subst, inl, inr, eq-eqb, if◌then◌else◌}
 use Rattle.std.proofs.lemmas.List.{append-nil, map-append}
 use Rattle.std.proofs.lemmas.Bool.{ne_eqb}
 use Rattle.std.proofs.lemmas.Bool.Decides.{eqb_tells}
 use Rattle.cm_base.specs.declared.number.Moment.{Moment}
 use Rattle.desk_model.specs.declared.entry.Entry.{Entry}
-use Rattle.desk_model.specs.Histories.{replay, IsLegal, own, IsNumbered, CountsFrom, shown_by}
+use Rattle.desk_model.specs.Histories.{replay, own, shown_by}
 use Rattle.desk_model.proofs.Replays.{legal-append}
-use Rattle.desk_model.proofs.OwnEntries.{own-mine, own-other, counts-more}
+use Rattle.desk_model.proofs.OwnEntries.{own-mine, own-other}
 use Rattle.desk_core.proofs.Holdings.{numbered-more}
 use Rattle.desk_core.specs.declared.event.Event.{Event}
 use Rattle.desk_core.specs.declared.event.Event.TheVariants.{Enter, Write, Look, Ask}
 use Rattle.desk_core.specs.declared.event.Done.{Done}
-use Rattle.desk_core.specs.declared.event.Done.TheVariants.{Wrote}
 use Rattle.desk_core.specs.declared.event.CoreStop.{CoreStop}
 use Rattle.desk_core.specs.declared.event.CoreStop.TheVariants.{Unknown}
 use Rattle.desk_core.specs.Interleaving.{Rules, World, IsLawful, Request, holds, entry_by, verdict, judged, if_entered, happens, told, wrote, run, answers, accepted, accepted_by, request_of, state_now, holding}

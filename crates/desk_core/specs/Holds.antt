@@ -1,9 +1,8 @@
 -- What the core keeps for each session.
-use Rattle.std.specs.Prelude.{◌≡◌, ℕ, ◌≤◌, List, Option, Some, None, Result, length, map}
+use Rattle.std.specs.Prelude.{◌≡◌, ℕ, List, Some, None, length, map}
 use Rattle.std.specs.Ordering.{nat_cmp}
 use Rattle.std.specs.FinMap.Entries.{find}
 use mathlib.Core.List.{IsPrefix}
-use Rattle.desk_model.specs.declared.entry.Entry.{Entry}
 use Rattle.desk_model.specs.Histories.{History, own, IsNumbered}
 use Rattle.desk_core.specs.Interleaving.{World}
 

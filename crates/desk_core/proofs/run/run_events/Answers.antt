@@ -1,4 +1,4 @@
-use Rattle.std.proofs.Common.{◌≡◌, ◌++◌, ◌∷◌, [], ◌∙◌, sym, ap, refl}
+use Rattle.std.proofs.Common.{◌++◌, ◌∷◌, [], sym, refl}
 use Rattle.desk_core.specs.Interleaving.{Rules}
 use Rattle.desk_core.proofs.Runs.{both-more, one-moves, on_err}
 use Rattle.desk_core.proofs.run.run_events.Goals as goal

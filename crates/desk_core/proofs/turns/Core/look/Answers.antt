@@ -1,4 +1,3 @@
-use Rattle.std.proofs.Common.{◌≡◌, ◌∙◌, ap, sym}
 use Rattle.std.specs.Arc.{arc_value}
 use Rattle.desk_core.proofs.Holdings.{core-puts}
 use Rattle.desk_core.proofs.CoreSteps.{whole-hold, looked}

@@ -1,4 +1,4 @@
-use Rattle.std.proofs.Common.{◌≡◌, ◌∙◌, ◌≤◌, ◌+◌, ap, sym, refl, arith}
+use Rattle.std.proofs.Common.{◌∙◌, ◌+◌, ap, refl, arith}
 use Rattle.std.specs.Arc.{arc_value}
 use Rattle.desk_core.specs.Interleaving.{Rules}
 use Rattle.desk_core.specs.Holds.{world_of}
