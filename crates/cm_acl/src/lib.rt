@@ -1,2 +1,5 @@
 //! Access control lists: levels and changes.
 #![tactic(auto)]
+
+pub mod change;
+pub mod level;

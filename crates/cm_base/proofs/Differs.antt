@@ -48,6 +48,7 @@ again false false b c d p f = ap (λ k. not (c || d) && k) (absurd_of p) ∙ bot
   where
     absurd_of : {A : Type 0} → false ≡ true → A
     absurd_of e = cc e
+
     both : (d : Bool) → (not d && false) ≡ false
     both true = refl
     both false = refl

@@ -1,6 +1,6 @@
 -- Texts of digits: they are UTF-8, and parse where they are below 2^64.
-use Rattle.std.proofs.Common.{◌≡◌, ℕ, ◌<◌, ◌≤◌, ◌^◌, ◌&&◌, Bool, true, false, List, [], ◌∷◌, refl, sym, ◌∙◌, ap, rules, arith, zero, suc}
-use Rattle.std.specs.Prelude.{Result, Ok, Option, Some, None, nat_lt, if◌then◌else◌, slice_index}
+use Rattle.std.proofs.Common.{◌≡◌, ℕ, ◌<◌, ◌^◌, ◌&&◌, Bool, true, false, List, [], ◌∷◌, refl, rules, arith, zero, suc}
+use Rattle.std.specs.Prelude.{Result, Ok, Some, None, nat_lt, if◌then◌else◌}
 use Rattle.std.specs.Char.{is_ascii_digit}
 use Rattle.std.specs.List.{list_all}
 use Rattle.std.specs.Str.{IsUtf8, IsAscii}

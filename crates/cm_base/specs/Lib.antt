@@ -6,5 +6,6 @@ pub mod Judged
 pub mod Names
 pub mod OrderLaws
 pub mod Orders
+pub mod States
 pub mod UserLists
 pub mod Whole

@@ -21,6 +21,9 @@ pub mod object;
 pub mod pieces;
 pub mod series;
 pub mod shown;
+pub mod steps;
+#[cfg(test)]
+mod tests;
 pub mod text;
 pub mod user;
 pub mod users;

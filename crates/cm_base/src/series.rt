@@ -1,5 +1,6 @@
 //! Version series of documents (CMIS 1.1, section 2.1.13).
 ghost use Rattle.std.specs.Prelude.{◌≡◌};
+ghost use Rattle.cm_base.specs.States.{state_word, state_of_word};
 
 use crate::copies::Copies;
 use crate::items::Items;
@@ -50,6 +51,37 @@ pub enum VersioningState {
     CheckedOut,
     Minor,
     Major,
+}
+
+impl VersioningState {
+    /// The word that a request has for it.
+    pub fn word(self) -> &'static str
+        ensures { result.now ≡ state_word self }
+    {
+        match self {
+            VersioningState::None => "none",
+            VersioningState::CheckedOut => "checkedout",
+            VersioningState::Minor => "minor",
+            VersioningState::Major => "major",
+        }
+    }
+
+    /// The state with this word.
+    pub fn of_word(word: &str) -> Option<VersioningState>
+        ensures { result ≡ state_of_word word.now }
+    {
+        if word == "none" {
+            Some(VersioningState::None)
+        } else if word == "checkedout" {
+            Some(VersioningState::CheckedOut)
+        } else if word == "minor" {
+            Some(VersioningState::Minor)
+        } else if word == "major" {
+            Some(VersioningState::Major)
+        } else {
+            None
+        }
+    }
 }
 
 impl Copies for DocumentVersion {

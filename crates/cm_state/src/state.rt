@@ -6,7 +6,6 @@ use cm_base::log::Changes;
 use cm_base::object::Objects;
 use cm_base::series::SeriesList;
 use cm_base::text::Texts;
-use cm_base::user::Groups;
 use cm_types::definition::TypeDefs;
 use std::marker::Model;
 
@@ -15,7 +14,8 @@ use std::marker::Model;
 pub struct State {
     pub(crate) types: TypeDefs,
     pub(crate) users: Texts,
-    pub(crate) groups: Groups,
+    /// The groups of every caller: none, as long as no groups can be named.
+    pub(crate) no_groups: Texts,
     pub(crate) objects: Objects,
     pub(crate) series: SeriesList,
     pub(crate) filed: FiledPairs,
@@ -30,6 +30,7 @@ pub struct State {
 }
 
 impl Model for State {
+    ghost use Rattle.std.specs.Prelude.{◌≡◌, []};
     ghost use Rattle.cmis_spec.specs.Repository.{Repository};
     ghost use Rattle.cmis_spec.specs.Well.{IsWellFormed};
     ghost use Rattle.cm_state.specs.Kept.{repository_of};
@@ -38,5 +39,5 @@ impl Model for State {
 
     ghost view = { repository_of };
 
-    ghost invariant = { λ s. IsWellFormed (repository_of s) };
+    ghost invariant = { λ s. IsWellFormed (repository_of s) × (s.no_groups ≡ []) };
 }

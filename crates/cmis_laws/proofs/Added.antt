@@ -1,5 +1,5 @@
 -- An object more: what each fact says of it, and that what was there stays there.
-use Rattle.std.specs.Prelude.{◌≡◌, ℕ, ◌+◌, ◌<◌, ◌≤◌, true, false, not, List, ◌++◌, map, All, Option, Some, None, IfSome, is_some, unwrap_or, decimal, bytes_eq, codes}
+use Rattle.std.specs.Prelude.{◌≡◌, ℕ, ◌+◌, ◌<◌, ◌≤◌, true, false, not, List, ◌++◌, map, All, Option, Some, None, IfSome, is_some, unwrap_or, option_and_then, bytes_eq, codes}
 use Rattle.std.proofs.Common.{refl, sym, ap, subst, ◌∙◌, inl, inr, arith}
 use Rattle.std.proofs.lemmas.Bool.{both_ways}
 use Rattle.std.proofs.lemmas.List.Elements.{All-push, All-append, All-weaker, All-map}
@@ -12,6 +12,7 @@ use Rattle.cm_types.specs.declared.definition.BaseType.TheVariants as bases
 use Rattle.cm_types.specs.Types.{props_of}
 use Rattle.cm_types.specs.Properties.{value_in, texts_of}
 use Rattle.cmis_spec.specs.Repository.{Repository, same, object_at, series_at, is_a, entry_of, entry_name, new_number}
+use Rattle.cmis_spec.specs.Access.{oid_named}
 use Rattle.cmis_spec.specs.Changes.{with_object}
 use Rattle.cmis_spec.specs.Well.{Apart, IsThere, IsBaseAt, IsEntryAt, HasNumbers, HasSeriesNumbers, HasFirsts, HasRenditions, IsRendition, IsPair, HasNames, Differ, HasDocuments, Belongs, HasSeries, IsMember, members, HasSome, HasPlain, IsAlone, is_plain, HasOwnNames, is_version, HasRelationships, IsEnd, HasEnds, HasPolicies, HasAccess, IsAccess, IsAceList, HasContents, HasTyped, IsTyped, HasKept, IsKept, HasTokens, HasBounds, IsWellFormed}
 use Rattle.cmis_laws.proofs.Lists.{find_more, find_last, find_none, find_passed_over, apart_push, apart_weaker, all_zip, same_refl}
@@ -125,8 +126,12 @@ module _ (r : Repository) (x : Object) (aces : List Ace) (policies : List Oid) (
   pub own_names_with : HasOwnNames after
   own_names_with = All-push (λ y. is_some y.name ≡ not (is_version r y)) r.objects x w.own_names (rw f.alone f.named)
 
+  named_stays : (n : Option Oid) (y : Object) → option_and_then (object_at r) n ≡ Some y → option_and_then (object_at after) n ≡ Some y
+  named_stays None y h = h
+  named_stays (Some n) y h = object_stays n y h
+
   ends_with : (y : Object) → HasEnds r y → HasEnds after y
-  ends_with y h = All-weaker (IsEnd r) (IsEnd after) (λ t e. (e.0, find_more (λ z. bytes_eq (decimal z.id.0) t) r.objects x e.0 e.1, e.2))
+  ends_with y h = All-weaker (IsEnd r) (IsEnd after) (λ t e. (e.0, named_stays (oid_named t) e.0 e.1, e.2))
       (texts_of (value_in y.values (codes "cmis:sourceId")) ++ texts_of (value_in y.values (codes "cmis:targetId"))) h
 
   pub relationships_with : HasRelationships after

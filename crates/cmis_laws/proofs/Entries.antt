@@ -28,8 +28,8 @@ not_both r x a b other h = by (base_of r.types x.kind) h
     by : (o : Option BaseType) → unwrap_or (option_map (same_base a) o) false ≡ true → unwrap_or (option_map (same_base b) o) false ≡ false
     by None h = refl
     by (Some c) h = by_test (same_base b c)
-      (λ e. absurd (both_ways (same_base a b) other (subst (λ d. same_base a d ≡ true) (sym (base_eq b c e)) h)))
-      (λ e. e)
+        (λ e. absurd (both_ways (same_base a b) other (subst (λ d. same_base a d ≡ true) (sym (base_eq b c e)) h)))
+        (λ e. e)
 
 -- ---- numbers
 

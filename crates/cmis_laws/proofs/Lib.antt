@@ -3,6 +3,7 @@ pub mod Entries
 pub mod Lists
 pub mod Made
 pub mod Objects
+pub mod Opening
 pub mod Paired
 pub mod Placed
 pub mod Steps

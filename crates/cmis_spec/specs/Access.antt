@@ -2,6 +2,7 @@
 use Rattle.std.specs.Prelude.{ℕ, zero, suc, nat_lt, nat_le, Bool, true, false, ◌&&◌, ◌||◌, not, if◌then◌else◌, List, [], ◌∷◌, map, filter, fold, find, decimal, Option, Some, None, is_some, is_none, unwrap_or, option_map, option_and_then, bytes_eq, codes}
 use Rattle.std.specs.List.{list_any, list_all}
 use Rattle.cm_base.specs.declared.number.Oid.{Oid}
+use Rattle.cm_base.specs.Decimals.{decimal_u64}
 use Rattle.cm_base.specs.declared.object.Object.{Object}
 use Rattle.cm_base.specs.declared.access.Ace.{Ace}
 use Rattle.cm_base.specs.declared.access.Level.{Level}
@@ -83,9 +84,13 @@ reads_end r u x =
     if is_a r bases.Folder x then reads_up levels_up r u x.id
     else is_at_least levels.Read (level_of_caller r u x)
 
+-- the number that an id names: a decimal number without a sign or a leading zero
+abbrev pub oid_named : List ℕ → Option Oid
+oid_named id = option_map (λ n. record { 0 = n }) (decimal_u64 id)
+
 -- the object whose id is this text
 abbrev pub object_named : Repository → List ℕ → Option Object
-object_named r id = find (λ x. bytes_eq (decimal x.id.0) id) r.objects
+object_named r id = option_and_then (object_at r) (oid_named id)
 
 -- every object that the property names is there and is read
 abbrev pub reads_ends : Repository → List ℕ → Object → List ℕ → Bool

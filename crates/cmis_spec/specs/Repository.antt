@@ -1,6 +1,8 @@
 -- The repository as plain lists and numbers (CMIS 1.1, section 2.1), how it begins, and what is looked up in it.
 use Rattle.std.specs.Prelude.{ℕ, zero, suc, ◌==◌, Bool, true, false, ◌&&◌, ◌-◌, not, if◌then◌else◌, List, [], ◌∷◌, ◌++◌, map, filter, find, slice_get, length, Option, Some, None, unwrap_or, option_map, option_and_then, bytes_eq, codes}
 use Rattle.std.specs.List.{list_any}
+use Rattle.core.specs.Ordering.{nat_cmp, is_lt}
+use Rattle.core.specs.Cmp.Lexicographic.{slice_cmp}
 use Rattle.cm_base.specs.declared.number.Oid.{Oid}
 use Rattle.cm_base.specs.declared.number.Moment.{Moment}
 use Rattle.cm_base.specs.declared.object.Object.{Object}
@@ -92,10 +94,15 @@ root_folder maker m step = record {
   token = step;
   series = None }
 
--- the list of the root: the administrator may do anything, and anyone may read
+-- the list of the root: the administrator may do anything, and anyone may read; the entries stand in byte order of the principals
+abbrev pub root_aces : List ℕ → List Ace
+root_aces administrator =
+    let own : Ace = record { principal = administrator; level = levels.All } in
+    let others : Ace = record { principal = codes "anyone"; level = levels.Read } in
+    if is_lt (slice_cmp nat_cmp administrator (codes "anyone")) then own ∷ others ∷ [] else others ∷ own ∷ []
+
 abbrev pub root_access : List ℕ → AccessList
-root_access administrator = record { at = root; aces =
-  record { principal = administrator; level = levels.All } ∷ record { principal = codes "anyone"; level = levels.Read } ∷ [] }
+root_access administrator = record { at = root; aces = root_aces administrator }
 
 -- the root alone, made by the administrator at this moment, with this step number
 abbrev pub opening : List TypeDef → List User → Moment → ℕ → Repository

@@ -1,5 +1,5 @@
 -- A repository that is well formed: a record of named facts, each about the lists that it names (CMIS 1.1, section 2.1).
-use Rattle.std.specs.Prelude.{◌≡◌, ℕ, zero, suc, ◌+◌, ◌<◌, ◌≤◌, Bool, true, false, ◌&&◌, ◌||◌, not, ◌⊎◌, List, [], ◌∷◌, ◌++◌, map, length, All, count_by, bytes_eq, codes, decimal, Option, Some, None, IfSome, is_some, is_none, option_map, unwrap_or}
+use Rattle.std.specs.Prelude.{if◌then◌else◌, ◌≡◌, ℕ, zero, suc, ◌+◌, ◌<◌, ◌≤◌, Bool, true, false, ◌&&◌, ◌||◌, not, ◌⊎◌, List, [], ◌∷◌, ◌++◌, map, length, All, count_by, bytes_eq, codes, decimal, Option, Some, None, IfSome, is_some, is_none, option_map, unwrap_or}
 use Rattle.std.specs.List.{list_any}
 use Rattle.core.specs.Ordering.{nat_cmp, ordering_then}
 use Rattle.core.specs.Cmp.Lexicographic.{slice_cmp}
@@ -15,15 +15,17 @@ use Rattle.cm_base.specs.declared.series.DocumentVersion.{DocumentVersion}
 use Rattle.cm_base.specs.declared.series.Label.{Label}
 use Rattle.cm_base.specs.declared.content.Content.{Content}
 use Rattle.cm_base.specs.declared.content.Rendition.{Rendition}
+use Rattle.cm_base.specs.declared.value.Value.{Value}
+use Rattle.cm_base.specs.declared.value.Value.TheVariants.{Unset}
 use Rattle.cm_types.specs.declared.definition.TypeDef.{TypeDef}
 use Rattle.cm_types.specs.declared.definition.BaseType.{BaseType}
 use Rattle.cm_types.specs.declared.definition.BaseType.TheVariants as bases
 use Rattle.cm_types.specs.declared.property.PropDef.{PropDef}
-use Rattle.cm_types.specs.Types.{type_in, props_of, longest_chain}
+use Rattle.cm_types.specs.Types.{type_in, is_of_base, props_of, longest_chain}
 use Rattle.cm_types.specs.Properties.{value_in, texts_of, value_fault, is_faulty}
 use Rattle.cmis_spec.specs.Repository.{Repository, same, root, most_levels, most_steps, most_cost, object_at, series_at, is_a, type_of, entry_name, parent_in}
 use Rattle.cmis_spec.specs.Access.{object_named, rank}
-use Rattle.cmis_spec.specs.Values.{form_value}
+use Rattle.cmis_spec.specs.Values.{words, texts, is_apart_single, form_value}
 
 -- each of the list stands so to each after it
 abbrev pub Apart : {A : Type 0} → (A → A → Type 0) → List A → Type 0
@@ -196,22 +198,28 @@ ends_at_base zero types id = false
 ends_at_base (suc n) types id = unwrap_or (option_map (λ t. unwrap_or (option_map (ends_at_base n types) t.parent) true) (type_in types id)) false
 
 -- type ids and query names are unique, and each chain ends at a base type
-abbrev pub HasTypes : Repository → Type 0
-HasTypes r =
-    Apart (λ s t. bytes_eq s.id t.id ≡ false) r.types
-    × Apart (λ s t. bytes_eq s.query_name t.query_name ≡ false) r.types
-    × All (λ t. ends_at_base longest_chain r.types t.id ≡ true) r.types
+abbrev pub HasTypes : List TypeDef → Type 0
+HasTypes types =
+    Apart (λ s t. bytes_eq s.id t.id ≡ false) types
+    × Apart (λ s t. bytes_eq s.query_name t.query_name ≡ false) types
+    × All (λ t. ends_at_base longest_chain types t.id ≡ true) types
 
 -- no other property has this one's id or query name
 abbrev pub Agrees : PropDef → List PropDef → Type 0
 Agrees d defs = All (λ e. (bytes_eq d.id e.id || bytes_eq d.query_name e.query_name) ≡ true → d ≡ e) defs
 
+-- the name, the type and the secondary types are kept beside the other values: every text that stands there is a value of their properties
+abbrev pub TakesTexts : PropDef → Type 0
+TakesTexts d =
+    (is_apart_single d.id ≡ true → (t : List ℕ) → value_fault d (words t) ≡ None)
+    × (bytes_eq d.id (codes "cmis:secondaryObjectTypeIds") ≡ true → (d.required ≡ false) × ((ts : List (List ℕ)) → value_fault d (texts ts) ≡ None))
+
 -- and its default value has no fault of its own
 abbrev pub IsDef : List TypeDef → PropDef → Type 0
-IsDef types d = All (λ t. Agrees d t.properties) types × (value_fault d d.default ≡ None)
+IsDef types d = All (λ t. Agrees d t.properties) types × (value_fault d d.default ≡ None) × TakesTexts d
 
-abbrev pub HasDefs : Repository → Type 0
-HasDefs r = All (λ t. All (IsDef r.types) t.properties) r.types
+abbrev pub HasDefs : List TypeDef → Type 0
+HasDefs types = All (λ t. All (IsDef types) t.properties) types
 
 -- no value that a form or a default may give has a fault, or is missing
 abbrev pub IsKept : Repository → List PropDef → Object → Type 0
@@ -255,9 +263,25 @@ pub record IsWellFormed (r : Repository) : Type 0 where
   pub access : HasAccess r
   pub contents : HasContents r
   pub typed : HasTyped r
-  pub types : HasTypes r
-  pub defs : HasDefs r
+  pub types : HasTypes r.types
+  pub defs : HasDefs r.types
   pub kept : HasKept r
   pub bounds : HasBounds r
   pub tokens : HasTokens r
   pub labels : HasLabels r
+
+-- ---- how a repository begins
+
+-- the value of a property of the root that was just made
+abbrev pub root_value : List ℕ → Value
+root_value id =
+    if bytes_eq id (codes "cmis:name") then words (codes "root")
+    else if bytes_eq id (codes "cmis:objectTypeId") then words (codes "cmis:folder")
+    else Unset
+
+-- types with which a repository may begin: they are well formed, and the root is a folder of them without a fault
+pub record MayOpen (types : List TypeDef) : Type 0 where
+  pub well : HasTypes types
+  pub defs : HasDefs types
+  pub folder : is_of_base types bases.Folder (codes "cmis:folder") ≡ true
+  pub root : All (λ d. is_faulty d (root_value d.id) ≡ false) (props_of types (codes "cmis:folder") [])

@@ -1,4 +1,4 @@
-use Rattle.std.proofs.Common.{◌≡◌, ◌∙◌, sym, arith, Bor, List, [], ℕ}
+use Rattle.std.proofs.Common.{◌∙◌, sym, arith, Bor, List, [], ℕ}
 use Rattle.std.proofs.lemmas.List.Folds.{list_all-map, list_all_at}
 use Rattle.cm_base.specs.UserLists.{is_user}
 use Rattle.cm_base.proofs.users.are_users.Goals as goal

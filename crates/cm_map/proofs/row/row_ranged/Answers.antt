@@ -1,4 +1,4 @@
-use Rattle.std.proofs.Common.{Option, IsSome, subst, ◌++◌, map, sym, ap, ◌∙◌, flat_map}
+use Rattle.std.proofs.Common.{Option, IsSome, subst, ◌++◌, map, sym, ap, ◌∙◌}
 use Rattle.std.specs.Arc.{arc_value}
 use Rattle.map_keys.specs.Parts.{pointee, first_of}
 use Rattle.map_keys.proofs.Ranging.{all_between, sorted_between, between_same, kept_between}

@@ -1,0 +1,4 @@
+//! Indexes: sets of pairs by key.
+#![tactic(auto)]
+
+pub mod index;

@@ -1,0 +1,104 @@
+//! Lists in the order of their members' numbers.
+ghost use Rattle.std.specs.Prelude.{◌≡◌, ℕ, ◌==◌, ◌<◌, List, [], ◌∷◌, ◌++◌, All, map, find, filter, not, is_some, length, if◌then◌else◌, true, IfOk, option_copied};
+ghost use Rattle.cm_lists.specs.Keyed.{keyed, Rises};
+ghost use Rattle.cm_map.specs.Rests.{rest};
+
+use cm_map::iter::Iter;
+use cm_map::map::Map;
+use std::alloc::{AllocError, Global};
+use std::marker::Model;
+
+/// What has a number.
+pub trait Numbered: Drop {
+    ghost number: { Self → ℕ };
+
+    /// Its number.
+    fn number(&self) -> u64
+        ensures { result ≡ number self.now };
+}
+
+/// A list whose members' numbers rise. A change leaves the old list as it was, and shares with it all but a few blocks.
+#[derive(Drop)]
+pub struct Table<V: Numbered> {
+    entries: Map<u64, V>,
+}
+
+impl<V: Numbered> Model for Table<V> {
+    ghost use Rattle.std.specs.Prelude.{List, map, ◌≡◌};
+    ghost use Rattle.cm_lists.specs.Keyed.{keyed};
+
+    ghost Value = { List V };
+
+    ghost view = { λ t. map (λ e. e.1) t.entries };
+
+    ghost invariant = { λ t. t.entries ≡ keyed V.number (map (λ e. e.1) t.entries) };
+}
+
+impl<V: Numbered> Table<V> {
+    /// The empty list, which takes no memory.
+    pub fn empty(alloc: Global) -> Table<V>
+        ensures { result ≡ [] }
+    {
+        Table {
+            entries: Map::empty(alloc),
+        }
+    }
+
+    /// The number of members.
+    pub fn len(&self) -> u64
+        ensures { result ≡ length self.now }
+    {
+        self.entries.len()
+    }
+
+    /// The member with this number. It takes no memory, and compares about as many numbers as the length has binary digits.
+    pub fn get(&self, number: u64) -> Option<&V>
+        ensures { option_copied result ≡ find (λ x. V.number x == number) self.now }
+    {
+        self.entries.get(&number)
+    }
+
+    /// The list with a member at its end, whose number is above all others.
+    pub fn with_last(&self, alloc: Global, member: V) -> Result<Table<V>, AllocError>
+        requires above { All (λ x. V.number x < V.number member) self.now }
+        ensures { IfOk result (λ t. t ≡ self.now ++ member ∷ []) }
+    {
+        let number = member.number();
+        let entries = self.entries.with(alloc, number, member)?;
+        Ok(Table { entries })
+    }
+
+    /// The list with a member in place of the one that has its number.
+    pub fn with_member(&self, alloc: Global, member: V) -> Result<Table<V>, AllocError>
+        requires rising { Rises V.number self.now }
+        requires there { is_some (find (λ x. V.number x == V.number member) self.now) ≡ true }
+        ensures { IfOk result (λ t. t ≡ map (λ x. if V.number x == V.number member then member else x) self.now) }
+    {
+        let number = member.number();
+        let entries = self.entries.with(alloc, number, member)?;
+        Ok(Table { entries })
+    }
+
+    /// The list without the member that has this number, or the same where none has it.
+    pub fn without(&self, alloc: Global, number: u64) -> Result<Table<V>, AllocError>
+        ensures { IfOk result (λ t. t ≡ filter (λ x. not (V.number x == number)) self.now) }
+    {
+        let entries = self.entries.without(alloc, &number)?;
+        Ok(Table { entries })
+    }
+
+    /// The same list once more, which shares every member.
+    pub fn share(&self, alloc: Global) -> Result<Table<V>, AllocError>
+        ensures { IfOk result (λ t. t ≡ self.now) }
+    {
+        let entries = self.entries.share(alloc)?;
+        Ok(Table { entries })
+    }
+
+    /// The members in order, each behind its number; no memory is taken.
+    pub fn iter(&self) -> Iter<'_, u64, V>
+        ensures { map (λ e. e.1) (rest result) ≡ self.now }
+    {
+        self.entries.iter()
+    }
+}
