@@ -1,21 +1,19 @@
 -- Where all entries of a history are a session's own, nothing in its turns is left open.
-use Rattle.std.proofs.Common.{◌≡◌, ℕ, ◌+◌, ◌-◌, ◌≤◌, ◌<◌, nat_lt, Bool, true, List, [], ◌∷◌, ◌++◌, Option, Some, None, Result, Ok, Err, length, take, map, refl, ap, sym, ◌∙◌, arith, append_assoc, length-append, subst, if◌then◌else◌}
+use Rattle.std.proofs.Common.{◌≡◌, ℕ, ◌≤◌, Bool, List, [], ◌∷◌, ◌++◌, Option, Some, None, Ok, length, take, refl, ap, sym, ◌∙◌, arith, length-append, subst}
 use Rattle.std.proofs.lemmas.List.{append-nil}
 use Rattle.std.proofs.lemmas.Bool.{lt-ltb, le-ltb}
 use mathlib.Core.List.{IsPrefix}
 use Rattle.outside.specs.Clocks.{Words, first_word, rest_words}
-use Rattle.cm_base.specs.declared.cause.Cause.{Cause}
 use Rattle.cm_base.specs.declared.number.Moment.{Moment}
-use Rattle.cm_base.specs.declared.user.User.{User}
 use Rattle.desk_model.specs.declared.entry.Entry.{Entry}
 use Rattle.desk_model.specs.Clocks.{moment_of}
-use Rattle.desk_model.specs.Histories.{replay, own, shown_by}
-use Rattle.http_grammar.specs.Request.{Head, Request}
+use Rattle.desk_model.specs.Histories.{replay, shown_by}
+use Rattle.http_grammar.specs.Request.{Head}
 use Rattle.talk.specs.Served.{Kind, Ask, faulty, writes, reads, ask_of}
-use Rattle.talk.specs.Requests.{Arrived, is_last, interim_of}
-use Rattle.talk.specs.Session.{Setting, Turn, Does, Accepted, Refused, ahead, refused, IsTurn, AreTurns, number_at, listed, entries, last_place, requests, sent, timed, moments}
+use Rattle.talk.specs.Requests.{is_last, interim_of}
+use Rattle.talk.specs.Session.{Setting, Turn, Does, Accepted, Refused, ahead, refused, AreTurns, number_at, listed, entries, last_place, requests, sent, timed, moments}
 use Rattle.talk.specs.Told.{Gives}
-use Rattle.talk.specs.Alone.{Progress, alone_at, after_ask, after_requests, next_entry}
+use Rattle.talk.specs.Alone.{Progress, after_ask, after_requests, next_entry}
 use Rattle.talk.proofs.ListFacts.{prefix-trans, prefix-append, take-front, snoc-inj, length_map}
 
 -- a turn leads from the number of the session's entries to a prefix with at least as many
@@ -101,7 +99,7 @@ turns-alone kind at after h (t ∷ ts) u v none q pre le g =
     let split = gives-split u (moments kind at ts) (timed ask t.moment) (Some v) g in
     let here : t.place ≡ length (entries (t ∷ ts)) = omega (arith, le, places-up kind at after h (t ∷ ts) none q) in
     let before = turns-alone kind at after h ts u split.0 none q.0 (prefix-trans (entries ts) (entries (t ∷ ts)) h (prefix-append (entries ts) (listed t.wrote)) pre)
-        (does-down kind at (length (entries ts)) (last_place at.before ts) t.place (take t.place h) head (is_last kind.wire (length ts) head) ask t.wrote t.moment t.text (entries ts) le q.1.does) split.1 in
+    (does-down kind at (length (entries ts)) (last_place at.before ts) t.place (take t.place h) head (is_last kind.wire (length ts) head) ask t.wrote t.moment t.text (entries ts) le q.1.does) split.1 in
     let does = rw (take-front (entries (t ∷ ts)) h t.place pre here) at q.1.does in
     ap (λ a. after_ask kind at a head (is_last kind.wire (length (requests ts)) head) ask) before
     ∙ (ap (λ n. after_ask kind at (progress (entries ts) (sent kind.wire ts) split.0) head (is_last kind.wire n head) ask) (length_map (λ (t : Turn _). t.arrived) ts)

@@ -8,16 +8,15 @@ use Rattle.desk_model.specs.declared.entry.Entry.{Entry}
 use Rattle.desk_model.specs.Histories.{own}
 use Rattle.http_grammar.specs.declared.fault.HttpFault.{HttpFault}
 use Rattle.http_grammar.specs.declared.fault.HttpFault.TheVariants.{Cut}
-use Rattle.http_grammar.specs.First.{First, Fault, IsPending}
+use Rattle.http_grammar.specs.First.{Fault, IsPending}
 use Rattle.talk.specs.declared.end.End.{End}
 use Rattle.talk.specs.declared.end.End.TheVariants.{Ended, Bad, ReadFault, WriteFault, Starved}
 use Rattle.talk.specs.Served.{Kind}
 use Rattle.talk.specs.Wire.{Wire}
-use Rattle.talk.specs.Requests.{Arrived, rest_after, IsOpen, AreRequests, Due, interim, no_interim, HasFault, at_front, cut, AtEnd, closed, at_border, IsBad}
-use Rattle.talk.specs.Session.{Setting, Turn, requests, sent, entries, moments, last_place, AreTurns, IsCutOff, Session}
+use Rattle.talk.specs.Requests.{Arrived, rest_after, Due, interim, no_interim, HasFault, at_front, cut, AtEnd, closed, at_border, IsBad}
+use Rattle.talk.specs.Session.{Setting, Turn, requests, sent, entries, last_place, AreTurns, Session}
 use Rattle.talk.specs.Told.{Gives}
-use Rattle.talk.specs.Alone.{Alone, EndsAlone, IsFinal, alone_at, after_requests}
-use Rattle.talk.proofs.ListFacts.{prefix-append}
+use Rattle.talk.specs.Alone.{Alone, IsFinal, alone_at, after_requests}
 use Rattle.talk.proofs.WireLaws.{GrammarLaws, rest_more, requests_more, due_more}
 use Rattle.talk.proofs.Alones.{turns-alone, progress}
 
@@ -138,22 +137,27 @@ session-cut-off kind opening users after h input over output times read_failed w
 
     by_rest : (rest_after input (requests s.turns) ≡ []) ⊎ IsPending (rest_after input (requests s.turns)) → (end : End) × Alone kind opening users words input output end h
     by_rest (inl empty) =
-        let none : s.ends.0.due ≡ [] = due_empty kind.wire law s.ends.0.due (subst (λ r. Due kind.wire r s.ends.0.due) empty s.ends.0.is_due) in
-        (Ended, record {
-          arrived = requests s.turns;
-          are_requests = s.are_requests;
-          history = rw is refl;
-          ends = rw is (at_border s.ends.0.still_open empty refl, s.ends.0.output_is ∙ (ap (λ d. sent kind.wire s.turns ++ d) none ∙ append-nil (sent kind.wire s.turns)));
-        })
-    by_rest (inr pending) = (Bad Cut, record {
-      arrived = requests s.turns;
-      are_requests = s.are_requests;
-      history = rw is refl;
-      ends = rw is (record {
-        still_open = s.ends.0.still_open;
-        has_fault = cut refl pending refl;
-        due = s.ends.0.due;
-        is_due = s.ends.0.is_due;
-        output_is = s.ends.0.output_is ∙ ap (λ d. sent kind.wire s.turns ++ d) (sym (append-nil s.ends.0.due));
-      });
-    })
+        let none : s.ends.0.due ≡ [] = due_empty kind.wire law s.ends.0.due (subst (λ r. Due kind.wire r s.ends.0.due) empty s.ends.0.is_due) in (
+          Ended,
+          record {
+            arrived = requests s.turns;
+            are_requests = s.are_requests;
+            history = rw is refl;
+            ends = rw is (at_border s.ends.0.still_open empty refl, s.ends.0.output_is ∙ (ap (λ d. sent kind.wire s.turns ++ d) none ∙ append-nil (sent kind.wire s.turns)));
+          },
+        )
+    by_rest (inr pending) = (
+      Bad Cut,
+      record {
+        arrived = requests s.turns;
+        are_requests = s.are_requests;
+        history = rw is refl;
+        ends = rw is (record {
+          still_open = s.ends.0.still_open;
+          has_fault = cut refl pending refl;
+          due = s.ends.0.due;
+          is_due = s.ends.0.is_due;
+          output_is = s.ends.0.output_is ∙ ap (λ d. sent kind.wire s.turns ++ d) (sym (append-nil s.ends.0.due));
+        });
+      },
+    )

@@ -1,12 +1,12 @@
 -- A session stands over a longer history with the same own entries.
-use Rattle.std.proofs.Common.{◌≡◌, ℕ, ◌+◌, ◌≤◌, Bool, List, [], ◌∷◌, ◌++◌, length, take, refl, ap, sym, ◌∙◌, arith}
+use Rattle.std.proofs.Common.{◌≡◌, ℕ, ◌≤◌, Bool, List, [], ◌∷◌, length, ◌∙◌, arith}
 use mathlib.Core.List.{IsPrefix}
 use Rattle.cm_base.specs.declared.number.Moment.{Moment}
 use Rattle.desk_model.specs.declared.entry.Entry.{Entry}
 use Rattle.desk_model.specs.Histories.{own}
 use Rattle.talk.specs.declared.end.End.{End}
 use Rattle.talk.specs.Served.{Kind}
-use Rattle.talk.specs.Session.{Setting, Turn, IsTurn, AreTurns, Session}
+use Rattle.talk.specs.Session.{Setting, Turn, AreTurns, Session}
 use Rattle.talk.proofs.ListFacts.{prefix-le, take-prefix}
 
 -- the history may go on, and more of it may be seen

@@ -1,5 +1,5 @@
 -- The session alone has one output, one end and one history.
-use Rattle.std.proofs.Common.{◌≡◌, ℕ, ◌+◌, ◌≤◌, ◌<◌, ◌⊎◌, Bool, true, false, List, [], ◌∷◌, ◌++◌, length, refl, ap, sym, ◌∙◌, arith, length-append, subst, inl, inr}
+use Rattle.std.proofs.Common.{◌≡◌, ℕ, ◌+◌, ◌≤◌, ◌<◌, ◌⊎◌, Bool, true, List, [], ◌∷◌, ◌++◌, length, refl, ap, sym, ◌∙◌, arith, length-append, subst, inl, inr}
 use Rattle.std.proofs.lemmas.List.{append-nil}
 use Rattle.std.proofs.lemmas.Bool.{cases_lt}
 use Rattle.outside.specs.Clocks.{Words}
@@ -12,7 +12,7 @@ use Rattle.talk.specs.declared.end.End.{End}
 use Rattle.talk.specs.declared.end.End.TheVariants.{Ended, Bad, ReadFault, WriteFault, Starved}
 use Rattle.talk.specs.Served.{Kind}
 use Rattle.talk.specs.Wire.{Wire}
-use Rattle.talk.specs.Requests.{Arrived, rest_after, is_last, IsOpen, IsClosed, AreRequests, Due, HasFault, at_front, cut, AtEnd, closed, at_border, IsBad, fault_text}
+use Rattle.talk.specs.Requests.{Arrived, rest_after, IsOpen, IsClosed, AreRequests, HasFault, at_front, cut, AtEnd, closed, at_border, IsBad, fault_text}
 use Rattle.talk.specs.Alone.{Alone, EndsAlone, Progress, alone_at, after_requests}
 use Rattle.talk.proofs.WireLaws.{FrontLaws, due_one}
 

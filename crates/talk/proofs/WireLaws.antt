@@ -4,9 +4,9 @@ use Rattle.std.proofs.lemmas.List.{drop-append-le}
 use Rattle.http_grammar.specs.Request.{Head, Request}
 use Rattle.http_grammar.specs.Fields.{expects_continue}
 use Rattle.http_grammar.specs.declared.fault.HttpFault.{HttpFault}
-use Rattle.http_grammar.specs.First.{First, Front, IsDecided, Whole, Waits, Beginning, Fault, HoldsHead}
+use Rattle.http_grammar.specs.First.{First, Front, IsDecided, Whole, Fault, HoldsHead}
 use Rattle.talk.specs.Wire.{Wire}
-use Rattle.talk.specs.Requests.{Arrived, rest_after, AreRequests, Due, interim, no_interim, HasFault, at_front, cut}
+use Rattle.talk.specs.Requests.{Arrived, rest_after, AreRequests, Due, interim, no_interim}
 
 -- one thing stands at the front, and a request lies within the bytes
 pub record FrontLaws : Type 0 where

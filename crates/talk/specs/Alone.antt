@@ -8,7 +8,7 @@ use Rattle.cm_base.specs.declared.user.User.{User}
 use Rattle.desk_model.specs.declared.entry.Entry.{Entry}
 use Rattle.desk_model.specs.Clocks.{moment_of}
 use Rattle.desk_model.specs.Histories.{replay, shown_by}
-use Rattle.http_grammar.specs.Request.{Head, Request}
+use Rattle.http_grammar.specs.Request.{Head}
 use Rattle.talk.specs.declared.end.End.{End}
 use Rattle.talk.specs.declared.end.End.TheVariants.{Ended, Bad, ReadFault, WriteFault, Starved}
 use Rattle.talk.specs.Wire.{Wire}

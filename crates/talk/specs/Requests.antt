@@ -1,5 +1,5 @@
 -- The requests of a session, with the last one first: how they stand at the front of the bytes, and what stands behind them.
-use Rattle.std.specs.Prelude.{◌≡◌, ℕ, ◌⊎◌, ◌==◌, Bool, true, false, ◌||◌, List, [], ◌∷◌, ◌++◌, None, length, drop, if◌then◌else◌}
+use Rattle.std.specs.Prelude.{◌≡◌, ℕ, ◌==◌, Bool, true, false, ◌||◌, List, [], ◌∷◌, ◌++◌, None, length, drop, if◌then◌else◌}
 use Rattle.cm_base.specs.declared.cause.Cause.TheVariants as causes
 use Rattle.http_grammar.specs.declared.fault.HttpFault.{HttpFault}
 use Rattle.http_grammar.specs.declared.fault.HttpFault.TheVariants.{BadHead, LongHead, LongBody, BadLength, Coding, Cut}

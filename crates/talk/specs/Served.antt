@@ -1,5 +1,5 @@
 -- What a session needs of a machine, and what a request asks of it.
-use Rattle.std.specs.Prelude.{◌≡◌, ℕ, List, Result, Ok, Err}
+use Rattle.std.specs.Prelude.{ℕ, List, Result, Ok, Err}
 use Rattle.cm_base.specs.declared.cause.Cause.{Cause}
 use Rattle.cm_base.specs.declared.shown.Shown.{Shown}
 use Rattle.cm_base.specs.declared.user.User.{User}

@@ -9,7 +9,7 @@ use Rattle.cm_base.specs.declared.user.User.{User}
 use Rattle.desk_model.specs.declared.entry.Entry.{Entry}
 use Rattle.desk_model.specs.Histories.{replay, own, shown_by}
 use Rattle.http_grammar.specs.declared.fault.HttpFault.{HttpFault}
-use Rattle.http_grammar.specs.Request.{Head, Request}
+use Rattle.http_grammar.specs.Request.{Head}
 use Rattle.http_grammar.specs.Fields.{expects_continue}
 use Rattle.http_grammar.specs.First.{First, Fault, IsPending, HoldsHead}
 use Rattle.talk.specs.declared.end.End.{End}

@@ -1,4 +1,3 @@
-use Rattle.talk.specs.Served.{Kind}
 use Rattle.talk.proofs.Longer.{session-longer}
 use Rattle.talk.proofs.laws.session_stands.Goals as goal
 
