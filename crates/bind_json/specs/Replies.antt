@@ -1,7 +1,6 @@
 -- The JSON of replies, and what is sent of them (CMIS 1.1, sections 5.2.10 and 5.2.11).
-use Rattle.std.specs.Prelude.{ℕ, List, [], ◌∷◌, codes, map, Some, pos, if◌then◌else◌}
-use Rattle.serde_json.specs.Data.{Data, boolean, number}
-use Rattle.serde_json.specs.Find.{of_integer}
+use Rattle.std.specs.Prelude.{ℕ, List, [], ◌∷◌, codes, map, Some, if◌then◌else◌}
+use Rattle.serde_json.specs.Data.{Data, boolean, number, unsigned}
 use Rattle.serde_json.specs.Written.{compact_text}
 use Rattle.json_text.specs.Build.{object_data, list_data}
 use Rattle.cm_base.specs.declared.shown.Shown.{Shown}
@@ -20,7 +19,7 @@ unfoldable pub children_data : ChildrenReply → Data
 children_data r = object_data
     ((codes "objects", list_data (map child_data r.objects))
     ∷ (codes "hasMoreItems", boolean r.has_more_items)
-    ∷ (codes "numItems", number (of_integer (pos r.num_items)))
+    ∷ (codes "numItems", number (unsigned r.num_items))
     ∷ [])
 
 abbrev pub reply_data : Reply → Data

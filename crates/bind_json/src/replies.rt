@@ -38,7 +38,7 @@ fn children_json(alloc: Global, reply: &ChildrenReply) -> Result<Json, AllocErro
     let mut fields = Fields::new(alloc);
     fields.put(alloc, "objects", Json::array(objects))?;
     fields.put(alloc, "hasMoreItems", Json::flag(reply.has_more_items))?;
-    fields.put(alloc, "numItems", Json::natural(reply.num_items))?;
+    fields.put(alloc, "numItems", Json::count(reply.num_items))?;
     Ok(Json::object(fields))
 }
 
