@@ -1,10 +1,10 @@
 -- Of three options two are of one kind.
-use Rattle.std.proofs.Common.{◌≡◌, ℕ, ◌≤◌, ◌<◌, Bool, true, false, ◌&&◌, List, [], ◌∷◌, length, map, refl, ap, ◌∙◌, arith, String, Global, string_bytes}
-use Rattle.std.specs.Prelude.{Option, Some, None, is_some, if◌then◌else◌}
+use Rattle.std.proofs.Common.{◌≡◌, ◌≤◌, Bool, true, false, ◌&&◌, List, [], ◌∷◌, length, map, refl, arith, String, Global, string_bytes}
+use Rattle.std.specs.Prelude.{Option, Some, None, is_some}
 use Rattle.std.specs.List.{list_all, filter_map}
 use Rattle.cmis_words.specs.declared.words.Choice.{Choice}
 use Rattle.cmis_words.specs.declared.words.Choice.TheVariants.{At, From}
-use Rattle.cmis_words.specs.Programs.{choice_of, at_part, from_part, one_at_most, are_choices, choices_in, choices_of}
+use Rattle.cmis_words.specs.Programs.{choice_of, at_part, from_part, one_at_most, are_choices, choices_of}
 
 last_false : (a b : Bool) → (a && b && false) ≡ false
 last_false true true = refl

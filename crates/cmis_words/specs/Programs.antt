@@ -1,5 +1,5 @@
 -- The program's words: pipe USERS [at=MS] [from=N], the options in any order, each at most once.
-use Rattle.std.specs.Prelude.{ℕ, ℤ, pos, ◌≡◌, nat_le, Bool, true, false, ◌&&◌, is_some, List, [], ◌∷◌, length, map, take, drop, codes, bytes_eq, Option, Some, None, option_map, option_and_then, unwrap_or, Result, Ok, Err, if◌then◌else◌}
+use Rattle.std.specs.Prelude.{ℕ, pos, ◌≡◌, nat_le, Bool, true, false, ◌&&◌, is_some, List, [], ◌∷◌, length, map, take, drop, codes, bytes_eq, Option, Some, None, option_map, option_and_then, unwrap_or, Result, Ok, Err, if◌then◌else◌}
 use Rattle.std.specs.List.{list_all, filter_map}
 use Rattle.cm_base.specs.declared.number.Moment.{Moment}
 use Rattle.cm_base.specs.declared.user.User.{User}

@@ -1,10 +1,9 @@
 -- JSON as replies have it: no floats, and the names of each object in byte order, each once.
-use Rattle.std.specs.Prelude.{◌≡◌, ℕ, List, [], ◌∷◌, Bool, true, false, ◌&&◌, fold, map}
+use Rattle.std.specs.Prelude.{ℕ, List, Bool, true, ◌&&◌, fold}
 use Rattle.std.specs.Ordering.{nat_cmp, is_lt}
 use Rattle.std.specs.Cmp.Lexicographic.{slice_cmp}
 use Rattle.serde_json.specs.Data.{Data, null, boolean, number, string, array, object, Items, no_items, item, Members, no_members, member, put}
 use Rattle.serde_json.specs.View.{items_of}
-use Rattle.serde_json.specs.Written.{has_float, members_have_float, items_have_float}
 
 -- an array of these
 abbrev pub list_data : List Data → Data
