@@ -12,7 +12,8 @@ fn is_origin(target: &[u8]) -> bool
     }
 }
 
-fn front(text: &[u8], count: usize) -> &[u8]
+/// The first bytes, so many at most.
+pub fn front(text: &[u8], count: usize) -> &[u8]
     ensures { result.now ≡ take count text.now }
 {
     if text.len() > count {
@@ -22,7 +23,8 @@ fn front(text: &[u8], count: usize) -> &[u8]
     }
 }
 
-fn behind(text: &[u8], count: usize) -> &[u8]
+/// What stands behind so many bytes.
+pub fn behind(text: &[u8], count: usize) -> &[u8]
     ensures { result.now ≡ drop count text.now }
 {
     if text.len() > count {
