@@ -1,5 +1,5 @@
 //! The method and the form of a request.
-ghost use Rattle.std.specs.Prelude.{◌≡◌, codes, option_map};
+ghost use Rattle.std.specs.Prelude.{◌≡◌, codes, option_map, IfOk};
 ghost use Rattle.cm_base.specs.declared.cause.Cause.TheVariants as causes;
 ghost use Rattle.cm_base.specs.Judged.{Meets};
 ghost use Rattle.bind_read.specs.Forms.{method_of, form_by, form_in, form_of};
@@ -12,7 +12,7 @@ use cm_base::fail::Fail;
 use cm_base::text::Text;
 use form_args::pairs::Pair;
 use form_args::read::form_pairs;
-use std::alloc::Global;
+use std::alloc::{AllocError, Global};
 
 /// The methods of the Browser Binding.
 #[derive(Clone, Copy, Debug, PartialEq, Eq)]
@@ -35,13 +35,11 @@ pub fn method_of(word: &[u8]) -> Result<Method, Cause>
 }
 
 /// The cause of a form of request that is not served yet.
-pub fn unserved(alloc: Global) -> Fail
-    ensures { Meets (λ u. u) (Err result) (Err (causes.NotServed (codes "form"))) }
+pub fn unserved(alloc: Global) -> Result<Cause, AllocError>
+    ensures { IfOk result (λ c. c ≡ causes.NotServed (codes "form")) }
 {
-    match Text::from_str(alloc, "form") {
-        Ok(word) => Fail::Refused(Cause::NotServed(word)),
-        Err(_) => Fail::Memory,
-    }
+    let word = Text::from_str(alloc, "form")?;
+    Ok(Cause::NotServed(word))
 }
 
 fn form_by(alloc: Global, kind: Option<&[u8]>, body: &[u8]) -> Result<Vec<Pair>, Fail>
@@ -54,7 +52,8 @@ fn form_by(alloc: Global, kind: Option<&[u8]>, body: &[u8]) -> Result<Vec<Pair>,
                 let form = form_pairs(alloc, body)?;
                 Ok(form)
             } else if is_of_type(b"multipart/form-data", kind) {
-                Err(unserved(alloc))
+                let cause = unserved(alloc)?;
+                Err(Fail::Refused(cause))
             } else {
                 Err(Fail::Refused(Cause::BadBody))
             }

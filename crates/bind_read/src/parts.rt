@@ -34,7 +34,8 @@ fn unserved(alloc: Global, names: &[Argument], pairs: &Pairs) -> Result<(), Fail
     ensures { Meets (λ u. u) result (unserved names.now pairs.now) }
 {
     if any_given(pairs, names) {
-        Err(form::unserved(alloc))
+        let cause = form::unserved(alloc)?;
+        Err(Fail::Refused(cause))
     } else {
         Ok(())
     }

@@ -75,7 +75,10 @@ fn selected(alloc: Global, target: &Target, word: Option<&Text>) -> Result<Servi
     ensures { Meets (λ s. s) result (selected target.now (option_map (λ t. t.now) word.entry)) }
 {
     match word {
-        None => Err(unserved(alloc)),
+        None => {
+            let cause = unserved(alloc)?;
+            Err(Fail::Refused(cause))
+        }
         Some(word) => served(alloc, word, selector_at(target, word.as_str())),
     }
 }
