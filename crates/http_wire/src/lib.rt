@@ -17,6 +17,6 @@ mod reading;
 mod window;
 
 pub use fault::WireStop;
-pub use head::{Head, Request};
+pub use head::{Head, Named, Request};
 pub use incoming::Incoming;
 pub use reader::{Buffer, read_request};
