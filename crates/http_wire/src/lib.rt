@@ -14,6 +14,8 @@ mod piece;
 mod pieces;
 mod reader;
 mod reading;
+#[cfg(test)]
+mod tests;
 mod window;
 
 pub use fault::WireStop;
