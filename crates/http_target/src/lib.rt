@@ -6,6 +6,8 @@ mod caller;
 mod path;
 mod step;
 mod target;
+#[cfg(test)]
+mod tests;
 
 pub use address::Target;
 pub use caller::caller_of;
