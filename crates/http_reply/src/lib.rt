@@ -5,6 +5,8 @@ mod head;
 mod reply;
 mod send;
 mod shown;
+#[cfg(test)]
+mod tests;
 
 pub use reply::write_reply;
 pub use send::{send_interim, send_memory};

@@ -1,6 +1,6 @@
 pub mod Ranges
 pub mod Digits
-pub mod Named
+pub mod NamedValues
 pub mod SeenHeads
 pub mod HeadReading
 pub mod BodyReading

@@ -6,3 +6,5 @@ pub mod Bodies
 pub mod Pieces
 pub mod Buffers
 pub mod Answers
+pub mod NamedFields
+pub mod Connections

@@ -1,10 +1,13 @@
 //! A request and its head, as the bytes have them.
 ghost use Rattle.std.specs.Prelude.{◌≡◌, ◌<◌, ◌≤◌, [], length, take, map, All, IfOk, slice_index_or};
 ghost use Rattle.http_grammar.specs.Request.{Head as HeadParts};
-ghost use Rattle.httparse.specs.Spans.{IsHeaderWithin};
+ghost use Rattle.httparse.specs.Spans.{IsHeaderWithin, header_bytes};
+ghost use Rattle.http_wire.specs.Connections.{lists_close};
 ghost use Rattle.http_wire.specs.Seen.{HeadAt};
 
+use crate::fields::{Found, find};
 use bytes::Bytes;
+use http1::fields::KnownFields;
 use httparse::spans::{HeaderSpan, RequestSpans, Span};
 use std::alloc::{AllocError, Global};
 use std::marker::Model;
@@ -81,6 +84,48 @@ impl Head {
     {
         self.fields[place].value.of(&self.text)
     }
+}
+
+/// The values of the fields with one name.
+#[derive(Clone, Copy)]
+pub enum Named<'a> {
+    Absent,
+    /// One field, with its value.
+    One(&'a [u8]),
+    Several,
+}
+
+impl Head {
+    ghost use Rattle.http_grammar.specs.Fields.{values_named};
+    ghost use Rattle.http_wire.specs.NamedFields.{IsNamed};
+    ghost use Rattle.http_wire.specs.Connections.{closes};
+
+    /// What the fields with this name are, in any case of its letters.
+    pub fn named(&self, name: &[u8]) -> Named<'_>
+        ensures { IsNamed (values_named name.now self.now.fields) result }
+    {
+        match find(&self.text, &self.fields, name) {
+            Found::Absent => Named::Absent,
+            Found::One(value) => Named::One(value.of(&self.text)),
+            Found::Several => Named::Several,
+        }
+    }
+
+    /// Whether the reply to a request with this head is the last (RFC 9112, section 9.6).
+    pub fn closes(&self) -> bool
+        ensures { result ≡ closes self.now }
+    {
+        self.minor == 0 || lists_close(&self.text, &self.fields)
+    }
+}
+
+// Whether a Connection field lists `close`.
+#[tactic(auto, unfolding(http1::specs::Fields::known_fields))]
+fn lists_close(text: &[u8], fields: &[HeaderSpan]) -> bool
+    requires { All (IsHeaderWithin (length text.now)) fields.now }
+    ensures { result ≡ lists_close (map (header_bytes text.now) fields.now) }
+{
+    KnownFields::from_spans(text, fields).close
 }
 
 /// A request: its head, and its body without the framing.

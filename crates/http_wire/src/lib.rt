@@ -14,9 +14,11 @@ mod piece;
 mod pieces;
 mod reader;
 mod reading;
+#[cfg(test)]
+mod tests;
 mod window;
 
 pub use fault::WireStop;
-pub use head::{Head, Request};
+pub use head::{Head, Named, Request};
 pub use incoming::Incoming;
 pub use reader::{Buffer, read_request};

@@ -1,7 +1,7 @@
 use Rattle.std.proofs.Common.{◌≡◌, ◌∙◌, List, ℕ, sym}
 use Rattle.std.specs.Prelude.{codes}
 use Rattle.http_grammar.specs.Fields.{same_word}
-use Rattle.http_wire.proofs.Named.{any_named}
+use Rattle.http_wire.proofs.NamedValues.{any_named}
 use Rattle.http_wire.proofs.fields.has_expect.Goals as goal
 
 pub returns : goal.returns

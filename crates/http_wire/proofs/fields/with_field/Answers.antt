@@ -4,7 +4,7 @@ use Rattle.httparse.specs.Spans.{header_bytes}
 use Rattle.http_wire.specs.Found.{Finds, value_named}
 use Rattle.http_wire.specs.declared.fields.Found.{Found}
 use Rattle.http_wire.specs.declared.fields.Found.TheVariants.{Several}
-use Rattle.http_wire.proofs.Named.{finds-one_more, IsThere}
+use Rattle.http_wire.proofs.NamedValues.{finds-one_more, IsThere}
 use Rattle.http_wire.proofs.fields.with_field.Goals as goal
 
 pub returns-in-One : goal.returns-in-One

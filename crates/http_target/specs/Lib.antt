@@ -1,0 +1,4 @@
+pub mod Callers
+pub mod Steps
+pub mod Paths
+pub mod Targets

@@ -1,0 +1,132 @@
+//! Callers, steps and addresses, from RFC 7617, RFC 9112 and this project's profile.
+use crate::{Target, caller_of, least_of, query_of, target_of};
+use cm_base::cause::Cause;
+use cm_base::fail::Fail as Refusal;
+use cm_base::user::Users;
+use cm_base::users::read_users;
+use http_wire::{Buffer, Incoming, Request, read_request};
+use outside::MemSource;
+use std::alloc::{AllocError, Global};
+use std::test::Fail;
+
+// A request with these fields.
+fn request(alloc: Global, fields: &[u8]) -> Result<Option<Request>, AllocError> {
+    let mut text = Vec::from_slice(alloc, b"GET /cmis HTTP/1.1\r\nHost: x\r\n")?;
+    text.extend_from_slice(fields)?;
+    text.extend_from_slice(b"\r\n")?;
+    let mut source = MemSource::new(alloc, &text, &[])?;
+    let mut buffer = Buffer::new(alloc)?;
+    match read_request(alloc, &mut source, &mut buffer) {
+        Ok(Incoming::Body(request)) => Ok(Some(request)),
+        _ => Ok(None),
+    }
+}
+
+// The name of the caller, or nothing where the credentials are wrong.
+fn calls(alloc: Global, fields: &[u8], users: &Users, name: &str) -> Result<bool, AllocError> {
+    let Some(request) = request(alloc, fields)? else {
+        return Ok(false);
+    };
+    match caller_of(alloc, request.head(), users) {
+        Ok(caller) => Ok(caller.as_str() == name),
+        Err(Refusal::Refused(Cause::WrongSecret)) => Ok(name.is_empty()),
+        Err(_) => Ok(false),
+    }
+}
+
+#[test]
+fn callers(rt: HostRuntime) -> Result<(), Fail> {
+    let alloc = rt.alloc();
+    let Ok(users) = read_users(alloc, "admin:pw,ann:a:b") else {
+        return Ok(());
+    };
+    let cases: [(&[u8], &str); 8] = [
+        (b"", "anonymous"),
+        (b"Authorization: Basic YWRtaW46cHc=\r\n", "admin"),
+        (b"authorization: bASIC\tYW5uOmE6Yg==\r\n", "ann"),
+        (b"Authorization: Basic  YWRtaW46cHc=\r\n", ""),
+        (b"Authorization: Basic YWRtaW46bm8=\r\n", ""),
+        (b"Authorization: Basic YWRtaW46cHc\r\n", ""),
+        (b"Authorization: Bearer YWRtaW46cHc=\r\n", ""),
+        (
+            b"Authorization: Basic YWRtaW46cHc=\r\nAuthorization: Basic YWRtaW46cHc=\r\n",
+            "",
+        ),
+    ];
+    for (fields, name) in cases {
+        assert!(rt; calls(alloc, fields, &users, name)?, "{name}");
+    }
+    Ok(())
+}
+
+// The step that the fields name, or none where they are refused.
+fn step(alloc: Global, fields: &[u8]) -> Result<Option<u64>, AllocError> {
+    match request(alloc, fields)? {
+        Some(request) => Ok(least_of(request.head()).ok()),
+        None => Ok(None),
+    }
+}
+
+#[test]
+fn steps(rt: HostRuntime) -> Result<(), Fail> {
+    let alloc = rt.alloc();
+    let cases: [(&[u8], Option<u64>); 6] = [
+        (b"", Some(0)),
+        (b"CMIS-Step: 5\r\n", Some(5)),
+        (b"cmis-step:18446744073709551615\r\n", Some(u64::MAX)),
+        (b"CMIS-Step: 18446744073709551616\r\n", None),
+        (b"CMIS-Step: 05\r\n", None),
+        (b"CMIS-Step: 5\r\nCMIS-Step: 5\r\n", None),
+    ];
+    for (fields, want) in cases {
+        assert_eq!(rt; step(alloc, fields)?, want);
+    }
+    Ok(())
+}
+
+// An address in short: a letter, and the names of a path.
+fn short(alloc: Global, target: &[u8]) -> Result<String, AllocError> {
+    match target_of(alloc, target) {
+        Ok(Target::Service) => String::from_str(alloc, "S"),
+        Ok(Target::Repository) => String::from_str(alloc, "R"),
+        Ok(Target::Object(names)) => {
+            let mut text = String::from_str(alloc, "O")?;
+            for name in names.as_slice() {
+                text.push_str("|")?;
+                text.push_str(name.as_str())?;
+            }
+            Ok(text)
+        }
+        Err(Refusal::Refused(Cause::NoUrl)) => String::from_str(alloc, "no"),
+        Err(Refusal::Refused(_)) => String::from_str(alloc, "path"),
+        Err(Refusal::Memory) => Err(AllocError),
+    }
+}
+
+#[test]
+fn addresses(rt: HostRuntime) -> Result<(), Fail> {
+    let alloc = rt.alloc();
+    let cases: [(&[u8], &str); 14] = [
+        (b"/cmis", "S"),
+        (b"//cmis/", "S"),
+        (b"/%63mis/main", "R"),
+        (b"/cmis/main/root", "O"),
+        (b"/cmis/main/root/a//b%20c?cmisselector=children", "O|a|b c"),
+        (b"/cmis/main/root/a#b", "O|a#b"),
+        (b"http://x/cmis/main", "R"),
+        (b"HTTP://x:80/cmis?a", "S"),
+        (b"http://x?/cmis", "no"),
+        (b"https://x/cmis", "no"),
+        (b"*", "no"),
+        (b"/", "no"),
+        (b"/cmis/other", "no"),
+        (b"/other/%ff", "path"),
+    ];
+    for (target, want) in cases {
+        let text = short(alloc, target)?;
+        assert_eq!(rt; text.as_str(), want);
+    }
+    assert_eq!(rt; query_of(b"http://x/cmis?a=1?b#c"), b"a=1?b#c".as_slice());
+    assert_eq!(rt; query_of(b"/cmis"), b"".as_slice());
+    Ok(())
+}
