@@ -9,7 +9,6 @@ use crate::create_folder::create_folder_of;
 use crate::fields::step_of;
 use crate::form::{form_of, method_of};
 use crate::object::{object_of, properties_of};
-use crate::stub::Request;
 use crate::words::{Service, service_of};
 use cm_base::fail::Fail;
 use cm_base::items::Items;
@@ -18,6 +17,7 @@ use cm_call::question::Question;
 use cm_call::write::Write;
 use form_args::pairs::Pairs;
 use form_args::read::with_query;
+use http_wire::Request;
 use request_target::target::{Target, query_of, target_of};
 use std::alloc::Global;
 

@@ -1,17 +1,17 @@
 //! Fields of a head by their names.
-ghost use Rattle.std.specs.Prelude.{◌≡◌, ◌+◌, ◌<◌, ℕ, List, length, take, codes, option_map, if◌then◌else◌};
+ghost use Rattle.std.specs.Prelude.{◌≡◌, ◌+◌, ◌<◌, [], length, codes, option_map};
 ghost use Rattle.std.specs.List.{slice_index_or};
 ghost use Rattle.http_grammar.specs.Fields.{same_word, values_named};
 ghost use Rattle.bind_read.specs.Forms.{first_item, content_type, step_of};
 
-use crate::stub::Head;
 use cm_base::argument::Argument;
 use cm_base::cause::Cause;
+use http_wire::Head;
 use request_target::step::step_of_value;
 
 fn is_named(head: &Head, i: usize, name: &[u8]) -> bool
     requires { i < length head.now.fields }
-    ensures { (d : List ℕ × List ℕ) → result ≡ same_word (slice_index_or head.now.fields i d).0 name.now }
+    ensures { result ≡ same_word (slice_index_or head.now.fields i ([], [])).0 name.now }
 {
     head.name(i).eq_ignore_ascii_case(name)
 }

@@ -6,12 +6,12 @@ ghost use Rattle.bind_read.specs.Forms.{method_of, form_by, form_in, form_of};
 
 use crate::fields::content_type;
 use crate::media::is_of_type;
-use crate::stub::{Head, Request};
 use cm_base::cause::Cause;
 use cm_base::fail::Fail;
 use cm_base::text::Text;
 use form_args::pairs::Pair;
 use form_args::read::form_pairs;
+use http_wire::{Head, Request};
 use std::alloc::{AllocError, Global};
 
 /// The methods of the Browser Binding.

@@ -12,5 +12,4 @@ pub mod form;
 pub mod media;
 pub mod object;
 pub mod parts;
-pub mod stub;
 pub mod words;

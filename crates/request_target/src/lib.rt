@@ -7,3 +7,5 @@ pub mod form;
 pub mod path;
 pub mod step;
 pub mod target;
+#[cfg(test)]
+mod tests;

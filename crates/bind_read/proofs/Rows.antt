@@ -1,0 +1,130 @@
+-- Worked rows: what small requests ask.
+use Rattle.std.proofs.Common.{◌≡◌, ℕ, List, [], ◌∷◌, true, false, refl}
+use Rattle.std.specs.Prelude.{codes, Ok, Err, Some, None}
+use Rattle.std.specs.Fmt.{digits}
+use Rattle.std.specs.Str.{is_utf8, chars}
+use Rattle.std.specs.Str.Lossy.{utf8_lossy, utf8_valid_len}
+use Rattle.form_urlencoded.specs.Form.{split, raw_pairs}
+use Rattle.percent_encoding.specs.Percent.{percent_decode}
+use lib.Utf8.{encode}
+use Rattle.cm_base.specs.declared.argument.Argument.TheVariants as args
+use Rattle.cm_base.specs.declared.cause.Cause.TheVariants as causes
+use Rattle.cm_call.specs.declared.place.Place.TheVariants as places
+use Rattle.cm_call.specs.declared.write.Write.TheVariants as writes
+use Rattle.cm_call.specs.declared.question.Question.TheVariants as questions
+use Rattle.cm_call.specs.declared.question.PropertyFilter.TheVariants as filters
+use Rattle.http_grammar.specs.Request.{Head, Request, FieldParts}
+use Rattle.http_grammar.specs.Fields.{values_named}
+use Rattle.form_args.specs.Properties.{most_properties, most_values}
+use Rattle.bind_read.specs.declared.asked.Asked.TheVariants as asks
+use Rattle.bind_read.specs.Calls.{call_of_request}
+
+abbrev urlencoded : List FieldParts
+urlencoded = (codes "Host", codes "x") ∷ (codes "content-TYPE", codes "application/x-www-form-urlencoded ; charset=utf-8") ∷ []
+
+-- a form that is posted to this target
+abbrev posted : List ℕ → List ℕ → Request
+posted target body = record { head = record { method = codes "POST"; target = target; minor = 1; fields = urlencoded }; body = body }
+
+-- a target that is asked for, with these fields
+abbrev got : List ℕ → List FieldParts → Request
+got target fields = record { head = record { method = codes "GET"; target = target; minor = 1; fields = fields }; body = codes "dropped" }
+
+row_create_folder : call_of_request (posted (codes "/cmis/main/root") (codes "cmisaction=createFolder&propertyId[0]=cmis:name&propertyValue[0]=a&propertyId[1]=cmis:objectTypeId&propertyValue[1]=cmis:folder&succinct=true"))
+    ≡ Ok (asks.Write (writes.CreateFolder (record {
+      place = places.Path [];
+      properties = record { id = codes "cmis:name"; texts = codes "a" ∷ []; several = false } ∷ record { id = codes "cmis:objectTypeId"; texts = codes "cmis:folder" ∷ []; several = false } ∷ [];
+      policies = [];
+      remove = [];
+      add = [];
+      succinct = true;
+    })))
+unfolding split is_utf8 chars percent_decode encode raw_pairs utf8_lossy utf8_valid_len values_named most_properties most_values digits
+row_create_folder = refl
+
+row_object : call_of_request (got (codes "/cmis/main/root/a%20b?cmisselector=object&filter=cmis:name&filter=*&objectId=2") [])
+    ≡ Ok (asks.Question (questions.Object (record { place = places.Id (codes "2"); filter = filters.QueryNames (codes "cmis:name" ∷ []); succinct = false })))
+unfolding split is_utf8 chars percent_decode encode raw_pairs utf8_lossy utf8_valid_len values_named
+row_object = refl
+
+-- the absolute form; empty segments are skipped, and each segment is decoded
+row_children : call_of_request (got (codes "HTTP://host/%63mis//main/root/a%20b/?cmisselector=children&succinct=true&maxItems=2") ((codes "cmis-step", codes "7") ∷ []))
+    ≡ Ok (asks.Question (questions.Children (record { place = places.Path (codes "a b" ∷ []); filter = filters.All; max_items = 2; skip_count = 0; succinct = true })))
+unfolding split is_utf8 chars percent_decode encode raw_pairs utf8_lossy utf8_valid_len values_named
+row_children = refl
+
+-- ---- the order of the causes: each request has the cause of its row, and all those of the rows below it
+
+row_method : call_of_request (record { head = record { method = codes "HEAD"; target = codes "/x/%ff"; minor = 1; fields = [] }; body = [] }) ≡ Err causes.BadMethod
+unfolding split is_utf8 chars percent_decode encode raw_pairs utf8_lossy utf8_valid_len values_named
+row_method = refl
+
+row_path : call_of_request (record { head = record { method = codes "POST"; target = codes "/x/%ff"; minor = 1; fields = [] }; body = codes "x" }) ≡ Err (causes.BadArgument args.Path)
+unfolding split is_utf8 chars percent_decode encode raw_pairs utf8_lossy utf8_valid_len values_named
+row_path = refl
+
+row_address : call_of_request (record { head = record { method = codes "POST"; target = codes "cmis/main"; minor = 1; fields = [] }; body = codes "x" }) ≡ Err causes.NoUrl
+unfolding split is_utf8 chars percent_decode encode raw_pairs utf8_lossy utf8_valid_len values_named
+row_address = refl
+
+row_body : call_of_request (record { head = record { method = codes "POST"; target = codes "/cmis/main/root"; minor = 1; fields = (codes "Content-Type", codes "text/plain") ∷ [] }; body = codes "x" }) ≡ Err causes.BadBody
+unfolding split is_utf8 chars percent_decode encode raw_pairs utf8_lossy utf8_valid_len values_named
+row_body = refl
+
+row_parts : call_of_request (record { head = record { method = codes "POST"; target = codes "/cmis/main/root"; minor = 1; fields = (codes "Content-Type", codes "multipart/form-data; boundary=B") ∷ [] }; body = codes "x" }) ≡ Err (causes.NotServed (codes "form"))
+unfolding split is_utf8 chars percent_decode encode raw_pairs utf8_lossy utf8_valid_len values_named
+row_parts = refl
+
+row_action_missing : call_of_request (record { head = record { method = codes "POST"; target = codes "/cmis/main/root?succinct=maybe"; minor = 1; fields = (codes "CMIS-Step", codes "+1") ∷ [] }; body = [] }) ≡ Err (causes.MissingArgument args.CmisAction)
+unfolding split is_utf8 chars percent_decode encode raw_pairs utf8_lossy utf8_valid_len values_named
+row_action_missing = refl
+
+row_action_elsewhere : call_of_request (posted (codes "/cmis/main") (codes "cmisaction=createFolder")) ≡ Err (causes.NotServed (codes "createFolder"))
+unfolding split is_utf8 chars percent_decode encode raw_pairs utf8_lossy utf8_valid_len values_named
+row_action_elsewhere = refl
+
+row_selector : call_of_request (got (codes "/cmis/main/root?cmisselector=") ((codes "CMIS-Step", codes "007") ∷ [])) ≡ Err (causes.NotServed [])
+unfolding split is_utf8 chars percent_decode encode raw_pairs utf8_lossy utf8_valid_len values_named
+row_selector = refl
+
+row_no_selector : call_of_request (got (codes "/cmis/main/root") []) ≡ Err (causes.NotServed (codes "form"))
+unfolding split is_utf8 chars percent_decode encode raw_pairs utf8_lossy utf8_valid_len values_named
+row_no_selector = refl
+
+row_step : call_of_request (got (codes "/cmis/main/root?cmisselector=object&succinct=maybe") ((codes "CMIS-Step", codes "007") ∷ [])) ≡ Err (causes.BadArgument args.CmisStep)
+unfolding split is_utf8 chars percent_decode encode raw_pairs utf8_lossy utf8_valid_len values_named
+row_step = refl
+
+row_two_steps : call_of_request (got (codes "/cmis/main/root?cmisselector=object") ((codes "CMIS-Step", codes "1") ∷ (codes "cmis-step", codes "1") ∷ [])) ≡ Err (causes.BadArgument args.CmisStep)
+unfolding split is_utf8 chars percent_decode encode raw_pairs utf8_lossy utf8_valid_len values_named
+row_two_steps = refl
+
+row_succinct : call_of_request (got (codes "/cmis/main/root?cmisselector=children&filter=a,,b&maxItems=x&succinct=maybe") []) ≡ Err (causes.BadArgument args.Succinct)
+unfolding split is_utf8 chars percent_decode encode raw_pairs utf8_lossy utf8_valid_len values_named
+row_succinct = refl
+
+row_filter : call_of_request (got (codes "/cmis/main/root?cmisselector=children&skipCount=-1&maxItems=x&filter=a,,b") []) ≡ Err causes.BadFilter
+unfolding split is_utf8 chars percent_decode encode raw_pairs utf8_lossy utf8_valid_len values_named
+row_filter = refl
+
+row_most : call_of_request (got (codes "/cmis/main/root?cmisselector=children&skipCount=-1&maxItems=18446744073709551616") []) ≡ Err (causes.BadArgument args.MaxItems)
+unfolding split is_utf8 chars percent_decode encode raw_pairs utf8_lossy utf8_valid_len values_named
+row_most = refl
+
+row_type_missing : call_of_request (posted (codes "/cmis/main/root?objectId=1") (codes "cmisaction=createFolder&addACEPrincipal[0]=&propertyId[0]=cmis:name&propertyValue[0]=a")) ≡ Err (causes.MissingArgument args.ObjectTypeId)
+unfolding split is_utf8 chars percent_decode encode raw_pairs utf8_lossy utf8_valid_len values_named most_properties most_values digits
+row_type_missing = refl
+
+row_principal : call_of_request (posted (codes "/cmis/main/root") (codes "cmisaction=createFolder&removeACEPrincipal[0]=&addACEPrincipal[0]=&propertyId[0]=cmis:objectTypeId&propertyValue[0]=cmis:folder")) ≡ Err (causes.BadArgument args.AddAcePrincipal)
+unfolding split is_utf8 chars percent_decode encode raw_pairs utf8_lossy utf8_valid_len values_named most_properties most_values digits
+row_principal = refl
+
+row_unserved : call_of_request (got (codes "/cmis/main/root?cmisselector=object&includeACL=false") []) ≡ Err (causes.NotServed (codes "form"))
+unfolding split is_utf8 chars percent_decode encode raw_pairs utf8_lossy utf8_valid_len values_named
+row_unserved = refl
+
+-- properties has no such argument, and what a call does not know is ignored
+row_unknown : call_of_request (got (codes "/cmis/main/root?cmisselector=properties&includeACL=false&depth=x") [])
+    ≡ Ok (asks.Question (questions.Properties (record { place = places.Path []; filter = filters.All; succinct = false })))
+unfolding split is_utf8 chars percent_decode encode raw_pairs utf8_lossy utf8_valid_len values_named
+row_unknown = refl
