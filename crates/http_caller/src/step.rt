@@ -1,6 +1,6 @@
 //! The step that a request names.
 ghost use Rattle.std.specs.Prelude.{◌≡◌};
-ghost use Rattle.http_target.specs.Steps.{least_of};
+ghost use Rattle.http_caller.specs.Steps.{least_of};
 
 use cm_base::argument::Argument;
 use cm_base::cause::Cause;

@@ -1,5 +1,5 @@
-//! Callers, steps and addresses, from RFC 7617, RFC 9112 and this project's profile.
-use crate::{Target, caller_of, least_of, query_of, target_of};
+//! Callers and steps, from RFC 7617 and this project's profile.
+use crate::{caller_of, least_of};
 use cm_base::cause::Cause;
 use cm_base::fail::Fail as Refusal;
 use cm_base::user::Users;
@@ -81,52 +81,5 @@ fn steps(rt: HostRuntime) -> Result<(), Fail> {
     for (fields, want) in cases {
         assert_eq!(rt; step(alloc, fields)?, want);
     }
-    Ok(())
-}
-
-// An address in short: a letter, and the names of a path.
-fn short(alloc: Global, target: &[u8]) -> Result<String, AllocError> {
-    match target_of(alloc, target) {
-        Ok(Target::Service) => String::from_str(alloc, "S"),
-        Ok(Target::Repository) => String::from_str(alloc, "R"),
-        Ok(Target::Object(names)) => {
-            let mut text = String::from_str(alloc, "O")?;
-            for name in names.as_slice() {
-                text.push_str("|")?;
-                text.push_str(name.as_str())?;
-            }
-            Ok(text)
-        }
-        Err(Refusal::Refused(Cause::NoUrl)) => String::from_str(alloc, "no"),
-        Err(Refusal::Refused(_)) => String::from_str(alloc, "path"),
-        Err(Refusal::Memory) => Err(AllocError),
-    }
-}
-
-#[test]
-fn addresses(rt: HostRuntime) -> Result<(), Fail> {
-    let alloc = rt.alloc();
-    let cases: [(&[u8], &str); 14] = [
-        (b"/cmis", "S"),
-        (b"//cmis/", "S"),
-        (b"/%63mis/main", "R"),
-        (b"/cmis/main/root", "O"),
-        (b"/cmis/main/root/a//b%20c?cmisselector=children", "O|a|b c"),
-        (b"/cmis/main/root/a#b", "O|a#b"),
-        (b"http://x/cmis/main", "R"),
-        (b"HTTP://x:80/cmis?a", "S"),
-        (b"http://x?/cmis", "no"),
-        (b"https://x/cmis", "no"),
-        (b"*", "no"),
-        (b"/", "no"),
-        (b"/cmis/other", "no"),
-        (b"/other/%ff", "path"),
-    ];
-    for (target, want) in cases {
-        let text = short(alloc, target)?;
-        assert_eq!(rt; text.as_str(), want);
-    }
-    assert_eq!(rt; query_of(b"http://x/cmis?a=1?b#c"), b"a=1?b#c".as_slice());
-    assert_eq!(rt; query_of(b"/cmis"), b"".as_slice());
     Ok(())
 }

@@ -1,4 +1,2 @@
 pub mod Callers
 pub mod Steps
-pub mod Paths
-pub mod Targets

@@ -4,7 +4,7 @@ ghost use Rattle.std.specs.Option.{option_copied};
 ghost use Rattle.std.specs.List.{list_any, position_or_len};
 ghost use Rattle.cm_base.specs.Judged.{Meets};
 ghost use Rattle.http_grammar.specs.Fields.{same_word};
-ghost use Rattle.http_target.specs.Callers.{after_blank, after_scheme, is_colon, is_caller, user_of, name_of, by_rest, caller_of};
+ghost use Rattle.http_caller.specs.Callers.{after_blank, after_scheme, is_colon, is_caller, user_of, name_of, by_rest, caller_of};
 
 use base64::DecodeAllocError;
 use base64::engine::general_purpose::STANDARD;
