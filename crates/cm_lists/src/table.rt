@@ -3,6 +3,10 @@ ghost use Rattle.std.specs.Prelude.{◌≡◌, ℕ, ◌==◌, ◌<◌, List, [],
 ghost use Rattle.cm_lists.specs.Keyed.{keyed, Rises};
 ghost use Rattle.cm_map.specs.Rests.{rest};
 
+use cm_base::access::AccessList;
+use cm_base::content::{Content, Rendition};
+use cm_base::object::Object;
+use cm_base::series::Series;
 use cm_map::iter::Iter;
 use cm_map::map::Map;
 use std::alloc::{AllocError, Global};
@@ -15,6 +19,46 @@ pub trait Numbered: Drop {
     /// Its number.
     fn number(&self) -> u64
         ensures { result ≡ number self.now };
+}
+
+impl Numbered for Object {
+    ghost number = { λ x. x.id.0 };
+
+    fn number(&self) -> u64 {
+        self.id.0
+    }
+}
+
+impl Numbered for Series {
+    ghost number = { λ s. s.id.0 };
+
+    fn number(&self) -> u64 {
+        self.id.0
+    }
+}
+
+impl Numbered for AccessList {
+    ghost number = { λ l. l.at.0 };
+
+    fn number(&self) -> u64 {
+        self.at.0
+    }
+}
+
+impl Numbered for Content {
+    ghost number = { λ c. c.of.0 };
+
+    fn number(&self) -> u64 {
+        self.of.0
+    }
+}
+
+impl Numbered for Rendition {
+    ghost number = { λ d. d.id.0 };
+
+    fn number(&self) -> u64 {
+        self.id.0
+    }
 }
 
 /// A list whose members' numbers rise. A change leaves the old list as it was, and shares with it all but a few blocks.

@@ -1,18 +1,23 @@
 //! The opening.
-ghost use Rattle.std.specs.Prelude.{◌≡◌, ℕ, ◌≤◌, List, IfOk, map, codes, unwrap_or, slice_get};
-ghost use Rattle.cmis_spec.specs.Repository.{opening, root_folder, root_access, administrator_of, most_steps};
+ghost use Rattle.std.specs.Prelude.{◌≡◌, ℕ, List, [], ◌∷◌, IfOk, map, codes, unwrap_or, slice_get};
+ghost use Rattle.cmis_spec.specs.Repository.{opening, root_folder, root_aces, administrator_of};
 ghost use Rattle.cmis_spec.specs.Well.{IsWellFormed};
 
-use crate::state::State;
-use cm_base::access::{AccessList, Ace, Level};
+use crate::filing::Filing;
+use crate::state::{State, Still, Tree};
+use cm_base::access::{AccessList, Ace, Aces, Level};
 use cm_base::copies::Copies;
 use cm_base::items::Items;
 use cm_base::number::{Moment, Oid};
 use cm_base::object::Object;
 use cm_base::text::{Text, Texts};
 use cm_base::user::{User, Users};
+use cm_lists::buckets::Buckets;
+use cm_lists::sequence::Sequence;
+use cm_lists::table::Table;
 use cm_types::definition::TypeDefs;
 use std::alloc::{AllocError, Global};
+use std::sync::Arc;
 
 /// The number of the root folder.
 pub const ROOT: Oid = Oid(1);
@@ -54,19 +59,35 @@ fn root_folder(alloc: Global, maker: &Text, moment: Moment, step: u64) -> Result
     })
 }
 
-fn root_access(alloc: Global, administrator: &Text) -> Result<AccessList, AllocError>
-    ensures { IfOk result (λ l. l ≡ root_access administrator.now) }
+fn ace(alloc: Global, principal: &Text, level: Level) -> Result<Ace, AllocError>
+    ensures { IfOk result (λ a. a ≡ record { principal = principal.now; level = level }) }
+{
+    Ok(Ace {
+        principal: principal.copied(alloc)?,
+        level,
+    })
+}
+
+fn two_aces(alloc: Global, first: Ace, second: Ace) -> Result<Aces, AllocError>
+    ensures { IfOk result (λ aces. aces ≡ first ∷ second ∷ []) }
 {
     let mut aces = Items::new(alloc);
-    aces.push(Ace {
-        principal: administrator.copied(alloc)?,
-        level: Level::All,
-    })?;
-    aces.push(Ace {
-        principal: Text::from_str(alloc, "anyone")?,
-        level: Level::Read,
-    })?;
-    Ok(AccessList { at: ROOT, aces })
+    aces.push(first)?;
+    aces.push(second)?;
+    Ok(aces)
+}
+
+fn root_aces(alloc: Global, administrator: &Text) -> Result<Aces, AllocError>
+    ensures { IfOk result (λ aces. aces ≡ root_aces administrator.now) }
+{
+    let anyone = Text::from_str(alloc, "anyone")?;
+    let own = ace(alloc, administrator, Level::All)?;
+    let others = ace(alloc, &anyone, Level::Read)?;
+    if administrator.cmp(&anyone).is_lt() {
+        two_aces(alloc, own, others)
+    } else {
+        two_aces(alloc, others, own)
+    }
 }
 
 impl State {
@@ -83,22 +104,30 @@ impl State {
     {
         let names = names_of(alloc, users.as_slice())?;
         let administrator = administrator_of(alloc, names.as_slice())?;
-        let mut objects = Items::new(alloc);
-        objects.push(root_folder(alloc, &administrator, moment, first_step)?)?;
-        let mut access = Items::new(alloc);
-        access.push(root_access(alloc, &administrator)?)?;
-        Ok(State {
+        let root = root_folder(alloc, &administrator, moment, first_step)?;
+        let aces = root_aces(alloc, &administrator)?;
+        let objects = Table::empty(alloc).with_last(alloc, root)?;
+        let access = Table::empty(alloc).with_last(alloc, AccessList { at: ROOT, aces })?;
+        let still = Still {
             types,
             users: names,
-            groups: Items::new(alloc),
+            no_groups: Items::new(alloc),
+            series: Table::empty(alloc),
+            contents: Table::empty(alloc),
+            renditions: Table::empty(alloc),
+        };
+        let tree = Tree {
+            filed: Filing::empty(alloc),
+            names: Buckets::empty(alloc),
+        };
+        let still = Arc::new(alloc, still)?;
+        Ok(State {
+            still,
+            tree,
             objects,
-            series: Items::new(alloc),
-            filed: Items::new(alloc),
             access,
-            applied: Items::new(alloc),
-            contents: Items::new(alloc),
-            renditions: Items::new(alloc),
-            log: Items::new(alloc),
+            applied: Sequence::empty(alloc),
+            log: Sequence::empty(alloc),
             next: 2,
             step: first_step,
             cost: 0,
