@@ -1,5 +1,5 @@
 -- Access control lists: what they permit, and how they change (CMIS 1.1, section 2.1.12; the order of entries is this project's own).
-use Rattle.std.specs.Prelude.{ℕ, Bool, not, List, [], ◌∷◌, ◌++◌, filter, fold, flat_map, filter_map, find, Option, Some, None, option_map, bytes_eq, codes, if◌then◌else◌}
+use Rattle.std.specs.Prelude.{ℕ, Bool, not, List, ◌∷◌, ◌++◌, filter, fold, Option, Some, None, bytes_eq, codes, if◌then◌else◌}
 use Rattle.std.specs.List.{list_any}
 use Rattle.core.specs.Ordering.{nat_cmp, ordering_then, is_lt, is_gt, is_eq}
 use Rattle.core.specs.Cmp.Lexicographic.{slice_cmp}

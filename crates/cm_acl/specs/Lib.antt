@@ -1,1 +1,2 @@
 pub mod Acl
+pub mod Keys

@@ -1,2 +1,183 @@
-//! How an access control list changes.
-ghost use Rattle.std.specs.Prelude.{◌≡◌};
+//! How an access control list changes (CMIS 1.1, section 2.2.10.2).
+ghost use Rattle.std.specs.Prelude.{◌≡◌, ℕ, ◌||◌, List, [], map, fold, IfOk};
+ghost use Rattle.core.specs.Ordering.{eq_by_cmp};
+ghost use Rattle.cm_map.specs.Sets.{IsRising, has_key, with_key};
+ghost use Rattle.cmis_spec.specs.Well.{Apart, ComesBefore};
+ghost use Rattle.cm_acl.specs.Acl.{changed_aces};
+ghost use Rattle.cm_acl.specs.Keys.{ace_key, ace_of_key, key_order, kept_with};
+
+use cm_base::access::{Ace, Aces, Level};
+use cm_base::copies::Copies;
+use cm_base::items::Items;
+use cm_base::text::Text;
+use cm_map::set::Set;
+use std::alloc::{AllocError, Global};
+
+fn key_of(alloc: Global, ace: &Ace) -> Result<(Text, Level), AllocError>
+    ensures { IfOk result (λ k. k ≡ ace_key ace.now) }
+{
+    let principal = ace.principal.copied(alloc)?;
+    Ok((principal, ace.level))
+}
+
+// The set with all these entries.
+fn with_all(
+    alloc: Global,
+    start: Set<(Text, Level)>,
+    aces: &[Ace],
+) -> Result<Set<(Text, Level)>, AllocError>
+    ensures keys { IfOk result (λ s. s ≡ fold (with_key key_order) start (map ace_key aces.now)) }
+    ensures has { IfOk result (λ s. (q : List ℕ × Level) → has_key key_order q s ≡ fold (λ b k. eq_by_cmp key_order q k || b) (has_key key_order q start) (map ace_key aces.now)) }
+{
+    let mut set = start;
+    for ace in aces {
+        let key = key_of(alloc, ace)?;
+        set = set.with(alloc, key)?;
+    }
+    Ok(set)
+}
+
+// The set with an entry that isn't removed.
+fn with_kept(
+    alloc: Global,
+    set: Set<(Text, Level)>,
+    ace: &Ace,
+    removed: &Set<(Text, Level)>,
+) -> Result<Set<(Text, Level)>, AllocError>
+    ensures { IfOk result (λ s. s ≡ kept_with removed.now set ace.now) }
+{
+    let key = key_of(alloc, ace)?;
+    if removed.has(&key) {
+        return Ok(set);
+    }
+    let more = set.with(alloc, key)?;
+    Ok(more)
+}
+
+// The set of the entries that aren't removed.
+fn all_but(
+    alloc: Global,
+    aces: &[Ace],
+    removed: &Set<(Text, Level)>,
+) -> Result<Set<(Text, Level)>, AllocError>
+    ensures { IfOk result (λ s. s ≡ fold (kept_with removed.now) [] aces.now) }
+{
+    let mut set = Set::empty(alloc);
+    for ace in aces {
+        set = with_kept(alloc, set, ace, removed)?;
+    }
+    Ok(set)
+}
+
+// The entries of a set, as a list in order.
+fn list_of(alloc: Global, set: &Set<(Text, Level)>) -> Result<Aces, AllocError>
+    ensures list { IfOk result (λ aces. aces ≡ map ace_of_key set.now) }
+    ensures rising { IsRising key_order set.now }
+{
+    let mut aces = Vec::new(alloc);
+    for entry in set.iter() {
+        let key = &entry.0;
+        let principal = key.0.copied(alloc)?;
+        aces.push(Ace {
+            principal,
+            level: key.1,
+        })?;
+    }
+    Ok(Items::from_vec(aces))
+}
+
+/// The list after a change: the removals are done first, and one of an entry that isn't there does nothing; then the additions.
+///
+/// Entries stand in the byte order of their principals, then read, write, all, and none stands twice.
+pub fn apply(alloc: Global, list: &Aces, remove: &Aces, add: &Aces) -> Result<Aces, AllocError>
+    requires { Apart ComesBefore list.now }
+    ensures changed { IfOk result (λ aces. aces ≡ changed_aces list.now remove.now add.now) }
+    ensures ordered { IfOk result (λ aces. Apart ComesBefore aces) }
+{
+    let none = Set::empty(alloc);
+    let removed = with_all(alloc, none, remove.as_slice())?;
+    let kept = all_but(alloc, list.as_slice(), &removed)?;
+    let all = with_all(alloc, kept, add.as_slice())?;
+    let aces = list_of(alloc, &all)?;
+    Ok(aces)
+}
+
+#[cfg(test)]
+mod tests {
+    use super::*;
+    use crate::level::{greater, is_at_least, level_of, read_level};
+    use cm_base::text::Texts;
+    use std::test::Fail;
+
+    fn list(alloc: Global, pairs: &[(&str, Level)]) -> Result<Aces, AllocError> {
+        let mut aces = Vec::new(alloc);
+        for pair in pairs {
+            let principal = Text::from_str(alloc, pair.0)?;
+            aces.push(Ace {
+                principal,
+                level: pair.1,
+            })?;
+        }
+        Ok(Items::from_vec(aces))
+    }
+
+    // Removals come first, and one of an entry that isn't there does nothing.
+    #[test]
+    fn removes_before_it_adds(rt: HostRuntime) -> Result<(), Fail> {
+        let alloc = rt.alloc();
+        let none: Aces = Items::new(alloc);
+        let old = apply(alloc, &none, &none, &list(alloc, &[("ann", Level::All)])?)?;
+        let remove = list(alloc, &[("bob", Level::Read), ("ann", Level::Write)])?;
+        let add = list(
+            alloc,
+            &[
+                ("bob", Level::Write),
+                ("bob", Level::Read),
+                ("ann", Level::Read),
+                ("bob", Level::Write),
+            ],
+        )?;
+        let new = apply(alloc, &old, &remove, &add)?;
+        let want = [
+            ("ann", Level::Read),
+            ("ann", Level::All),
+            ("bob", Level::Read),
+            ("bob", Level::Write),
+        ];
+        assert_eq!(rt; new.len(), want.len());
+        for (ace, pair) in new.as_slice().iter().zip(want) {
+            assert!(rt; ace.principal.is_str(pair.0) && ace.level == pair.1);
+        }
+        Ok(())
+    }
+
+    #[test]
+    fn the_greatest_entry_counts(rt: HostRuntime) -> Result<(), Fail> {
+        let alloc = rt.alloc();
+        let none: Texts = Items::new(alloc);
+        let mut groups: Texts = Items::new(alloc);
+        groups.push(Text::from_str(alloc, "staff")?)?;
+        let aces = list(
+            alloc,
+            &[
+                ("ann", Level::Write),
+                ("anyone", Level::Read),
+                ("staff", Level::All),
+            ],
+        )?;
+        let ann = Text::from_str(alloc, "ann")?;
+        let bob = Text::from_str(alloc, "bob")?;
+        assert_eq!(rt; level_of(&aces, &ann, &none), Level::Write);
+        assert_eq!(rt; level_of(&aces, &bob, &none), Level::Read);
+        assert_eq!(rt; level_of(&aces, &bob, &groups), Level::All);
+        assert!(rt; is_at_least(Level::Read, greater(Level::Write, Level::Read)));
+        assert!(rt;
+            matches!(
+                read_level(&Text::from_str(alloc, "cmis:write")?),
+                Ok(Level::Write)
+            )
+        );
+        assert!(rt; matches!(read_level(&ann), Err(_)));
+        Ok(())
+    }
+}

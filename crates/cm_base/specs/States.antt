@@ -1,4 +1,4 @@
--- The words of versioning states (CMIS 1.1, section 5.4.3.2).
+-- The words of versioning states (CMIS 1.1, section 2.2.4.1).
 use Rattle.std.specs.Prelude.{ℕ, List, codes, bytes_eq, Option, Some, None, if◌then◌else◌}
 use Rattle.cm_base.specs.declared.series.VersioningState.{VersioningState}
 use Rattle.cm_base.specs.declared.series.VersioningState.TheVariants as states

@@ -26,11 +26,11 @@ abbrev pub has_user_length : List ℕ → Bool
 has_user_length bytes = nat_lt 0 (length bytes) && nat_le (length bytes) 64
 
 -- the principals that stand for a caller without credentials, and for every caller
-abbrev pub is_kept_name : List ℕ → Bool
-is_kept_name name = bytes_eq name (codes "anonymous") || bytes_eq name (codes "anyone")
+abbrev pub is_reserved_name : List ℕ → Bool
+is_reserved_name name = bytes_eq name (codes "anonymous") || bytes_eq name (codes "anyone")
 
 abbrev pub is_user_name : List ℕ → Bool
-is_user_name name = has_user_length name && list_all is_user_byte name && not (is_kept_name name)
+is_user_name name = has_user_length name && list_all is_user_byte name && not (is_reserved_name name)
 
 abbrev pub is_secret : List ℕ → Bool
 is_secret secret = has_user_length secret && list_all is_secret_byte secret

@@ -21,6 +21,7 @@ pub mod object;
 pub mod pieces;
 pub mod series;
 pub mod shown;
+pub mod steps;
 #[cfg(test)]
 mod tests;
 pub mod text;

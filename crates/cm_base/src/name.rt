@@ -1,4 +1,4 @@
-//! Names of objects (CMIS 1.1, section 2.1.2.1.2).
+//! Names of objects; a request with another name is refused with nameConstraintViolation (CMIS 1.1, section 2.2.1.4.2).
 ghost use Rattle.std.specs.Prelude.{◌≡◌};
 ghost use Rattle.std.specs.List.{list_any};
 ghost use Rattle.cm_base.specs.Names.{has_name_length, is_barred, is_name};

@@ -1,4 +1,6 @@
 //! Tables of outside values: the causes as the project's table has them, names, lists of users, decimals, the order of values.
+ghost use Rattle.std.specs.Prelude.{◌≡◌, ◌<◌};
+
 use crate::argument::Argument;
 use crate::cause::{Cause, PropertyFault};
 use crate::decimal::{read_i64, read_u64};
@@ -6,11 +8,14 @@ use crate::items::Items;
 use crate::media::MediaType;
 use crate::name::name_ok;
 use crate::series::VersioningState;
+use crate::steps::Steps;
 use crate::text::Text;
 use crate::users::{UsersStop, read_users};
 use crate::value::{Scalar, Value};
 use std::alloc::Global;
 use std::cmp::Ordering;
+use std::marker::Brand;
+use std::sync::ledger::{Blank, Ledger};
 
 fn is_row(cause: &Cause, number: u8, status: u16, text: &str) -> bool {
     cause.exception().number() == number && cause.status() == status && cause.text() == text
@@ -334,4 +339,18 @@ fn media_types_and_states(rt: HostRuntime) {
     assert!(rt; VersioningState::of_word("checkedout") == Some(VersioningState::CheckedOut));
     assert!(rt; VersioningState::of_word("CheckedOut").is_none());
     assert!(rt; VersioningState::Major.word() == "major");
+}
+
+fn counted<L: Ledger>(blank: Blank)
+    requires name { blank.name ≡ L.name }
+    requires parts { blank.parts ≡ L.parts }
+    requires cut { 0 < blank.parts }
+{
+    let mut steps = Steps::<L>::new(blank);
+    steps.tick();
+}
+
+#[test]
+fn steps_are_counted(_rt: HostRuntime) {
+    counted::<Brand>(Blank::new(1));
 }

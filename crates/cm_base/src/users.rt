@@ -2,7 +2,7 @@
 ghost use Rattle.std.specs.Prelude.{◌≡◌, IfOk, map};
 ghost use Rattle.std.specs.List.{list_all, list_any};
 ghost use Rattle.cm_base.specs.declared.users.UsersStop.TheVariants.{Memory};
-ghost use Rattle.cm_base.specs.UserLists.{ReadsUsers, all_differ, has_user_length, is_colon, is_kept_name, is_secret, is_secret_byte, is_user, is_user_byte, is_user_name, name_part, pieces, secret_part, texts_of, user_of};
+ghost use Rattle.cm_base.specs.UserLists.{ReadsUsers, all_differ, has_user_length, is_colon, is_reserved_name, is_secret, is_secret_byte, is_user, is_user_byte, is_user_name, name_part, pieces, secret_part, texts_of, user_of};
 
 use crate::items::Items;
 use crate::text::Text;
@@ -64,8 +64,8 @@ fn has_user_length(bytes: &[u8]) -> bool
     0 < bytes.len() && bytes.len() <= LONGEST_USER_NAME
 }
 
-fn is_kept_name(name: &[u8]) -> bool
-    ensures { result ≡ is_kept_name name.now }
+fn is_reserved_name(name: &[u8]) -> bool
+    ensures { result ≡ is_reserved_name name.now }
 {
     name == "anonymous".as_bytes() || name == "anyone".as_bytes()
 }
@@ -79,7 +79,7 @@ fn are_user_bytes(name: &[u8]) -> bool
 fn is_user_name(name: &[u8]) -> bool
     ensures { result ≡ is_user_name name.now }
 {
-    has_user_length(name) && are_user_bytes(name) && !is_kept_name(name)
+    has_user_length(name) && are_user_bytes(name) && !is_reserved_name(name)
 }
 
 fn are_secret_bytes(secret: &[u8]) -> bool

@@ -6,5 +6,7 @@ ghost use Rattle.std.specs.Prelude.{◌≡◌};
 pub mod place;
 pub mod question;
 pub mod reply;
+#[cfg(test)]
+mod tests;
 pub mod weight;
 pub mod write;

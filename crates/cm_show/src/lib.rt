@@ -4,3 +4,5 @@
 ghost use Rattle.std.specs.Prelude.{◌≡◌};
 
 pub mod system;
+#[cfg(test)]
+mod tests;

@@ -95,9 +95,10 @@ impl State {
     }
 
     /// The names of the groups that have the user as a member.
-    pub fn groups_of(&self, _user: &Text) -> &Texts
-        ensures { result.now ≡ groups_of self.now _user.now }
+    pub fn groups_of(&self, user: &Text) -> &Texts
+        ensures { result.now ≡ groups_of self.now user.now }
     {
+        let _ = user;
         &self.still.no_groups
     }
 

@@ -1,12 +1,11 @@
 -- The passes of a desk of one thread, after its calls.
-use Rattle.std.proofs.Common.{◌≡◌, ◌≢◌, ℕ, ◌+◌, ◌≤◌, ◌<◌, List, [], ◌∷◌, ◌++◌, Option, Result, Ok, Err, length, drop, refl, ap, sym, ◌∙◌, arith, length-append, subst}
+use Rattle.std.proofs.Common.{◌≡◌, ◌≢◌, ℕ, ◌+◌, ◌≤◌, List, [], ◌∷◌, ◌++◌, Option, Result, Ok, length, drop, refl, ap, sym, ◌∙◌, arith, length-append, subst}
 use Rattle.std.proofs.lemmas.List.{append-nil, drop-append-le}
-use mathlib.Core.List.{IsPrefix}
 use Rattle.outside.specs.Clocks.{Words}
 use Rattle.cm_base.specs.declared.number.Moment.{Moment}
 use Rattle.desk_model.specs.declared.entry.Entry.{Entry}
 use Rattle.desk_model.specs.Histories.{History, IsLegal, own, CallersBelow, CountsFrom, grown, shown_by, state_of}
-use Rattle.desk_model.specs.Desks.{Known, IsSound, known_at, with_entry, entry_of, Wrote}
+use Rattle.desk_model.specs.Desks.{Known, known_at, with_entry, entry_of, Wrote}
 use Rattle.desk_model.specs.Single.{Single, single_at, IsOf}
 use Rattle.desk_model.proofs.OwnEntries.{own-mine, own-other, counts-more, prefix-more, prefix-le, below-append, below-weaker, own-new}
 

@@ -1,5 +1,5 @@
 -- Histories: lists of accepted writes, and what a machine makes of them. The machine's step is an argument.
-use Rattle.std.specs.Prelude.{◌≡◌, ℕ, ◌+◌, ◌<◌, ◌==◌, Bool, List, [], ◌∷◌, ◌++◌, Result, Ok, Err, IsOk, drop, length}
+use Rattle.std.specs.Prelude.{◌≡◌, ℕ, ◌+◌, ◌<◌, ◌==◌, Bool, List, [], ◌∷◌, ◌++◌, Result, Ok, Err, IsOk, drop}
 use Rattle.std.specs.List.{filter}
 use Rattle.desk_model.specs.declared.entry.Entry.{Entry}
 

@@ -1,5 +1,5 @@
 -- The desk of one thread.
-use Rattle.std.specs.Prelude.{◌≡◌, ℕ, ◌<◌, ◌≤◌, List, [], ◌∷◌, ◌++◌, Option, Result, Ok, Err, length, drop}
+use Rattle.std.specs.Prelude.{◌≡◌, ℕ, ◌<◌, List, [], ◌∷◌, ◌++◌, Option, Result, Ok, Err, drop}
 use mathlib.Core.List.{IsPrefix}
 use Rattle.outside.specs.Clocks.{Words}
 use Rattle.desk_model.specs.declared.entry.Entry.{Entry}

@@ -82,33 +82,49 @@ fn is_entry(snapshot: &Snapshot<Sums>, place: u64, caller: u32, serial: u64, mom
 }
 
 #[test]
-fn one_desk_keeps_one_journal(rt: HostRuntime) -> Result<(), Fail> {
+fn one_pass_writes(rt: HostRuntime) -> Result<(), Fail> {
     let alloc = rt.alloc();
     let user = Text::from_str(alloc, "ann")?;
     let version: Version<Sums> = Version::opening(alloc, 1)?;
+    assert_eq!(rt; version.len(), 0);
+    assert_eq!(rt; version.number(), 1);
     let clock = ListClock::new(alloc, &[5, 7])?;
+    let mut desk = OneDesk::new(alloc, version, clock)?;
+    let mut pass = desk.pass()?;
+    let moment = desk.moment(&mut ());
+    let made = desk.write(alloc, &mut (), &mut pass, 1, &user, moment, 40);
+    assert!(rt; shows(&made, 41));
+    let late = desk.write(alloc, &mut (), &mut pass, 42, &user, moment, 1);
+    assert!(rt; is_ahead(&late, 41));
+    let over = desk.write(alloc, &mut (), &mut pass, 41, &user, moment, 59);
+    assert!(rt; refuses(&over, 41));
+    let moment = desk.moment(&mut ());
+    let made = desk.write(alloc, &mut (), &mut pass, 0, &user, moment, 58);
+    assert!(rt; shows(&made, 99));
+    let snapshot = desk.look(&mut (), &mut pass)?;
+    assert_eq!(rt; snapshot.len(), 2);
+    assert!(rt; is_entry(&snapshot, 0, 0, 0, 5));
+    assert!(rt; is_entry(&snapshot, 1, 0, 1, 7));
+    assert!(rt; snapshot.entry(2).is_none());
+    Ok(())
+}
+
+#[test]
+fn another_pass_sees_the_write(rt: HostRuntime) -> Result<(), Fail> {
+    let alloc = rt.alloc();
+    let user = Text::from_str(alloc, "ann")?;
+    let version: Version<Sums> = Version::opening(alloc, 1)?;
+    let clock = ListClock::new(alloc, &[])?;
     let mut desk = OneDesk::new(alloc, version, clock)?;
     let mut first = desk.pass()?;
     let mut second = desk.pass()?;
-    let moment = desk.moment(&mut ());
-    let made = desk.write(alloc, &mut (), &mut second, 1, &user, moment, 40);
-    assert!(rt; shows(&made, 41));
-    let moment = desk.moment(&mut ());
-    let made = desk.write(alloc, &mut (), &mut first, 41, &user, moment, 30);
-    assert!(rt; shows(&made, 71));
-    let late = desk.write(alloc, &mut (), &mut second, 72, &user, moment, 1);
-    assert!(rt; is_ahead(&late, 71));
-    let over = desk.write(alloc, &mut (), &mut second, 0, &user, moment, 29);
-    assert!(rt; refuses(&over, 71));
-    let snapshot = desk.look(&mut (), &mut second)?;
     assert_eq!(rt; desk.caller(&second), 1);
-    assert_eq!(rt; snapshot.len(), 2);
-    assert_eq!(rt; snapshot.number(), 71);
-    assert_eq!(rt; *snapshot.state(), 71);
-    assert!(rt; is_entry(&snapshot, 0, 1, 0, 5));
-    assert!(rt; is_entry(&snapshot, 1, 0, 0, 7));
-    assert!(rt; snapshot.entry(2).is_none());
-    let answer = snapshot.answer(alloc, &user, &71);
+    let made = desk.write(alloc, &mut (), &mut first, 0, &user, Moment(3), 40);
+    assert!(rt; shows(&made, 41));
+    let snapshot = desk.look(&mut (), &mut second)?;
+    assert_eq!(rt; snapshot.number(), 41);
+    assert_eq!(rt; *snapshot.state(), 41);
+    let answer = snapshot.answer(alloc, &user, &41);
     assert!(rt; answer.is_ok());
     Ok(())
 }

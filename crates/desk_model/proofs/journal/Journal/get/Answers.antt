@@ -1,4 +1,4 @@
-use Rattle.std.proofs.Common.{◌≡◌, ◌∙◌, sym, ap}
+use Rattle.std.proofs.Common.{◌∙◌, ap}
 use Rattle.std.specs.List.{enumerate_from}
 use Rattle.desk_model.proofs.Places.{place-got}
 use Rattle.desk_model.proofs.journal.Journal.get.Goals as goal

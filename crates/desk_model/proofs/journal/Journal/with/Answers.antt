@@ -1,4 +1,4 @@
-use Rattle.std.proofs.Common.{◌≡◌, ◌∙◌, sym, ap, ◌++◌, ◌∷◌, [], map}
+use Rattle.std.proofs.Common.{◌∙◌, sym, ap, ◌++◌, ◌∷◌, [], map}
 use Rattle.std.specs.List.{enumerate_from}
 use Rattle.desk_model.proofs.Places.{with-end, map-enumerate}
 use Rattle.desk_model.proofs.journal.Journal.with.Goals as goal

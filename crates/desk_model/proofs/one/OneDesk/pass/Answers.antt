@@ -1,6 +1,6 @@
-use Rattle.std.proofs.Common.{◌≡◌, sym, ap, refl, length, drop, ◌∙◌}
+use Rattle.std.proofs.Common.{sym, ap, refl, length, ◌∙◌}
 use Rattle.std.specs.Arc.{arc_value}
-use Rattle.desk_model.specs.Histories.{own, IsLegal, CallersBelow}
+use Rattle.desk_model.specs.Histories.{own}
 use Rattle.desk_model.proofs.Passes.{one-new, one-stays}
 use Rattle.desk_model.proofs.OwnEntries.{own-new, below-weaker}
 use Rattle.desk_model.proofs.one.OneDesk.pass.Goals as goal

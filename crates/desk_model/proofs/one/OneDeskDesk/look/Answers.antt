@@ -1,6 +1,3 @@
-use Rattle.std.proofs.Common.{sym, ◌∙◌, subst}
-use Rattle.std.specs.Arc.{arc_value}
-use Rattle.desk_model.specs.Histories.{IsLegal}
 use Rattle.desk_model.proofs.Passes.{one-sees}
 use Rattle.desk_model.proofs.one.OneDeskDesk.look.Goals as goal
 

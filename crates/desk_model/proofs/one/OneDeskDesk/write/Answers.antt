@@ -1,7 +1,5 @@
-use Rattle.std.proofs.Common.{◌≡◌, ◌≢◌, sym, ◌∙◌, subst, refl, ap}
+use Rattle.std.proofs.Common.{refl}
 use Rattle.std.specs.Arc.{arc_value}
-use Rattle.desk_model.specs.Histories.{IsLegal, grown}
-use Rattle.desk_model.specs.Single.{IsOf}
 use Rattle.desk_model.proofs.Passes.{one-sees, one-adds, one-wrote}
 use Rattle.desk_model.proofs.one.OneDeskDesk.write.Goals as goal
 

@@ -1,6 +1,5 @@
-use Rattle.std.proofs.Common.{◌≡◌, ℕ, ◌+◌, ◌≤◌, arith, sym, ap, length, subst}
+use Rattle.std.proofs.Common.{arith, ap, length}
 use Rattle.std.specs.Arc.{arc_value}
-use Rattle.desk_model.specs.Histories.{own}
 use Rattle.desk_model.proofs.OwnEntries.{own-length}
 use Rattle.desk_model.proofs.one.OnePass.add.Goals as goal
 

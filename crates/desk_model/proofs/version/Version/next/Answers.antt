@@ -1,5 +1,4 @@
-use Rattle.std.proofs.Common.{◌≡◌, ◌∙◌, sym}
-use Rattle.std.specs.Arc.{arc_value}
+use Rattle.std.proofs.Common.{◌∙◌}
 use Rattle.desk_model.proofs.Replays.{kept-more}
 use Rattle.desk_model.proofs.version.Version.next.Goals as goal
 

@@ -1,0 +1,39 @@
+-- The JSON of values and of the words that describe them (CMIS 1.1, section 5.2.11).
+use Rattle.std.specs.Prelude.{ℕ, List, codes, map}
+use Rattle.serde_json.specs.Data.{Data, null, boolean, number, string}
+use Rattle.serde_json.specs.Find.{of_integer}
+use Rattle.json_text.specs.Build.{list_data}
+use Rattle.cm_base.specs.declared.value.Scalar.{Scalar}
+use Rattle.cm_base.specs.declared.value.Scalar.TheVariants.{Flag, Whole, Time, Words}
+use Rattle.cm_base.specs.declared.value.Value.{Value}
+use Rattle.cm_base.specs.declared.value.Value.TheVariants.{Unset, One, Many}
+use Rattle.cm_types.specs.declared.property.PropertyKind.{PropertyKind}
+use Rattle.cm_types.specs.declared.property.PropertyKind.TheVariants as kinds
+use Rattle.cm_types.specs.declared.property.Cardinality.{Cardinality}
+use Rattle.cm_types.specs.declared.property.Cardinality.TheVariants as cardinalities
+
+-- a moment is its milliseconds since 1970
+abbrev pub scalar_data : Scalar → Data
+scalar_data (Flag b) = boolean b
+scalar_data (Whole n) = number (of_integer n)
+scalar_data (Time n) = number (of_integer n)
+scalar_data (Words t) = string t
+
+-- an unset value is null, several are an array
+abbrev pub value_data : Value → Data
+value_data Unset = null
+value_data (One s) = scalar_data s
+value_data (Many ss) = list_data (map scalar_data ss)
+
+abbrev pub kind_word : PropertyKind → List ℕ
+kind_word kinds.Boolean = codes "boolean"
+kind_word kinds.Integer = codes "integer"
+kind_word kinds.Datetime = codes "datetime"
+kind_word kinds.String = codes "string"
+kind_word kinds.Uri = codes "uri"
+kind_word kinds.Id = codes "id"
+kind_word kinds.Html = codes "html"
+
+abbrev pub cardinality_word : Cardinality → List ℕ
+cardinality_word cardinalities.Single = codes "single"
+cardinality_word cardinalities.Multi = codes "multi"

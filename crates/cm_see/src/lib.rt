@@ -1,0 +1,8 @@
+//! What a caller may do at an object, and which objects he reads.
+#![tactic(auto)]
+
+ghost use Rattle.std.specs.Prelude.{◌≡◌};
+
+pub mod level;
+pub mod read;
+pub mod tree;

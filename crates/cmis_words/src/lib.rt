@@ -1,0 +1,8 @@
+//! The words that the program is called with.
+#![tactic(auto)]
+
+ghost use Rattle.std.specs.Prelude.{◌≡◌};
+
+#[cfg(test)]
+mod tests;
+pub mod words;

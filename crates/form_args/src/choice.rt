@@ -1,0 +1,54 @@
+//! Arguments that are words of a few choices.
+ghost use Rattle.std.specs.Prelude.{◌≡◌};
+ghost use Rattle.form_args.specs.Single.{chosen, flag_of, needed};
+
+use crate::pairs::Pairs;
+use cm_base::argument::Argument;
+use cm_base::cause::Cause;
+
+/// A value that a word may mean.
+pub trait Choice: Copy {
+    ghost use Rattle.std.specs.Prelude.{ℕ, List, Option};
+
+    ghost meaning: { List ℕ → Option Self };
+
+    /// What a word means, if anything.
+    fn read(word: &str) -> Option<Self>
+        ensures { result ≡ meaning word.now };
+}
+
+impl Choice for bool {
+    ghost use Rattle.form_args.specs.Single.{read_flag};
+
+    ghost meaning = { read_flag };
+
+    fn read(word: &str) -> Option<bool> {
+        if word == "true" {
+            Some(true)
+        } else if word == "false" {
+            Some(false)
+        } else {
+            None
+        }
+    }
+}
+
+/// The choice that is given, or the default. A word that means none is BadArgument.
+pub fn chosen<C: Choice>(pairs: &Pairs, name: Argument, default: C) -> Result<C, Cause>
+    ensures { result ≡ chosen C.meaning pairs.now name default }
+{
+    match pairs.first(name.word()) {
+        None => Ok(default),
+        Some(word) => match C::read(word.as_str()) {
+            Some(choice) => Ok(choice),
+            None => Err(Cause::BadArgument(name)),
+        },
+    }
+}
+
+/// `true` or `false`, or the default. Another word is BadArgument.
+pub fn flag(pairs: &Pairs, name: Argument, default: bool) -> Result<bool, Cause>
+    ensures { result ≡ flag_of pairs.now name default }
+{
+    chosen(pairs, name, default)
+}

@@ -1,0 +1,104 @@
+//! Pairs of names and values, with an index by name.
+ghost use Rattle.std.specs.Prelude.{◌≡◌, IfOk, Option, option_map, length, ◌++◌, ◌∷◌, []};
+ghost use Rattle.std.specs.Option.{is_some};
+ghost use Rattle.form_args.specs.Pairs.{first_of, is_given};
+ghost use Rattle.form_args.specs.Index.{FindsFirst};
+ghost use Rattle.std.specs.BTreeMap.{get_by_text};
+ghost use Rattle.cm_base.specs.Arguments.{word_of};
+
+use cm_base::argument::Argument;
+use cm_base::text::Text;
+use std::alloc::{AllocError, Global};
+use std::collections::BTreeMap;
+use std::marker::Model;
+
+/// A name and its value.
+#[derive(Drop)]
+pub struct Pair {
+    pub name: Text,
+    pub value: Text,
+}
+
+/// Pairs in their order. A name is found without going through all of them.
+#[derive(Drop)]
+pub struct Pairs {
+    list: Vec<Pair>,
+    // The place of the first pair of each name.
+    places: BTreeMap<String, usize>,
+}
+
+impl Model for Pairs {
+    ghost use Rattle.std.specs.Prelude.{List};
+    ghost use Rattle.form_args.specs.declared.pairs.Pair.{Pair};
+
+    ghost Value = { List Pair };
+
+    ghost use Rattle.std.specs.BTreeMap.{get_by_text};
+    ghost use Rattle.form_args.specs.Index.{FindsFirst};
+
+    ghost view = { λ p. p.list.items };
+
+    ghost invariant = { λ p. FindsFirst (get_by_text p.places) p.list.items };
+}
+
+// Notes the place of a name that has none yet.
+fn note(
+    alloc: Global,
+    places: &mut BTreeMap<String, usize>,
+    done: &[Pair],
+    pair: &Pair,
+) -> Result<(), AllocError>
+    requires { FindsFirst (get_by_text places.old) done.now }
+    ensures { IfOk result (λ _. FindsFirst (get_by_text places.new) (done.now ++ pair.now ∷ [])) }
+{
+    if places.get(pair.name.as_str()).is_some() {
+        return Ok(());
+    }
+    let name = String::from_str(alloc, pair.name.as_str())?;
+    places.insert(name, done.len())?;
+    Ok(())
+}
+
+fn places_of(alloc: Global, list: &[Pair]) -> Result<BTreeMap<String, usize>, AllocError>
+    ensures { IfOk result (λ m. FindsFirst (get_by_text m) list.now) }
+{
+    let mut places = BTreeMap::new(alloc);
+    for i in 0..list.len() {
+        note(alloc, &mut places, &list[..i], &list[i])?;
+    }
+    Ok(places)
+}
+
+impl Pairs {
+    /// These pairs.
+    pub fn from_vec(alloc: Global, list: Vec<Pair>) -> Result<Pairs, AllocError>
+        ensures { IfOk result (λ p. p ≡ list.items) }
+    {
+        let places = places_of(alloc, &list)?;
+        Ok(Pairs { list, places })
+    }
+
+    /// How many there are.
+    pub fn len(&self) -> usize
+        ensures { result ≡ length self.now }
+    {
+        self.list.len()
+    }
+
+    /// The value of the first pair of this name.
+    pub fn first(&self, name: &str) -> Option<&Text>
+        ensures { option_map (λ t. t.now) result ≡ first_of self.now name.now }
+    {
+        match self.places.get(name) {
+            Some(place) => Some(&self.list[*place].value),
+            None => None,
+        }
+    }
+
+    /// Whether an argument is given.
+    pub fn has(&self, name: Argument) -> bool
+        ensures { result ≡ is_given self.now name }
+    {
+        self.first(name.word()).is_some()
+    }
+}

@@ -1,0 +1,4 @@
+pub mod Bodies
+pub mod Build
+pub mod Keys
+pub mod Shown

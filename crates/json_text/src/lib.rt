@@ -1,0 +1,11 @@
+//! JSON (RFC 8259) over serde_json: values that are written compact with their names in byte order, the bodies of causes,
+//! and what stands at the keys of a text that is read.
+#![tactic(auto)]
+
+ghost use Rattle.std.specs.Prelude.{◌≡◌};
+
+pub mod cause;
+pub mod read;
+#[cfg(test)]
+mod tests;
+pub mod tree;

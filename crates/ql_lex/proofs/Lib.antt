@@ -1,0 +1,4 @@
+pub mod Cuts
+pub mod Signs
+pub mod Reading
+pub mod Laws

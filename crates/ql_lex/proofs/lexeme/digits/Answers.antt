@@ -1,0 +1,6 @@
+use Rattle.ql_lex.specs.Lexes as spec
+use Rattle.ql_lex.proofs.Cuts.{cut_found, digit_ascii}
+use Rattle.ql_lex.proofs.lexeme.digits.Goals as goal
+
+pub returns-clause-cut : goal.returns-clause-cut
+returns-clause-cut c = cut_found spec.is_digit digit_ascii c.args.text.now c.as_bytes.result.now c.digit_bytes.result c.utf8.text c.as_bytes.ensures.value c.digit_bytes.ensures

@@ -1,0 +1,7 @@
+pub mod ListFacts
+pub mod WireLaws
+pub mod Longer
+pub mod Alones
+pub mod FromSession
+pub mod OneAlone
+pub mod SmallRuns

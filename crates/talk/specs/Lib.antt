@@ -1,0 +1,6 @@
+pub mod Wire
+pub mod Served
+pub mod Requests
+pub mod Session
+pub mod Told
+pub mod Alone

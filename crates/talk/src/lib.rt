@@ -1,0 +1,11 @@
+//! One session of a connection: the relation between the bytes that come in, the history, and the bytes that go out,
+//! with its laws. It is generic in the machine and in the words of the wire.
+#![tactic(auto)]
+
+mod asked;
+mod end;
+mod laws;
+
+pub use asked::Asked;
+pub use end::End;
+pub use laws::{alone_is_one, session_alone, session_stands};
