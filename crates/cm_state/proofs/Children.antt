@@ -42,7 +42,6 @@ no_member r x None none b = refl
 no_member r x (Some n) none b = absurd (none_some b.1.0 (sym (ap (λ ss. find (λ s. same s.id n) ss) none) ∙ b.1.1))
 
 module _ (r : Repository) (w : IsWellFormed r) (none : r.series ≡ []) where
-
   no_series_at : (n : Oid) → series_at r n ≡ None
   no_series_at n = ap (λ ss. find (λ s. same s.id n) ss) none
 
@@ -69,49 +68,49 @@ module _ (r : Repository) (w : IsWellFormed r) (none : r.series ≡ []) where
   rises_filter : (q : Object → Bool) (xs : List Object) → Apart (λ x y. x.id.0 < y.id.0) xs → Rises (λ n. n.0) (map (λ x. x.id) (filter q xs))
   rises_filter q [] a = tt
   rises_filter q (x ∷ xs) a = by_test (q x)
-    (λ e. rw e (above xs a.0, rises_filter q xs a.1))
-    (λ e. rw e (rises_filter q xs a.1))
+      (λ e. rw e (above xs a.0, rises_filter q xs a.1))
+      (λ e. rw e (rises_filter q xs a.1))
     where
       above : (ys : List Object) → All (λ y. x.id.0 < y.id.0) ys → All (λ n. x.id.0 < n.0) (map (λ y. y.id) (filter q ys))
       above [] h = All-nil (λ n. x.id.0 < n.0)
       above (y ∷ ys) h = by_test (q y)
-        (λ e. rw e (All-cons (λ n. x.id.0 < n.0) y.id (map (λ y. y.id) (filter q ys)) (All-head (λ y. x.id.0 < y.id.0) y ys h) (above ys (All-tail (λ y. x.id.0 < y.id.0) y ys h))))
-        (λ e. rw e (above ys (All-tail (λ y. x.id.0 < y.id.0) y ys h)))
+          (λ e. rw e (All-cons (λ n. x.id.0 < n.0) y.id (map (λ y. y.id) (filter q ys)) (All-head (λ y. x.id.0 < y.id.0) y ys h) (above ys (All-tail (λ y. x.id.0 < y.id.0) y ys h))))
+          (λ e. rw e (above ys (All-tail (λ y. x.id.0 < y.id.0) y ys h)))
 
   any_filter : (q : Object → Bool) (n : Oid) (xs : List Object) → Apart (λ x y. x.id.0 < y.id.0) xs
-    → list_any (same n) (map (λ x. x.id) (filter q xs)) ≡ unwrap_or (option_map q (find (λ x. same x.id n) xs)) false
+      → list_any (same n) (map (λ x. x.id) (filter q xs)) ≡ unwrap_or (option_map q (find (λ x. same x.id n) xs)) false
   any_filter q n [] a = refl
   any_filter q n (x ∷ xs) a = by_test (same x.id n)
-    (λ e.
+      (λ e.
       let at : x.id ≡ n = same_eq x.id n e in
       let none_left : find (λ y. same y.id n) xs ≡ None = find_none (λ y. same y.id n) xs (All-weaker (λ y. x.id.0 < y.id.0) (λ y. same y.id n ≡ false)
-            (λ y l. differ y.id n (λ k. let m : x.id.0 ≡ y.id.0 = ap (λ i. i.0) (at ∙ sym k) in omega (arith, l, m))) xs a.0) in
+      (λ y l. differ y.id n (λ k. let m : x.id.0 ≡ y.id.0 = ap (λ i. i.0) (at ∙ sym k) in omega (arith, l, m))) xs a.0) in
       let rest : list_any (same n) (map (λ x. x.id) (filter q xs)) ≡ false = any_filter q n xs a.1 ∙ ap (λ o. unwrap_or (option_map q o) false) none_left in
       by_test (q x)
-        (λ d. rw (e, d) (ap (λ b. b || list_any (same n) (map (λ x. x.id) (filter q xs))) (subst (λ m. same n m ≡ true) (sym at) (same_refl n))))
-        (λ d. rw (e, d) rest))
-    (λ e.
+      (λ d. rw (e, d) (ap (λ b. b || list_any (same n) (map (λ x. x.id) (filter q xs))) (subst (λ m. same n m ≡ true) (sym at) (same_refl n))))
+      (λ d. rw (e, d) rest))
+      (λ e.
       let other : same n x.id ≡ false = differ n x.id (λ k. both_ways (same x.id n) e (subst (λ m. same x.id m ≡ true) (sym k) (same_refl x.id))) in
       by_test (q x)
-        (λ d. rw (e, d, other) (any_filter q n xs a.1))
-        (λ d. rw (e, d) (any_filter q n xs a.1)))
+      (λ d. rw (e, d, other) (any_filter q n xs a.1))
+      (λ d. rw (e, d) (any_filter q n xs a.1)))
 
   standing_any : (f n : Oid) → list_any (same n) (numbers_in r f) ≡ is_filed r f n
   standing_any f n = any_filter (λ x. is_filed r f (entry_of x) && stands r x) n r.objects w.numbers.0 ∙ by (object_at r n) refl
     where
       by : (o : Option Object) → object_at r n ≡ o → unwrap_or (option_map (λ x. is_filed r f (entry_of x) && stands r x) o) false ≡ is_filed r f n
       by None e = by_test (is_filed r f n)
-        (λ t. let p = any_found (λ p. same p.folder f && same p.child n) r.filed t in
+          (λ t. let p = any_found (λ p. same p.folder f && same p.child n) r.filed t in
           let there : IsThere r p.0.child = child_there p.0 (found_holds (IsPair r) (λ p. same p.folder f && same p.child n) r.filed p.0 w.pairs p.1) in
           let at : p.0.child ≡ n = same_eq p.0.child n (second (same p.0.folder f) (same p.0.child n) (found_passes (λ p. same p.folder f && same p.child n) r.filed p.0 p.1)) in
           absurd (none_some there.0 (sym e ∙ (ap (object_at r) (sym at) ∙ there.1))))
-        (λ t. sym t)
+          (λ t. sym t)
         where
           second : (a b : Bool) → a && b ≡ true → b ≡ true
           second a b h = grind (arith, h)
       by (Some x) e =
-        let single : x.series ≡ None = found_holds (λ x. x.series ≡ None) (λ x. same x.id n) r.objects x alone e in
-        rw (entry_is x single, stands_alone x single, number_found r n x e) (and_true (is_filed r f n))
+          let single : x.series ≡ None = found_holds (λ x. x.series ≡ None) (λ x. same x.id n) r.objects x alone e in
+          rw (entry_is x single, stands_alone x single, number_found r n x e) (and_true (is_filed r f n))
         where
           and_true : (a : Bool) → a && true ≡ a
           and_true true = refl
@@ -122,32 +121,35 @@ module _ (r : Repository) (w : IsWellFormed r) (none : r.series ≡ []) where
     where
       none_below : (n : Oid) (ys : List Oid) → All (λ m. n.0 < m.0) ys → list_any (same n) ys ≡ false
       none_below n ys h = any_false (same n) ys (All-weaker (λ m. n.0 < m.0) (λ m. same n m ≡ false) (λ m l. differ n m (λ k. let e : n.0 ≡ m.0 = ap (λ i. i.0) k in omega (arith, l, e))) ys h)
+
       has_head : (x : Oid) (xs : List Oid) → list_any (same x) (x ∷ xs) ≡ true
       has_head x xs = rw (same_refl x) refl
+
       -- the first of one list is not below the first of the other
       rising_same : (xs ys : List Oid) → Rises (λ n. n.0) xs → Rises (λ n. n.0) ys → ((n : Oid) → list_any (same n) xs ≡ list_any (same n) ys) → xs ≡ ys
       rising_same [] [] a b h = refl
       rising_same [] (y ∷ ys) a b h = absurd (both_ways false refl (h y ∙ has_head y ys))
       rising_same (x ∷ xs) [] a b h = absurd (both_ways false refl (sym (h x) ∙ has_head x xs))
       rising_same (x ∷ xs) (y ∷ ys) a b h = by_test (same x y)
-        (λ e. let at : x ≡ y = same_eq x y e in
+          (λ e. let at : x ≡ y = same_eq x y e in
           let rest : xs ≡ ys = rising_same xs ys a.1 b.1 (λ n. drop_head n at) in
           ap (λ z. z ∷ xs) at ∙ ap (λ zs. y ∷ zs) rest)
-        (λ e. absurd (apart e))
+          (λ e. absurd (apart e))
         where
           drop_head : (n : Oid) → x ≡ y → list_any (same n) xs ≡ list_any (same n) ys
           drop_head n at = by_test (same n x)
-            (λ e. let k : n ≡ x = same_eq n x e in
+              (λ e. let k : n ≡ x = same_eq n x e in
               subst (λ m. list_any (same m) xs ≡ list_any (same m) ys) (sym k) (none_below x xs a.0 ∙ sym (none_below x ys (subst (λ z. All (λ m. z.0 < m.0) ys) (sym at) b.0))))
-            (λ e. let g : same n y ≡ false = subst (λ z. same n z ≡ false) at e in
+              (λ e. let g : same n y ≡ false = subst (λ z. same n z ≡ false) at e in
               sym (ap (λ t. t || list_any (same n) xs) e) ∙ (h n ∙ ap (λ t. t || list_any (same n) ys) g))
+
           apart : same x y ≡ false → ⊥
           apart e =
-            let in_ys : list_any (same x) ys ≡ true = sym (ap (λ t. t || list_any (same x) ys) e) ∙ (sym (h x) ∙ has_head x xs) in
-            let other : same y x ≡ false = differ y x (λ k. both_ways (same x y) e (subst (λ m. same m y ≡ true) k (same_refl y))) in
-            let in_xs : list_any (same y) xs ≡ true = sym (ap (λ t. t || list_any (same y) xs) other) ∙ (h y ∙ has_head y ys) in
-            let p = any_found (same x) ys in_ys in
-            let q = any_found (same y) xs in_xs in
-            let yx : y.0 < x.0 = subst (λ m. y.0 < m.0) (sym (same_eq x p.0 (found_passes (same x) ys p.0 p.1))) (found_holds (λ m. y.0 < m.0) (same x) ys p.0 b.0 p.1) in
-            let xy : x.0 < y.0 = subst (λ m. x.0 < m.0) (sym (same_eq y q.0 (found_passes (same y) xs q.0 q.1))) (found_holds (λ m. x.0 < m.0) (same y) xs q.0 a.0 q.1) in
-            omega (arith, yx, xy)
+              let in_ys : list_any (same x) ys ≡ true = sym (ap (λ t. t || list_any (same x) ys) e) ∙ (sym (h x) ∙ has_head x xs) in
+              let other : same y x ≡ false = differ y x (λ k. both_ways (same x y) e (subst (λ m. same m y ≡ true) k (same_refl y))) in
+              let in_xs : list_any (same y) xs ≡ true = sym (ap (λ t. t || list_any (same y) xs) other) ∙ (h y ∙ has_head y ys) in
+              let p = any_found (same x) ys in_ys in
+              let q = any_found (same y) xs in_xs in
+              let yx : y.0 < x.0 = subst (λ m. y.0 < m.0) (sym (same_eq x p.0 (found_passes (same x) ys p.0 p.1))) (found_holds (λ m. y.0 < m.0) (same x) ys p.0 b.0 p.1) in
+              let xy : x.0 < y.0 = subst (λ m. x.0 < m.0) (sym (same_eq y q.0 (found_passes (same y) xs q.0 q.1))) (found_holds (λ m. x.0 < m.0) (same y) xs q.0 a.0 q.1) in
+              omega (arith, yx, xy)

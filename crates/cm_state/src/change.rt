@@ -103,7 +103,9 @@ impl State {
         let name = own_name(alloc, &object)?;
         let tree = tree_with(alloc, &self.tree, folder, name, number)?;
         let objects = self.objects.with_last(alloc, object)?;
-        let access = self.access.with_last(alloc, AccessList { at: number, aces })?;
+        let access = self
+            .access
+            .with_last(alloc, AccessList { at: number, aces })?;
         let applied = applied_with(alloc, &self.applied, policies, number)?;
         let log = self.log.with_last(alloc, made(alloc, number, moment))?;
         let still = Arc::try_clone(&self.still)?;

@@ -104,12 +104,7 @@ impl Filing {
     }
 
     /// The pairs with one more of a child that is in none.
-    pub fn with_pair(
-        &self,
-        alloc: Global,
-        folder: Oid,
-        child: Oid,
-    ) -> Result<Filing, AllocError>
+    pub fn with_pair(&self, alloc: Global, folder: Oid, child: Oid) -> Result<Filing, AllocError>
         requires new { All (λ p. same p.child child ≡ false) self.now }
         ensures { IfOk result (λ f. f ≡ self.now ++ record { folder = folder; child = child } ∷ []) }
     {
@@ -139,5 +134,23 @@ impl Filing {
             parents: self.parents.share(alloc)?,
             folders: self.folders.share(alloc)?,
         })
+    }
+}
+
+#[cfg(test)]
+mod tests {
+    use super::*;
+    use std::test::Fail;
+
+    #[test]
+    fn a_child_stands_in_its_folder(rt: HostRuntime) -> Result<(), Fail> {
+        let alloc = rt.alloc();
+        let none = Filing::empty(alloc);
+        let one = none.with_pair(alloc, Oid(1), Oid(2))?.share(alloc)?;
+        assert!(rt; one.has(Oid(1), Oid(2)) && !one.has(Oid(2), Oid(1)));
+        assert_eq!(rt; one.parent(Oid(2)), Some(Oid(1)));
+        assert_eq!(rt; one.children(alloc, Oid(1))?.len(), 1);
+        assert_eq!(rt; none.parent(Oid(2)), None);
+        Ok(())
     }
 }

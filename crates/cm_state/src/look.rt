@@ -168,18 +168,25 @@ impl State {
     }
 
     /// The name of a folder, an item or a series.
-    pub fn entry_name(&self, n: Oid) -> &[u8]
+    pub fn entry_text(&self, n: Oid) -> &str
         ensures { result.now ≡ entry_name self.now n }
     {
         if let Some(series) = self.series(n) {
-            return series.name.bytes();
+            return series.name.as_str();
         }
         if let Some(x) = self.object(n) {
             if let Some(own) = &x.name {
-                return own.bytes();
+                return own.as_str();
             }
         }
-        b""
+        ""
+    }
+
+    /// The bytes of the name of a folder, an item or a series.
+    pub fn entry_name(&self, n: Oid) -> &[u8]
+        ensures { result.now ≡ entry_name self.now n }
+    {
+        self.entry_text(n).as_bytes()
     }
 
     /// Whether another child of the folder has the name.
