@@ -23,24 +23,13 @@ pub fn child_named<'a>(
     ensures { option_copied result ≡ child_named state.now user.now folder name.now }
 {
     match state.child_standing(folder, name) {
-        Some(x) => {
-            if reads(state, user, x) {
-                Some(x)
-            } else {
-                None
-            }
-        }
+        Some(x) => { if reads(state, user, x) { Some(x) } else { None } }
         None => None,
     }
 }
 
 // The object at the end of the names, from another one on.
-fn walk<'a>(
-    state: &'a State,
-    user: &Text,
-    from: &'a Object,
-    names: &[Text],
-) -> Option<&'a Object>
+fn walk<'a>(state: &'a State, user: &Text, from: &'a Object, names: &[Text]) -> Option<&'a Object>
     ensures { option_copied result ≡ walk names.now state.now user.now from.now }
 {
     match names {
