@@ -3,6 +3,10 @@ ghost use Rattle.std.specs.Prelude.{◌≡◌, ℕ, ◌==◌, ◌<◌, List, [],
 ghost use Rattle.cm_lists.specs.Keyed.{keyed, Rises};
 ghost use Rattle.cm_map.specs.Rests.{rest};
 
+use cm_base::access::AccessList;
+use cm_base::content::{Content, Rendition};
+use cm_base::object::Object;
+use cm_base::series::Series;
 use cm_map::iter::Iter;
 use cm_map::map::Map;
 use std::alloc::{AllocError, Global};
@@ -15,6 +19,46 @@ pub trait Numbered: Drop {
     /// Its number.
     fn number(&self) -> u64
         ensures { result ≡ number self.now };
+}
+
+impl Numbered for Object {
+    ghost number = { λ x. x.id.0 };
+
+    fn number(&self) -> u64 {
+        self.id.0
+    }
+}
+
+impl Numbered for Series {
+    ghost number = { λ s. s.id.0 };
+
+    fn number(&self) -> u64 {
+        self.id.0
+    }
+}
+
+impl Numbered for AccessList {
+    ghost number = { λ l. l.at.0 };
+
+    fn number(&self) -> u64 {
+        self.at.0
+    }
+}
+
+impl Numbered for Content {
+    ghost number = { λ c. c.of.0 };
+
+    fn number(&self) -> u64 {
+        self.of.0
+    }
+}
+
+impl Numbered for Rendition {
+    ghost number = { λ d. d.id.0 };
+
+    fn number(&self) -> u64 {
+        self.id.0
+    }
 }
 
 /// A list whose members' numbers rise. A change leaves the old list as it was, and shares with it all but a few blocks.
@@ -100,5 +144,39 @@ impl<V: Numbered> Table<V> {
         ensures { map (λ e. e.1) (rest result) ≡ self.now }
     {
         self.entries.iter()
+    }
+}
+
+#[cfg(test)]
+mod tests {
+    use super::*;
+    use std::test::Fail;
+
+    #[derive(Drop)]
+    struct Ticket(u64);
+
+    impl Numbered for Ticket {
+        ghost number = { λ t. t.0 };
+
+        fn number(&self) -> u64 {
+            self.0
+        }
+    }
+
+    #[test]
+    fn older_lists_stand(rt: HostRuntime) -> Result<(), Fail> {
+        let alloc = rt.alloc();
+        let none: Table<Ticket> = Table::empty(alloc);
+        let one = none.with_last(alloc, Ticket(3))?;
+        let gone = one.without(alloc, 3)?;
+        let again = one.share(alloc)?;
+        assert!(rt; none.get(3).is_none() && gone.get(3).is_none());
+        assert!(rt; one.get(3).is_some() && again.get(3).is_some());
+        assert_eq!(rt; one.len(), 1);
+        let mut members = one.iter();
+        assert!(rt; members.next().is_some());
+        let other = one.with_member(alloc, Ticket(3))?;
+        assert_eq!(rt; other.len(), 1);
+        Ok(())
     }
 }

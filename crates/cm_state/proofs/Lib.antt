@@ -1,0 +1,4 @@
+mod Children
+mod Grown
+mod Names
+mod Pairs

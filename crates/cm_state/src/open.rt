@@ -1,16 +1,94 @@
 //! The opening.
-ghost use Rattle.std.specs.Prelude.{◌≡◌, IfOk};
-ghost use Rattle.cmis_spec.specs.Repository.{opening};
+ghost use Rattle.std.specs.Prelude.{◌≡◌, ℕ, List, [], ◌∷◌, IfOk, map, codes, unwrap_or, slice_get};
+ghost use Rattle.cmis_spec.specs.Repository.{opening, root_folder, root_aces, administrator_of};
 ghost use Rattle.cmis_spec.specs.Well.{IsWellFormed};
 
-use crate::state::State;
+use crate::filing::Filing;
+use crate::state::{State, Still, Tree};
+use cm_base::access::{AccessList, Ace, Aces, Level};
+use cm_base::copies::Copies;
+use cm_base::items::Items;
 use cm_base::number::{Moment, Oid};
-use cm_base::user::Users;
+use cm_base::object::Object;
+use cm_base::text::{Text, Texts};
+use cm_base::user::{User, Users};
+use cm_lists::buckets::Buckets;
+use cm_lists::sequence::Sequence;
+use cm_lists::table::Table;
 use cm_types::definition::TypeDefs;
 use std::alloc::{AllocError, Global};
+use std::sync::Arc;
 
 /// The number of the root folder.
 pub const ROOT: Oid = Oid(1);
+
+fn names_of(alloc: Global, users: &[User]) -> Result<Texts, AllocError>
+    ensures { IfOk result (λ names. names ≡ map (λ u. u.name) users.now) }
+{
+    let mut names = Items::new(alloc);
+    for user in users {
+        names.push(user.name.copied(alloc)?)?;
+    }
+    Ok(names)
+}
+
+fn administrator_of(alloc: Global, users: &[Text]) -> Result<Text, AllocError>
+    ensures { IfOk result (λ name. name ≡ administrator_of users.now) }
+{
+    match users {
+        [] => Ok(Text::empty(alloc)),
+        [first, ..] => first.copied(alloc),
+    }
+}
+
+fn root_folder(alloc: Global, maker: &Text, moment: Moment, step: u64) -> Result<Object, AllocError>
+    ensures { IfOk result (λ x. x ≡ root_folder maker.now moment step) }
+{
+    Ok(Object {
+        id: ROOT,
+        kind: Text::from_str(alloc, "cmis:folder")?,
+        name: Some(Text::from_str(alloc, "root")?),
+        secondary: Items::new(alloc),
+        values: Items::new(alloc),
+        maker: maker.copied(alloc)?,
+        made: moment,
+        changer: maker.copied(alloc)?,
+        changed: moment,
+        token: step,
+        series: None,
+    })
+}
+
+fn ace(alloc: Global, principal: &Text, level: Level) -> Result<Ace, AllocError>
+    ensures { IfOk result (λ a. a ≡ record { principal = principal.now; level = level }) }
+{
+    Ok(Ace {
+        principal: principal.copied(alloc)?,
+        level,
+    })
+}
+
+fn two_aces(alloc: Global, first: Ace, second: Ace) -> Result<Aces, AllocError>
+    ensures { IfOk result (λ aces. aces ≡ first ∷ second ∷ []) }
+{
+    let mut aces = Items::new(alloc);
+    aces.push(first)?;
+    aces.push(second)?;
+    Ok(aces)
+}
+
+fn root_aces(alloc: Global, administrator: &Text) -> Result<Aces, AllocError>
+    ensures { IfOk result (λ aces. aces ≡ root_aces administrator.now) }
+{
+    let anyone = Text::from_str(alloc, "anyone")?;
+    let own = ace(alloc, administrator, Level::All)?;
+    let others = ace(alloc, &anyone, Level::Read)?;
+    if administrator.cmp(&anyone).is_lt() {
+        two_aces(alloc, own, others)
+    } else {
+        two_aces(alloc, others, own)
+    }
+}
 
 impl State {
     /// The repository with the root alone, made by the first user at this moment, with this step number.
@@ -24,8 +102,35 @@ impl State {
         requires well { IsWellFormed (opening types users.now moment first_step) }
         ensures { IfOk result (λ s. s ≡ opening types users.now moment first_step) }
     {
-        let _ = (types, users, moment, first_step);
-        let _ = alloc;
-        Err(AllocError)
+        let names = names_of(alloc, users.as_slice())?;
+        let administrator = administrator_of(alloc, names.as_slice())?;
+        let root = root_folder(alloc, &administrator, moment, first_step)?;
+        let aces = root_aces(alloc, &administrator)?;
+        let objects = Table::empty(alloc).with_last(alloc, root)?;
+        let access = Table::empty(alloc).with_last(alloc, AccessList { at: ROOT, aces })?;
+        let still = Still {
+            types,
+            users: names,
+            no_groups: Items::new(alloc),
+            series: Table::empty(alloc),
+            contents: Table::empty(alloc),
+            renditions: Table::empty(alloc),
+        };
+        let tree = Tree {
+            filed: Filing::empty(alloc),
+            names: Buckets::empty(alloc),
+        };
+        let still = Arc::new(alloc, still)?;
+        Ok(State {
+            still,
+            tree,
+            objects,
+            access,
+            applied: Sequence::empty(alloc),
+            log: Sequence::empty(alloc),
+            next: 2,
+            step: first_step,
+            cost: 0,
+        })
     }
 }

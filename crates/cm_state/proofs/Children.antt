@@ -1,0 +1,155 @@
+-- What the index of names and the list of children say, where no series is there.
+use Rattle.std.specs.Prelude.{◌≡◌, ℕ, ◌<◌, ◌==◌, Bool, true, false, ◌&&◌, ◌||◌, not, if◌then◌else◌, List, [], ◌∷◌, map, filter, find, All, Option, Some, None, is_some, option_map, option_and_then, unwrap_or, bytes_eq}
+use Rattle.std.specs.List.{list_any}
+use Rattle.std.proofs.Common.{refl, sym, ap, subst, ◌∙◌, inl, inr, arith}
+use Rattle.std.proofs.lemmas.Bool.{both_ways}
+use Rattle.std.proofs.lemmas.List.Elements.{All-nil, All-cons, All-head, All-tail, All-weaker}
+use Rattle.cm_base.specs.declared.number.Oid.{Oid}
+use Rattle.cm_base.specs.declared.object.Object.{Object}
+use Rattle.cm_base.specs.declared.filing.Filed.{Filed}
+use Rattle.cm_types.specs.declared.definition.BaseType.TheVariants as bases
+use Rattle.cm_lists.specs.Keyed.{Rises}
+use Rattle.cmis_spec.specs.Repository.{Repository, same, object_at, series_at, series_of, is_filed, is_taken, entry_of, entry_name, is_latest}
+use Rattle.cmis_spec.specs.Access.{stands}
+use Rattle.cmis_spec.specs.Well.{Apart, IsEntryAt, IsThere, IsPair, HasNames, Differ, Belongs, IsWellFormed}
+use Rattle.cmis_laws.proofs.Lists.{by_test, some_eq, find_yes, find_no, find_none, found_holds, found_passes, none_some, same_eq, same_refl, differ, all_zip}
+use Rattle.cmis_laws.proofs.Entries.{all_there, number_found}
+use Rattle.cm_state.proofs.Pairs.{is_some_find}
+use Rattle.cm_state.specs.Looks.{standing_in, numbers_in}
+
+-- ---- lists
+
+any_false : {A : Type 0} (p : A → Bool) (xs : List A) → All (λ x. p x ≡ false) xs → list_any p xs ≡ false
+any_false p [] h = refl
+any_false p (x ∷ xs) h = rw (All-head (λ x. p x ≡ false) x xs h) (any_false p xs (All-tail (λ x. p x ≡ false) x xs h))
+
+pub find_alike : {A : Type 0} (p q : A → Bool) (xs : List A) → All (λ x. p x ≡ q x) xs → find p xs ≡ find q xs
+find_alike p q [] h = refl
+find_alike p q (x ∷ xs) h = rw (All-head (λ x. p x ≡ q x) x xs h, find_alike p q xs (All-tail (λ x. p x ≡ q x) x xs h)) refl
+
+-- what a list has is found in it
+pub any_found : {A : Type 0} (p : A → Bool) (xs : List A) → list_any p xs ≡ true → (x : A) × (find p xs ≡ Some x)
+any_found p xs h = by (find p xs) (is_some_find p xs ∙ h)
+  where
+    by : {A : Type 0} (o : Option A) → is_some o ≡ true → (x : A) × (o ≡ Some x)
+    by None e = absurd (both_ways false refl e)
+    by (Some x) e = (x, refl)
+
+-- ---- without series
+
+no_member : (r : Repository) (x : Object) (o : Option Oid) → r.series ≡ [] → Belongs r x o → o ≡ None
+no_member r x None none b = refl
+no_member r x (Some n) none b = absurd (none_some b.1.0 (sym (ap (λ ss. find (λ s. same s.id n) ss) none) ∙ b.1.1))
+
+module _ (r : Repository) (w : IsWellFormed r) (none : r.series ≡ []) where
+  no_series_at : (n : Oid) → series_at r n ≡ None
+  no_series_at n = ap (λ ss. find (λ s. same s.id n) ss) none
+
+  pub alone : All (λ x. x.series ≡ None) r.objects
+  alone = All-weaker (λ x. Belongs r x x.series) (λ x. x.series ≡ None) (λ x b. no_member r x x.series none b) r.objects w.documents
+
+  pub entry_is : (x : Object) → x.series ≡ None → entry_of x ≡ x.id
+  entry_is x e = rw e refl
+
+  pub stands_alone : (x : Object) → x.series ≡ None → stands r x ≡ true
+  stands_alone x e = rw e refl
+
+  -- what is filed is an object
+  pub child_there : (p : Filed) → IsPair r p → IsThere r p.child
+  child_there p h = by h.1
+    where
+      by : IsEntryAt r p.child → IsThere r p.child
+      by (inl e) = (e.0, e.1)
+      by (inr (inl e)) = (e.0, e.1)
+      by (inr (inr e)) = absurd (none_some e.0 (sym (no_series_at p.child) ∙ e.1))
+
+  -- ---- the children in the order of their numbers
+
+  rises_filter : (q : Object → Bool) (xs : List Object) → Apart (λ x y. x.id.0 < y.id.0) xs → Rises (λ n. n.0) (map (λ x. x.id) (filter q xs))
+  rises_filter q [] a = tt
+  rises_filter q (x ∷ xs) a = by_test (q x)
+      (λ e. rw e (above xs a.0, rises_filter q xs a.1))
+      (λ e. rw e (rises_filter q xs a.1))
+    where
+      above : (ys : List Object) → All (λ y. x.id.0 < y.id.0) ys → All (λ n. x.id.0 < n.0) (map (λ y. y.id) (filter q ys))
+      above [] h = All-nil (λ n. x.id.0 < n.0)
+      above (y ∷ ys) h = by_test (q y)
+          (λ e. rw e (All-cons (λ n. x.id.0 < n.0) y.id (map (λ y. y.id) (filter q ys)) (All-head (λ y. x.id.0 < y.id.0) y ys h) (above ys (All-tail (λ y. x.id.0 < y.id.0) y ys h))))
+          (λ e. rw e (above ys (All-tail (λ y. x.id.0 < y.id.0) y ys h)))
+
+  any_filter : (q : Object → Bool) (n : Oid) (xs : List Object) → Apart (λ x y. x.id.0 < y.id.0) xs
+      → list_any (same n) (map (λ x. x.id) (filter q xs)) ≡ unwrap_or (option_map q (find (λ x. same x.id n) xs)) false
+  any_filter q n [] a = refl
+  any_filter q n (x ∷ xs) a = by_test (same x.id n)
+      (λ e.
+      let at : x.id ≡ n = same_eq x.id n e in
+      let none_left : find (λ y. same y.id n) xs ≡ None = find_none (λ y. same y.id n) xs (All-weaker (λ y. x.id.0 < y.id.0) (λ y. same y.id n ≡ false)
+      (λ y l. differ y.id n (λ k. let m : x.id.0 ≡ y.id.0 = ap (λ i. i.0) (at ∙ sym k) in omega (arith, l, m))) xs a.0) in
+      let rest : list_any (same n) (map (λ x. x.id) (filter q xs)) ≡ false = any_filter q n xs a.1 ∙ ap (λ o. unwrap_or (option_map q o) false) none_left in
+      by_test (q x)
+      (λ d. rw (e, d) (ap (λ b. b || list_any (same n) (map (λ x. x.id) (filter q xs))) (subst (λ m. same n m ≡ true) (sym at) (same_refl n))))
+      (λ d. rw (e, d) rest))
+      (λ e.
+      let other : same n x.id ≡ false = differ n x.id (λ k. both_ways (same x.id n) e (subst (λ m. same x.id m ≡ true) (sym k) (same_refl x.id))) in
+      by_test (q x)
+      (λ d. rw (e, d, other) (any_filter q n xs a.1))
+      (λ d. rw (e, d) (any_filter q n xs a.1)))
+
+  standing_any : (f n : Oid) → list_any (same n) (numbers_in r f) ≡ is_filed r f n
+  standing_any f n = any_filter (λ x. is_filed r f (entry_of x) && stands r x) n r.objects w.numbers.0 ∙ by (object_at r n) refl
+    where
+      by : (o : Option Object) → object_at r n ≡ o → unwrap_or (option_map (λ x. is_filed r f (entry_of x) && stands r x) o) false ≡ is_filed r f n
+      by None e = by_test (is_filed r f n)
+          (λ t. let p = any_found (λ p. same p.folder f && same p.child n) r.filed t in
+          let there : IsThere r p.0.child = child_there p.0 (found_holds (IsPair r) (λ p. same p.folder f && same p.child n) r.filed p.0 w.pairs p.1) in
+          let at : p.0.child ≡ n = same_eq p.0.child n (second (same p.0.folder f) (same p.0.child n) (found_passes (λ p. same p.folder f && same p.child n) r.filed p.0 p.1)) in
+          absurd (none_some there.0 (sym e ∙ (ap (object_at r) (sym at) ∙ there.1))))
+          (λ t. sym t)
+        where
+          second : (a b : Bool) → a && b ≡ true → b ≡ true
+          second a b h = grind (arith, h)
+      by (Some x) e =
+          let single : x.series ≡ None = found_holds (λ x. x.series ≡ None) (λ x. same x.id n) r.objects x alone e in
+          rw (entry_is x single, stands_alone x single, number_found r n x e) (and_true (is_filed r f n))
+        where
+          and_true : (a : Bool) → a && true ≡ a
+          and_true true = refl
+          and_true false = refl
+
+  pub children_are : (f : Oid) (all : List Oid) → Rises (λ n. n.0) all → ((n : Oid) → list_any (same n) all ≡ is_filed r f n) → all ≡ numbers_in r f
+  children_are f all rises member = rising_same all (numbers_in r f) rises (rises_filter (λ x. is_filed r f (entry_of x) && stands r x) r.objects w.numbers.0) (λ n. member n ∙ sym (standing_any f n))
+    where
+      none_below : (n : Oid) (ys : List Oid) → All (λ m. n.0 < m.0) ys → list_any (same n) ys ≡ false
+      none_below n ys h = any_false (same n) ys (All-weaker (λ m. n.0 < m.0) (λ m. same n m ≡ false) (λ m l. differ n m (λ k. let e : n.0 ≡ m.0 = ap (λ i. i.0) k in omega (arith, l, e))) ys h)
+
+      has_head : (x : Oid) (xs : List Oid) → list_any (same x) (x ∷ xs) ≡ true
+      has_head x xs = rw (same_refl x) refl
+
+      -- the first of one list is not below the first of the other
+      rising_same : (xs ys : List Oid) → Rises (λ n. n.0) xs → Rises (λ n. n.0) ys → ((n : Oid) → list_any (same n) xs ≡ list_any (same n) ys) → xs ≡ ys
+      rising_same [] [] a b h = refl
+      rising_same [] (y ∷ ys) a b h = absurd (both_ways false refl (h y ∙ has_head y ys))
+      rising_same (x ∷ xs) [] a b h = absurd (both_ways false refl (sym (h x) ∙ has_head x xs))
+      rising_same (x ∷ xs) (y ∷ ys) a b h = by_test (same x y)
+          (λ e. let at : x ≡ y = same_eq x y e in
+          let rest : xs ≡ ys = rising_same xs ys a.1 b.1 (λ n. drop_head n at) in
+          ap (λ z. z ∷ xs) at ∙ ap (λ zs. y ∷ zs) rest)
+          (λ e. absurd (apart e))
+        where
+          drop_head : (n : Oid) → x ≡ y → list_any (same n) xs ≡ list_any (same n) ys
+          drop_head n at = by_test (same n x)
+              (λ e. let k : n ≡ x = same_eq n x e in
+              subst (λ m. list_any (same m) xs ≡ list_any (same m) ys) (sym k) (none_below x xs a.0 ∙ sym (none_below x ys (subst (λ z. All (λ m. z.0 < m.0) ys) (sym at) b.0))))
+              (λ e. let g : same n y ≡ false = subst (λ z. same n z ≡ false) at e in
+              sym (ap (λ t. t || list_any (same n) xs) e) ∙ (h n ∙ ap (λ t. t || list_any (same n) ys) g))
+
+          apart : same x y ≡ false → ⊥
+          apart e =
+              let in_ys : list_any (same x) ys ≡ true = sym (ap (λ t. t || list_any (same x) ys) e) ∙ (sym (h x) ∙ has_head x xs) in
+              let other : same y x ≡ false = differ y x (λ k. both_ways (same x y) e (subst (λ m. same m y ≡ true) k (same_refl y))) in
+              let in_xs : list_any (same y) xs ≡ true = sym (ap (λ t. t || list_any (same y) xs) other) ∙ (h y ∙ has_head y ys) in
+              let p = any_found (same x) ys in_ys in
+              let q = any_found (same y) xs in_xs in
+              let yx : y.0 < x.0 = subst (λ m. y.0 < m.0) (sym (same_eq x p.0 (found_passes (same x) ys p.0 p.1))) (found_holds (λ m. y.0 < m.0) (same x) ys p.0 b.0 p.1) in
+              let xy : x.0 < y.0 = subst (λ m. x.0 < m.0) (sym (same_eq y q.0 (found_passes (same y) xs q.0 q.1))) (found_holds (λ m. x.0 < m.0) (same y) xs q.0 a.0 q.1) in
+              omega (arith, yx, xy)
