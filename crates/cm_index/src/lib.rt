@@ -1,4 +1,7 @@
-//! Indexes: sets of pairs by key.
+//! Indexes: sets of pairs of a key and the number of an object.
 #![tactic(auto)]
 
+ghost use Rattle.std.specs.Prelude.{◌≡◌};
+
 pub mod index;
+pub mod index_key;

@@ -1,5 +1,5 @@
 -- The steps of a core, as events of its world.
-use Rattle.std.proofs.Common.{◌≡◌, ℕ, zero, suc, ◌+◌, ◌≤◌, ◌<◌, List, [], ◌∷◌, ◌++◌, Option, Some, None, Result, Ok, Err, length, take, refl, ap, sym, ◌∙◌, arith, length-append, subst}
+use Rattle.std.proofs.Common.{◌≡◌, ℕ, ◌+◌, ◌≤◌, List, [], ◌∷◌, ◌++◌, Option, Some, None, Ok, Err, length, take, refl, ap, sym, ◌∙◌, arith, length-append}
 use Rattle.std.specs.Ordering.{nat_cmp}
 use Rattle.std.specs.FinMap.Entries.{put, find}
 use Rattle.std.specs.Option.{option_map}
@@ -7,12 +7,12 @@ use Rattle.cm_base.specs.declared.number.Moment.{Moment}
 use Rattle.desk_model.specs.declared.entry.Entry.{Entry}
 use Rattle.desk_model.specs.Histories.{History, replay, own, grown, shown_by, state_of}
 use Rattle.desk_model.proofs.OwnEntries.{own-mine, own-length, prefix-le}
-use Rattle.desk_core.specs.declared.event.Event.TheVariants.{Enter, Write, Look, Ask}
-use Rattle.desk_core.specs.declared.event.Done.TheVariants.{Entered, Wrote, Looked, Said}
-use Rattle.desk_core.specs.declared.event.CoreStop.TheVariants.{Unknown, Known, Refused}
-use Rattle.desk_core.specs.Interleaving.{Rules, World, holds, holding, entry_by, verdict, judged, happens, told, wrote, said, state_at, state_now}
+use Rattle.desk_core.specs.declared.event.Event.TheVariants.{Enter, Write, Look}
+use Rattle.desk_core.specs.declared.event.Done.TheVariants.{Entered, Wrote, Looked}
+use Rattle.desk_core.specs.declared.event.CoreStop.TheVariants.{Known, Refused}
+use Rattle.desk_core.specs.Interleaving.{Rules, World, holds, holding, entry_by, verdict, happens, told}
 use Rattle.desk_core.specs.Holds.{Hold, held_of, world_of, IsHold, IsCore}
-use Rattle.desk_core.proofs.Holdings.{long, find-held, held-put, core-puts, core-grows, prefix-take}
+use Rattle.desk_core.proofs.Holdings.{long, find-held, held-put, prefix-take}
 
 none_under : {A B : Type 0} (f : A → B) (o : Option A) → option_map f o ≡ None → o ≡ None
 none_under f None e = refl
@@ -80,10 +80,11 @@ module _ {S C Q A X : Type 0} (m : Rules S C Q A X) where
       let after : u ≡ grown v f = grows ∙ ap (grown v) entry in
       let count : length u.journal ≡ length v.journal + 1 = ap (λ u. length u.journal) after ∙ length-append v.journal (f ∷ []) in
       let here : n ≡ m.number (replay m.next v.opening (v.journal ++ f ∷ [])) = num ∙ ap (λ u. m.number (state_of m.next u)) after in
-      let held : held_of fs ≡ put nat_cmp s (length v.journal + 1) (held_of es) = ap held_of is ∙ (held-put s (record { seen = u; serial = serial }) es ∙ ap (λ k. put nat_cmp s k (held_of es)) count) in
-      (rw (some, due) (ap (λ k. Ok (Wrote a k)) (sym here)),
-       rw (some, due) (ap (λ h. record { opening = u.opening; base = b; journal = u.journal; held = h }) held
-         ∙ ap (λ u. record { opening = u.opening; base = b; journal = u.journal; held = put nat_cmp s (length v.journal + 1) (held_of es) }) after))
+      let held : held_of fs ≡ put nat_cmp s (length v.journal + 1) (held_of es) = ap held_of is ∙ (held-put s (record { seen = u; serial = serial }) es ∙ ap (λ k. put nat_cmp s k (held_of es)) count) in (
+        rw (some, due) (ap (λ k. Ok (Wrote a k)) (sym here)),
+        rw (some, due) (ap (λ h. record { opening = u.opening; base = b; journal = u.journal; held = h }) held
+            ∙ ap (λ u. record { opening = u.opening; base = b; journal = u.journal; held = put nat_cmp s (length v.journal + 1) (held_of es) }) after),
+      )
 
 -- the number of the entries of a session, with one more, is no more than the length of the journal
 pub serial_fits : {S C : Type 0} (b s n : ℕ) (begin v u : History S C) (es : List (ℕ × Hold S C)) (e : Entry C) → IsCore b begin v es → u ≡ grown v e → e.caller ≡ s → n ≡ length (own b s v.journal) → n + 1 ≤ length u.journal

@@ -1,30 +1,24 @@
 -- Each run keeps a world lawful, and puts each accepted write into the history once.
-use Rattle.std.proofs.Common.{◌≡◌, ◌≢◌, ℕ, ◌+◌, ◌≤◌, ◌==◌, Bool, true, false, cond, List, [], ◌∷◌, ◌++◌, Option, Some, None, Result, Ok, Err, IsOk, length, map, refl, ap, sym, ◌∙◌, arith, length-append, append_assoc, subst, inl, inr, zero-add, eq-eqb, if◌then◌else◌}
+use Rattle.std.proofs.Common.{OnErr, ◌≡◌, ◌≢◌, ℕ, ◌≤◌, ◌==◌, List, [], ◌∷◌, ◌++◌, Option, Some, None, Result, Ok, Err, IsOk, length, map, refl, ap, sym, ◌∙◌, arith, length-append, append_assoc, subst, inl, inr, eq-eqb, if◌then◌else◌}
 use Rattle.std.proofs.lemmas.List.{append-nil, map-append}
 use Rattle.std.proofs.lemmas.Bool.{ne_eqb}
 use Rattle.std.proofs.lemmas.Bool.Decides.{eqb_tells}
 use Rattle.cm_base.specs.declared.number.Moment.{Moment}
 use Rattle.desk_model.specs.declared.entry.Entry.{Entry}
-use Rattle.desk_model.specs.Histories.{replay, IsLegal, own, IsNumbered, CountsFrom, shown_by}
+use Rattle.desk_model.specs.Histories.{replay, own, shown_by}
 use Rattle.desk_model.proofs.Replays.{legal-append}
-use Rattle.desk_model.proofs.OwnEntries.{own-mine, own-other, counts-more}
+use Rattle.desk_model.proofs.OwnEntries.{own-mine, own-other}
+use Rattle.desk_core.proofs.Holdings.{numbered-more}
 use Rattle.desk_core.specs.declared.event.Event.{Event}
 use Rattle.desk_core.specs.declared.event.Event.TheVariants.{Enter, Write, Look, Ask}
-use Rattle.desk_core.specs.declared.event.Done.TheVariants.{Wrote}
+use Rattle.desk_core.specs.declared.event.Done.{Done}
+use Rattle.desk_core.specs.declared.event.CoreStop.{CoreStop}
 use Rattle.desk_core.specs.declared.event.CoreStop.TheVariants.{Unknown}
 use Rattle.desk_core.specs.Interleaving.{Rules, World, IsLawful, Request, holds, entry_by, verdict, judged, if_entered, happens, told, wrote, run, answers, accepted, accepted_by, request_of, state_now, holding}
 
 ok-shown : {S A X : Type 0} (r : Result (S × A) X) (a : A) → shown_by r ≡ Ok a → IsOk r
 ok-shown (Ok p) a h = refl
 ok-shown (Err x) a h = absurd (cc h)
-
-numbered-more : {C : Type 0} (b s : ℕ) (h : List (Entry C)) (e : Entry C) → b ≤ length h → e.caller ≡ s → e.serial ≡ length (own b s h) → IsNumbered b h → IsNumbered b (h ++ e ∷ [])
-numbered-more b s h e le caller serial num n = elim (eqb_tells n s) [
-    inl p ↦ (let mine : e.caller ≡ n = caller ∙ sym p.1 in
-      let at : e.serial ≡ 0 + length (own b n h) = serial ∙ (ap (λ k. length (own b k h)) (sym p.1) ∙ sym (zero-add (length (own b n h)))) in
-      subst (CountsFrom 0) (sym (own-mine b n h e le mine)) (counts-more 0 (own b n h) e (num n) at))
-  | inr p ↦ subst (CountsFrom 0) (sym (own-other b n h e le (λ q. p.1 (sym q ∙ caller)))) (num n)
-  ]
 
 judged-lawful : {S C Q A X : Type 0} (m : Rules S C Q A X) (w : World S C) (s : ℕ) (user : List ℕ) (moment : Moment) (call : C) (r : Result A X)
     → verdict m w (entry_by w s user moment call) ≡ r → IsLawful m.next w → IsLawful m.next (judged w s (entry_by w s user moment call) r)
@@ -75,9 +69,9 @@ adds_none b s h = sym (append-nil (map request_of (own b s h)))
 
 adds_write : {C : Type 0} (b s t : ℕ) (h : List (Entry C)) (e : Entry C) → b ≤ length h → e.caller ≡ t → Adds b s h (h ++ e ∷ []) (if t == s then request_of e ∷ [] else [])
 adds_write b s t h e le is = elim (eqb_tells t s) [
-    inl p ↦ (let mine : e.caller ≡ s = is ∙ p.1 in rw (eq-eqb t s p.1) (ap (map request_of) (own-mine b s h e le mine) ∙ map-append request_of (own b s h) (e ∷ [])))
+  | inl p ↦ (let mine : e.caller ≡ s = is ∙ p.1 in rw (eq-eqb t s p.1) (ap (map request_of) (own-mine b s h e le mine) ∙ map-append request_of (own b s h) (e ∷ [])))
   | inr p ↦ (let other : e.caller ≢ s = λ q. p.1 (sym is ∙ q) in rw (ne_eqb t s p.1) (ap (map request_of) (own-other b s h e le other) ∙ adds_none b s h))
-  ]
+]
 
 adds_if : {S C : Type 0} (s : ℕ) (w v : World S C) (n : Option ℕ) (f : ℕ → World S C) → v.journal ≡ w.journal → ((k : ℕ) → (f k).journal ≡ w.journal) → Adds w.base s w.journal (if_entered n v f).journal []
 adds_if s w v None f a b = ap (λ h. map request_of (own w.base s h)) a ∙ adds_none w.base s w.journal
@@ -113,3 +107,19 @@ run-more m w (x ∷ es) e = run-more m (happens m w x) es e
 pub answers-more : {S C Q A X : Type 0} (m : Rules S C Q A X) (w : World S C) (es : List (Event C Q)) (e : Event C Q) → answers m w (es ++ e ∷ []) ≡ answers m w es ++ told m (run m w es) e ∷ []
 answers-more m w [] e = refl
 answers-more m w (x ∷ es) e = ap (λ ds. told m w x ∷ ds) (answers-more m (happens m w x) es e)
+
+-- the answers and the world after one event more
+pub both-more : {S C Q A X : Type 0} (m : Rules S C Q A X) (w v u : World S C) (ds all : List (Result (Done A) (CoreStop X))) (es : List (Event C Q)) (e : Event C Q) (d : Result (Done A) (CoreStop X))
+    → ds ≡ answers m w es → v ≡ run m w es → d ≡ told m v e → u ≡ happens m v e → all ≡ ds ++ d ∷ [] → (all ≡ answers m w (es ++ e ∷ [])) × (u ≡ run m w (es ++ e ∷ []))
+both-more m w v u ds all es e d answered at is goes more = (
+  more ∙ (ap (λ xs. xs ++ d ∷ []) answered ∙ (ap (λ x. answers m w es ++ x ∷ []) (is ∙ ap (λ v. told m v e) at) ∙ sym (answers-more m w es e))),
+  goes ∙ (ap (λ v. happens m v e) at ∙ sym (run-more m w es e)),
+)
+
+-- one event moves from those to come to those that were made
+pub one-moves : {E : Type 0} (made rest later all : List E) (e : E) → made ++ rest ≡ all → rest ≡ e ∷ later → (made ++ e ∷ []) ++ later ≡ all
+one-moves made rest later all e is next = append_assoc made (e ∷ []) later ∙ (ap (λ r. made ++ r) (sym next) ∙ is)
+
+pub on_err : {T E : Type 0} (r : Result T E) (P : Type 0) → P → OnErr r P
+on_err (Ok x) P p = tt
+on_err (Err e) P p = p

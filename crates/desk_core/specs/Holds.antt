@@ -1,9 +1,8 @@
 -- What the core keeps for each session.
-use Rattle.std.specs.Prelude.{◌≡◌, ℕ, ◌≤◌, List, Option, Some, None, Result, length, map}
+use Rattle.std.specs.Prelude.{◌≡◌, ℕ, List, Some, None, length, map}
 use Rattle.std.specs.Ordering.{nat_cmp}
 use Rattle.std.specs.FinMap.Entries.{find}
 use mathlib.Core.List.{IsPrefix}
-use Rattle.desk_model.specs.declared.entry.Entry.{Entry}
 use Rattle.desk_model.specs.Histories.{History, own, IsNumbered}
 use Rattle.desk_core.specs.Interleaving.{World}
 
@@ -26,10 +25,11 @@ pub record IsHold {S C : Type 0} (b : ℕ) (v : History S C) (s : ℕ) (x : Hold
   pub prefix : IsPrefix x.seen.journal v.journal
   pub serial : x.serial ≡ length (own b s v.journal)
 
--- a core: what it began with, its version, and what its sessions hold; who wasn't entered has no entries
+-- a core: what it began with, its version, whose entries since are numbered, and what its sessions hold; who wasn't entered has no entries
 pub record IsCore {S C : Type 0} (b : ℕ) (begin v : History S C) (es : List (ℕ × Hold S C)) : Type 0 where
   pub opening : begin.opening ≡ v.opening
   pub prefix : IsPrefix begin.journal v.journal
   pub begun : b ≡ length begin.journal
+  pub numbered : IsNumbered b v.journal
   pub holds : (s : ℕ) (x : Hold S C) → find nat_cmp s es ≡ Some x → IsHold b v s x
   pub strangers : (s : ℕ) → find nat_cmp s es ≡ None → length (own b s v.journal) ≡ 0

@@ -7,13 +7,26 @@ use std::alloc::{AllocError, AllocFailed};
 #[derive(Drop)]
 pub enum Event<C, Q> {
     /// The session begins. It holds what the core began with.
-    Enter { session: u32 },
+    Enter {
+        session: u32,
+    },
     /// The session writes.
-    Write { session: u32, user: Text, moment: Moment, call: C },
+    Write {
+        session: u32,
+        user: Text,
+        moment: Moment,
+        call: C,
+    },
     /// The session looks at the whole history.
-    Look { session: u32 },
+    Look {
+        session: u32,
+    },
     /// The session asks at what it holds.
-    Ask { session: u32, user: Text, question: Q },
+    Ask {
+        session: u32,
+        user: Text,
+        question: Q,
+    },
 }
 
 /// What a step did. The number is that of the version which the session then holds.
@@ -41,6 +54,7 @@ pub enum CoreStop<X> {
 impl<X> From<AllocError> for CoreStop<X> {
     ghost use Rattle.std.specs.Prelude.{◌≡◌};
     ghost use Rattle.desk_core.specs.declared.event.CoreStop.TheVariants.{Memory};
+
     ghost from_gives = { λ e r. r ≡ Memory };
 
     fn from(_error: AllocError) -> CoreStop<X> {
@@ -51,6 +65,7 @@ impl<X> From<AllocError> for CoreStop<X> {
 impl<X, T: Drop> From<AllocFailed<T>> for CoreStop<X> {
     ghost use Rattle.std.specs.Prelude.{◌≡◌};
     ghost use Rattle.desk_core.specs.declared.event.CoreStop.TheVariants.{Memory};
+
     ghost from_gives = { λ e r. r ≡ Memory };
 
     fn from(_error: AllocFailed<T>) -> CoreStop<X> {

@@ -5,7 +5,7 @@ ghost use Rattle.std.specs.Ordering.{nat_cmp};
 ghost use Rattle.std.specs.FinMap.Entries.{put};
 ghost use Rattle.desk_model.specs.Histories.{own};
 ghost use Rattle.desk_core.specs.declared.event.Event.TheVariants.{Enter, Write, Look, Ask};
-ghost use Rattle.desk_core.specs.Interleaving.{Rules, World, holds};
+ghost use Rattle.desk_core.specs.Interleaving.{Rules, World, IsLawful, holds};
 ghost use Rattle.desk_core.specs.Steps.{Stepped};
 
 use crate::event::{CoreStop, Done, Event};
@@ -63,6 +63,13 @@ impl<M: Machine> Core<M> {
         Ok(Snapshot { version })
     }
 
+    /// The history is legal, and the entries since the beginning are numbered.
+    pub fn lawful(&self)
+        ensures { IsLawful M.next self.now }
+    {
+        self.version.lawful();
+    }
+
     // How many entries a session has, or none where it wasn't entered.
     fn serial_of(&self, session: u32) -> Option<u64>
         ensures { MatchOption result (holds self.now session ≡ None) (λ n. (k : ℕ) × (holds self.now session ≡ Some k) × (n ≡ length (own self.now.base session self.now.journal))) }
@@ -84,11 +91,7 @@ impl<M: Machine> Core<M> {
     }
 
     // A session begins. It holds what the core began with.
-    fn enter(
-        &mut self,
-        alloc: Global,
-        session: u32,
-    ) -> Result<Done<M::Shown>, CoreStop<M::Cause>>
+    fn enter(&mut self, alloc: Global, session: u32) -> Result<Done<M::Shown>, CoreStop<M::Cause>>
         ensures { Stepped (record { next = M.next; answer = M.answer; number = M.number }) self.old (Enter session) result self.new }
     {
         match self.serial_of(session) {
@@ -110,8 +113,8 @@ impl<M: Machine> Core<M> {
             None => return Err(CoreStop::Unknown),
         };
         let number = self.version.number();
-        let held = with_held(alloc, &self.held, session, &self.version, serial)?;
-        self.held = held;
+        let whole = with_held(alloc, &self.held, session, &self.version, serial)?;
+        self.held = whole;
         Ok(Done::Looked(number))
     }
 
@@ -149,8 +152,8 @@ impl<M: Machine> Core<M> {
             }
             Err(Halt::Refused(cause)) => {
                 let number = self.version.number();
-                let held = with_held(alloc, &self.held, session, &self.version, serial)?;
-                self.held = held;
+                let seen = with_held(alloc, &self.held, session, &self.version, serial)?;
+                self.held = seen;
                 Err(CoreStop::Refused { cause, number })
             }
             Err(Halt::Memory) => Err(CoreStop::Memory),

@@ -4,3 +4,4 @@ pub mod Longer
 pub mod Alones
 pub mod FromSession
 pub mod OneAlone
+pub mod SmallRuns

@@ -1,28 +1,21 @@
 -- What a session needs of a machine, and what a request asks of it.
-use Rattle.std.specs.Prelude.{◌≡◌, ℕ, List, Result, Ok, Err}
+use Rattle.std.specs.Prelude.{ℕ, List, Result, Ok, Err}
 use Rattle.cm_base.specs.declared.cause.Cause.{Cause}
-use Rattle.cm_base.specs.declared.fail.Fail.{Fail}
-use Rattle.cm_base.specs.declared.fail.Fail.TheVariants.{Refused, Memory}
 use Rattle.cm_base.specs.declared.shown.Shown.{Shown}
 use Rattle.cm_base.specs.declared.user.User.{User}
 use Rattle.http_grammar.specs.Request.{Request}
 use Rattle.desk_model.specs.declared.entry.Entry.{Entry}
-use Rattle.talk.specs.declared.served.Asked.{Asked}
-use Rattle.talk.specs.declared.served.Asked.TheVariants.{Write, Question}
-use Rattle.talk.specs.Wire.{caller_of, least_of}
+use Rattle.talk.specs.declared.asked.Asked.{Asked}
+use Rattle.talk.specs.declared.asked.Asked.TheVariants.{Write, Question}
+use Rattle.talk.specs.Wire.{Wire}
 
--- reading a request into a call: the answer is what is due, or that memory is wanted
-abbrev pub ReadsCall : {A : Type 0} → Result A Cause → Result A Fail → Type 0
-ReadsCall due (Ok x) = due ≡ Ok x
-ReadsCall due (Err (Refused cause)) = due ≡ Err cause
-ReadsCall due (Err Memory) = Unit {0}
-
--- what a machine means: its step, its answers, the number of a state, and the call of a request or the first cause of its arguments
+-- what a machine means: its step, its answers, the number of a state, and the call of a request or the first cause of its arguments; and the words of the wire
 pub record Kind (S C Q : Type 0) : Type 0 where
   pub next : S → Entry C → Result (S × Shown) Cause
   pub answer : S → List ℕ → Q → Result Shown Cause
   pub number : S → ℕ
   pub call : Request → Result (Asked C Q) Cause
+  pub wire : Wire
 
 -- what a request asks: nothing of the repository, where its credentials or its arguments have a cause; or a write or a question of a user, with the least step number that it asks for
 pub data Ask (C Q : Type 0) : Type 0 where
@@ -39,4 +32,4 @@ ask_by (Ok user) (Ok (Question question)) least = reads user least question
 
 -- what a request asks
 abbrev pub ask_of : {S C Q : Type 0} → Kind S C Q → List User → Request → Ask C Q
-ask_of kind users r = ask_by (caller_of r.head users) (kind.call r) (least_of r.head)
+ask_of kind users r = ask_by (kind.wire.caller_of r.head users) (kind.call r) (kind.wire.least_of r.head)

@@ -1,11 +1,11 @@
 //! One session of a connection: the relation between the bytes that come in, the history, and the bytes that go out,
-//! and the function that serves it over any desk and any link.
+//! with its laws. It is generic in the machine and in the words of the wire.
 #![tactic(auto)]
 
+mod asked;
 mod end;
-mod served;
-mod stub;
+mod laws;
 
+pub use asked::Asked;
 pub use end::End;
-pub use served::{Asked, Served};
-pub use stub::Request;
+pub use laws::{alone_is_one, session_alone, session_stands};

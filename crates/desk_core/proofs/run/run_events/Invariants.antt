@@ -1,5 +1,5 @@
 use Rattle.std.proofs.Common.{◌≡◌, ◌++◌}
-use Rattle.desk_core.specs.Interleaving.{Rules, run, answers}
+use Rattle.desk_core.specs.Interleaving.{run, answers}
 use Rattle.desk_core.proofs.run.run_events.Given as goal
 
 abbrev pub invariant-loop-event : goal.invariant-loop-event

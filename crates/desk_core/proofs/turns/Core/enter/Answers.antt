@@ -1,7 +1,3 @@
-use Rattle.std.proofs.Common.{◌≡◌, ◌∙◌, None, ap, sym}
-use Rattle.std.specs.Arc.{arc_value}
-use Rattle.desk_core.specs.Interleaving.{Rules, holds}
-use Rattle.desk_core.specs.Holds.{IsCore, world_of}
 use Rattle.desk_core.proofs.Holdings.{core-puts}
 use Rattle.desk_core.proofs.CoreSteps.{begins-hold, entered}
 use Rattle.desk_core.proofs.turns.Core.enter.Goals as goal

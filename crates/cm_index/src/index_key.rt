@@ -1,0 +1,34 @@
+//! What objects are looked up by.
+ghost use Rattle.std.specs.Prelude.{◌≡◌};
+ghost use Rattle.cm_index.specs.KeyFacts.{index_exact};
+
+use cm_base::copies::Copies;
+use cm_base::number::Oid;
+use cm_base::text::Text;
+use map_keys::key::Key;
+use std::alloc::{AllocError, Global};
+
+/// A key of an index. Keys are ordered by their kind first, then by their parts, texts by bytes.
+#[derive(PartialEq, Eq, PartialOrd, Ord, Drop)]
+pub enum IndexKey {
+    /// The id of a type: the objects of it.
+    Kind(Text),
+    /// A folder and a name: the child of that name in it.
+    Child(Oid, Text),
+    /// A version series: its documents.
+    Series(Oid),
+}
+
+impl Key for IndexKey {
+    ghost exact = { index_exact };
+}
+
+impl Copies for IndexKey {
+    fn copied(&self, alloc: Global) -> Result<IndexKey, AllocError> {
+        match self {
+            IndexKey::Kind(kind) => Ok(IndexKey::Kind(kind.copied(alloc)?)),
+            IndexKey::Child(folder, name) => Ok(IndexKey::Child(*folder, name.copied(alloc)?)),
+            IndexKey::Series(series) => Ok(IndexKey::Series(*series)),
+        }
+    }
+}

@@ -1,0 +1,101 @@
+//! A log that keeps its older states.
+ghost use Rattle.std.specs.Prelude.{◌≡◌, ◌≤◌, List, [], ◌∷◌, ◌++◌, map, length, slice_get, Some, IfOk, MatchOption};
+ghost use Rattle.cm_map.specs.Rests.{rest};
+
+use cm_base::log::Change;
+use cm_lists::sequence::Sequence;
+use cm_map::iter::Iter;
+use std::alloc::{AllocError, Global};
+use std::marker::Model;
+
+/// The events in the order in which they came, seen as their list. A longer log leaves the old one as it was.
+#[derive(Drop)]
+pub struct Log {
+    events: Sequence<Change>,
+}
+
+impl Model for Log {
+    ghost use Rattle.std.specs.Prelude.{List};
+    ghost use Rattle.cm_base.specs.declared.log.Change.{Change};
+
+    ghost Value = { List Change };
+
+    ghost view = { λ s. s.events };
+}
+
+impl Log {
+    /// The log without events, which takes no memory.
+    pub fn empty(alloc: Global) -> Log
+        ensures { result ≡ [] }
+    {
+        Log {
+            events: Sequence::empty(alloc),
+        }
+    }
+
+    /// The number of events, which is the number of the last one.
+    pub fn len(&self) -> u64
+        ensures { result ≡ length self.now }
+    {
+        self.events.len()
+    }
+
+    /// The event at a place, counted from 0; none exactly from the length on. An event's number is its place and one.
+    pub fn get(&self, place: u64) -> Option<&Change>
+        ensures { MatchOption result (length self.now ≤ place) (λ e. slice_get self.now place ≡ Some e.now) }
+    {
+        self.events.get(place)
+    }
+
+    /// The log with one event more at its end.
+    pub fn note(&self, alloc: Global, event: Change) -> Result<Log, AllocError>
+        ensures { IfOk result (λ log. log ≡ self.now ++ event ∷ []) }
+    {
+        let events = self.events.with_last(alloc, event)?;
+        Ok(Log { events })
+    }
+
+    /// The same log once more, by sharing.
+    pub fn share(&self, alloc: Global) -> Result<Log, AllocError>
+        ensures { IfOk result (λ log. log ≡ self.now) }
+    {
+        let events = self.events.share(alloc)?;
+        Ok(Log { events })
+    }
+
+    /// The events in order, each behind its place; no memory is taken.
+    pub fn iter(&self) -> Iter<'_, u64, Change>
+        ensures { map (λ e. e.1) (rest result) ≡ self.now }
+    {
+        self.events.iter()
+    }
+}
+
+#[cfg(test)]
+mod tests {
+    use super::*;
+    use cm_base::items::Items;
+    use cm_base::log::ChangeKind;
+    use cm_base::number::{Moment, Oid};
+    use std::test::Fail;
+
+    fn event(alloc: Global, number: u64) -> Change {
+        Change {
+            kind: ChangeKind::Created,
+            object: Oid(number),
+            moment: Moment(7),
+            readers: Items::new(alloc),
+        }
+    }
+
+    #[test]
+    fn older_logs_stand(rt: HostRuntime) -> Result<(), Fail> {
+        let alloc = rt.alloc();
+        let one = Log::empty(alloc).note(alloc, event(alloc, 2))?;
+        let two = one.note(alloc, event(alloc, 3))?.share(alloc)?;
+        assert_eq!(rt; (one.len(), two.len()), (1, 2));
+        assert!(rt; matches!(two.get(1), Some(e) if e.object.0 == 3));
+        assert!(rt; one.get(1).is_none() && two.iter().next().is_some());
+        Ok(())
+    }
+}
