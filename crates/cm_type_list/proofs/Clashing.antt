@@ -1,8 +1,8 @@
 -- Clashes among definitions, one by one.
-use Rattle.std.proofs.Common.{◌≡◌, ◌∙◌, ℕ, ◌+◌, ◌<◌, Bool, true, false, cond, ◌||◌, List, [], ◌∷◌, ◌++◌, map, length, take, get_or, refl, sym, ap}
-use Rattle.std.specs.Prelude.{Option, Some, None, is_some, bytes_eq}
+use Rattle.std.proofs.Common.{◌≡◌, ◌∙◌, ℕ, ◌+◌, ◌<◌, Bool, true, false, cond, ◌||◌, List, [], ◌∷◌, ◌++◌, length, take, get_or, refl, sym, ap}
+use Rattle.std.specs.Prelude.{Option, Some, is_some, bytes_eq}
 use Rattle.std.specs.List.{list_any}
-use Rattle.core.specs.Ordering.{nat_cmp, is_eq, eq_by_cmp}
+use Rattle.core.specs.Ordering.{nat_cmp, eq_by_cmp}
 use Rattle.core.specs.Cmp.Lexicographic.{slice_cmp, nat_list_cmp_total}
 use Rattle.core.specs.FinMap.Entries.{put, find-put}
 use Rattle.core.specs.FinMap.Entries as entries

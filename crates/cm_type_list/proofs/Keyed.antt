@@ -1,9 +1,9 @@
 -- Look-ups and changes of entries in key order, seen as look-ups and changes of the list of their values.
 use Rattle.std.proofs.Common.{◌≡◌, ◌∙◌, ℕ, Bool, true, false, cond, not, ◌&&◌, T, List, [], ◌∷◌, ◌++◌, refl, sym, ap, subst}
-use Rattle.std.specs.Prelude.{Option, Some, None, bytes_eq, filter, find}
+use Rattle.std.specs.Prelude.{Some, bytes_eq, filter, find}
 use Rattle.std.specs.declared.cmp.Ordering.{Ordering}
 use Rattle.std.specs.declared.cmp.Ordering.TheVariants.{Less, Equal, Greater}
-use Rattle.core.specs.Ordering.{nat_cmp, is_lt, is_eq, eq_by_cmp, ordering_reverse}
+use Rattle.core.specs.Ordering.{nat_cmp, is_lt, eq_by_cmp, ordering_reverse}
 use Rattle.core.specs.Cmp.Lexicographic.{slice_cmp, nat_list_cmp_total}
 use Rattle.core.specs.FinMap.Entries.{put, where_key, below_all, is_sorted, by_order}
 use Rattle.core.specs.FinMap.Entries as entries

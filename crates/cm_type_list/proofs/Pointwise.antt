@@ -1,5 +1,5 @@
 -- Lists compared item by item: one more item, and lists of other lengths.
-use Rattle.std.proofs.Common.{◌≡◌, ◌≢◌, ◌∙◌, ℕ, suc, ◌+◌, ◌<◌, Bool, true, false, ◌&&◌, List, [], ◌∷◌, ◌++◌, length, take, get_or, refl, sym, ap, arith, rules, add-one, zero}
+use Rattle.std.proofs.Common.{◌≡◌, ◌≢◌, ◌∙◌, ℕ, suc, ◌+◌, ◌<◌, Bool, true, false, ◌&&◌, List, [], ◌∷◌, length, take, get_or, refl, sym, ap, arith, add-one, zero}
 use lib.Pointwise.{pointwise, pointwise_long}
 
 alone : (b : Bool) → (b && true) ≡ b

@@ -1,5 +1,5 @@
 -- One more type, where there is none of its id yet.
-use Rattle.std.specs.Prelude.{ℕ, List, [], ◌∷◌, ◌++◌, bytes_eq, if◌then◌else◌}
+use Rattle.std.specs.Prelude.{List, [], ◌∷◌, ◌++◌, bytes_eq, if◌then◌else◌}
 use Rattle.std.specs.List.{list_any}
 use Rattle.cm_types.specs.declared.definition.TypeDef.{TypeDef}
 

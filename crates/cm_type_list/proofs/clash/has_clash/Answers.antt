@@ -1,5 +1,5 @@
-use Rattle.std.proofs.Common.{◌≡◌, ◌∙◌, ◌<◌, ◌||◌, ap, length, take, arith}
-use Rattle.std.specs.Prelude.{is_some, bytes_eq}
+use Rattle.std.proofs.Common.{◌∙◌, ◌<◌, ◌||◌, ap, length, take, arith}
+use Rattle.std.specs.Prelude.{bytes_eq}
 use Rattle.std.specs.List.{list_any}
 use Rattle.cm_types.specs.Changes.{has_clash}
 use Rattle.cm_type_list.proofs.Clashing.{clash_step, name_step}

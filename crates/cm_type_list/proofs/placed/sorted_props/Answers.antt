@@ -1,4 +1,4 @@
-use Rattle.std.proofs.Common.{◌≡◌, ◌∙◌, ◌<◌, List, [], ap, sym, length, take, arith}
+use Rattle.std.proofs.Common.{◌∙◌, ◌<◌, List, [], ap, sym, length, take, arith}
 use Rattle.std.proofs.lemmas.List.Sums.{fold_more}
 use Rattle.cm_types.specs.declared.property.PropDef.{PropDef}
 use Rattle.cm_types.specs.Changes.{placed, sorted_props}

@@ -2,7 +2,6 @@ use Rattle.std.proofs.Common.{◌≡◌, ◌∙◌, ap, sym, subst}
 use Rattle.core.specs.Ordering.{nat_cmp}
 use Rattle.core.specs.Cmp.Lexicographic.{slice_cmp}
 use Rattle.core.specs.FinMap.Entries.{put}
-use Rattle.cm_types.specs.Changes.{placed}
 use Rattle.cm_type_list.specs.Keys.{IsKeyed, values_of}
 use Rattle.cm_type_list.proofs.Keyed.{keyed_put, put_placed}
 use Rattle.cm_type_list.proofs.placed.with_prop.Goals as goal

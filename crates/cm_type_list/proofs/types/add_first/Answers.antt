@@ -1,4 +1,4 @@
-use Rattle.std.proofs.Common.{◌≡◌, ◌∙◌, map, sym, ap, true, false}
+use Rattle.std.proofs.Common.{◌≡◌, ◌∙◌, map, sym, ap, false}
 use Rattle.std.specs.Prelude.{bytes_eq}
 use Rattle.std.specs.List.{list_any}
 use denote.Ref.{Bor}

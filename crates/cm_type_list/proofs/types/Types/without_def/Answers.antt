@@ -1,4 +1,4 @@
-use Rattle.std.proofs.Common.{◌≡◌, ◌∙◌, ap, sym, subst}
+use Rattle.std.proofs.Common.{◌∙◌, ap, sym, subst}
 use Rattle.cm_types.specs.Changes.{without_type}
 use Rattle.cm_type_list.specs.Keys.{IsKeyed, values_of}
 use Rattle.cm_type_list.proofs.Keyed.{keyed_without, without_name}

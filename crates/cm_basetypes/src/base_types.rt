@@ -1,0 +1,195 @@
+//! The base types.
+ghost use Rattle.std.specs.Prelude.{◌≡◌, ◌++◌, ◌∷◌, [], List, IfOk, OnOk, map, true, false};
+ghost use Rattle.cm_types.specs.declared.definition.BaseType.TheVariants as bases;
+ghost use Rattle.cm_types.specs.declared.definition.ContentAllowed.TheVariants.{NotAllowed, Allowed};
+ghost use Rattle.cm_basetypes.specs.BaseTypes.{common_props, version_props, content_props, folder_props, relationship_props, policy_props, base_def, base_row, base_types};
+
+use crate::props::{common_props, document_props, folder_props, policy_props, relationship_props};
+use cm_base::items::Items;
+use cm_base::text::Text;
+use cm_type_list::changes::base_id;
+use cm_type_list::placed::sorted_props;
+use cm_type_list::types::Types;
+use cm_types::definition::{BaseType, ContentAllowed, TypeDef, TypeDefs, TypeMutability};
+use cm_types::property::PropDefs;
+use std::alloc::{AllocError, Global};
+
+fn base_def(
+    alloc: Global,
+    base: BaseType,
+    creatable: bool,
+    fileable: bool,
+    usable: bool,
+    versionable: bool,
+    content_allowed: ContentAllowed,
+    properties: PropDefs,
+) -> Result<TypeDef, AllocError>
+    ensures { IfOk result (λ t. t ≡ base_def base creatable fileable usable versionable content_allowed properties) }
+{
+    let id = base_id(base);
+    let sorted = sorted_props(alloc, properties.as_slice())?;
+    Ok(TypeDef {
+        id: Text::from_str(alloc, id)?,
+        local_name: Text::from_str(alloc, id)?,
+        local_namespace: Text::empty(alloc),
+        display_name: Text::from_str(alloc, id)?,
+        query_name: Text::from_str(alloc, id)?,
+        description: Text::empty(alloc),
+        base,
+        parent: None,
+        creatable,
+        fileable,
+        queryable: usable,
+        fulltext_indexed: false,
+        included_in_supertype_query: true,
+        controllable_policy: usable,
+        controllable_acl: usable,
+        mutability: TypeMutability {
+            create: true,
+            update: false,
+            delete: false,
+        },
+        versionable,
+        content_allowed,
+        allowed_source_types: Items::new(alloc),
+        allowed_target_types: Items::new(alloc),
+        properties: sorted,
+    })
+}
+
+fn document_type(alloc: Global) -> Result<TypeDef, AllocError>
+    ensures { IfOk result (λ t. t ≡ base_def bases.Document true true true true Allowed (common_props ++ (version_props ++ content_props))) }
+{
+    let properties = document_props(alloc)?;
+    base_def(
+        alloc,
+        BaseType::Document,
+        true,
+        true,
+        true,
+        true,
+        ContentAllowed::Allowed,
+        properties,
+    )
+}
+
+fn folder_type(alloc: Global) -> Result<TypeDef, AllocError>
+    ensures { IfOk result (λ t. t ≡ base_def bases.Folder true true true false NotAllowed (common_props ++ folder_props)) }
+{
+    let properties = folder_props(alloc)?;
+    base_def(
+        alloc,
+        BaseType::Folder,
+        true,
+        true,
+        true,
+        false,
+        ContentAllowed::NotAllowed,
+        properties,
+    )
+}
+
+fn relationship_type(alloc: Global) -> Result<TypeDef, AllocError>
+    ensures { IfOk result (λ t. t ≡ base_def bases.Relationship true false true false NotAllowed (common_props ++ relationship_props)) }
+{
+    let properties = relationship_props(alloc)?;
+    base_def(
+        alloc,
+        BaseType::Relationship,
+        true,
+        false,
+        true,
+        false,
+        ContentAllowed::NotAllowed,
+        properties,
+    )
+}
+
+fn policy_type(alloc: Global) -> Result<TypeDef, AllocError>
+    ensures { IfOk result (λ t. t ≡ base_def bases.Policy true false true false NotAllowed (common_props ++ policy_props)) }
+{
+    let properties = policy_props(alloc)?;
+    base_def(
+        alloc,
+        BaseType::Policy,
+        true,
+        false,
+        true,
+        false,
+        ContentAllowed::NotAllowed,
+        properties,
+    )
+}
+
+fn item_type(alloc: Global) -> Result<TypeDef, AllocError>
+    ensures { IfOk result (λ t. t ≡ base_def bases.Item true true true false NotAllowed common_props) }
+{
+    let properties = common_props(alloc)?;
+    base_def(
+        alloc,
+        BaseType::Item,
+        true,
+        true,
+        true,
+        false,
+        ContentAllowed::NotAllowed,
+        properties,
+    )
+}
+
+fn secondary_type(alloc: Global) -> Result<TypeDef, AllocError>
+    ensures { IfOk result (λ t. t ≡ base_def bases.Secondary false false false false NotAllowed []) }
+{
+    base_def(
+        alloc,
+        BaseType::Secondary,
+        false,
+        false,
+        false,
+        false,
+        ContentAllowed::NotAllowed,
+        Items::new(alloc),
+    )
+}
+
+// The row of the table with the base type.
+fn type_of(alloc: Global, base: BaseType) -> Result<TypeDef, AllocError>
+    ensures { IfOk result (λ t. t ≡ base_row base) }
+{
+    match base {
+        BaseType::Document => document_type(alloc),
+        BaseType::Folder => folder_type(alloc),
+        BaseType::Relationship => relationship_type(alloc),
+        BaseType::Policy => policy_type(alloc),
+        BaseType::Item => item_type(alloc),
+        BaseType::Secondary => secondary_type(alloc),
+    }
+}
+
+fn table(alloc: Global, bases: &[BaseType]) -> Result<TypeDefs, AllocError>
+    ensures { IfOk result (λ all. all ≡ map base_row bases.now) }
+{
+    let mut all = Items::new(alloc);
+    for base in bases {
+        let def = type_of(alloc, *base)?;
+        all.push(def)?;
+    }
+    Ok(all)
+}
+
+/// The six base types, in byte order of their ids.
+pub fn base_types(alloc: Global) -> Result<Types, AllocError>
+    ensures { IfOk result (λ types. types ≡ base_types) }
+{
+    let bases = [
+        BaseType::Document,
+        BaseType::Folder,
+        BaseType::Relationship,
+        BaseType::Policy,
+        BaseType::Item,
+        BaseType::Secondary,
+    ];
+    let defs = table(alloc, &bases)?;
+    let types = Types::from_defs(alloc, &defs)?;
+    Ok(types)
+}
