@@ -1,0 +1,87 @@
+//! The part of a turn that is made at the desk.
+ghost use Rattle.std.specs.Prelude.{◌≡◌, ℕ, Bool, List, [], IfOk, OnErr, Result};
+ghost use Rattle.cm_base.specs.declared.user.User.{User};
+ghost use Rattle.cm_base.specs.declared.cause.Cause.{Cause};
+ghost use Rattle.http_grammar.specs.Request.{Head, Request};
+ghost use Rattle.talk.specs.declared.asked.Asked.{Asked};
+ghost use Rattle.talk.specs.Wire.{Wire};
+ghost use Rattle.talk.specs.Served.{Kind, writes, reads};
+ghost use Rattle.talk.specs.Told.{ToldOrOneMore};
+ghost use Rattle.talk.specs.Turned.{Turned, GoesOn, verdict_shown};
+
+use crate::numbered::Numbered;
+use cm_base::cause::Cause;
+use cm_base::shown::Shown;
+use cm_base::text::Text;
+use desk_model::{Desk, Halt, Machine, Stop};
+use std::alloc::{AllocError, Global};
+
+/// What the desk says: a reply, or a cause at a version with this number.
+#[derive(Drop)]
+pub enum Verdict {
+    Shows(Shown),
+    Refuses(Cause, u64),
+}
+
+/// Makes a write at the moment of the clock's next word.
+pub fn write_turn<D: Desk>(
+    alloc: Global,
+    leave: &mut D::Leave,
+    desk: &mut D,
+    pass: &mut D::Pass,
+    user: &Text,
+    least: u64,
+    call: <D::Kind as Machine>::Call,
+) -> Result<Verdict, AllocError>
+where
+    D::Kind: Numbered,
+    requires { D.is_of desk.old pass.old }
+    ensures is_of { D.is_of desk.new pass.new }
+    ensures callers { D.callers desk.new ≡ D.callers desk.old }
+    ensures turned { IfOk result (λ verdict. (wire : Wire) (call_of : Request → Result (Asked D.Kind.Call D.Kind.Question) Cause) (users : List User) (head : Head) (last : Bool)
+        → Turned (record { next = D.Kind.next; answer = D.Kind.answer; number = D.Kind.number; call = call_of; wire = wire }) users head last (writes user.now least call) (D.known pass.old) (D.words desk.old) (wire.reply_text (verdict_shown wire verdict) last) (D.known pass.new) (D.words desk.new)) }
+    ensures starved { OnErr result (GoesOn (D.known pass.old) (D.known pass.new) [] × ToldOrOneMore (D.words desk.old) [] (D.words desk.new)) }
+{
+    let moment = desk.moment(leave);
+    match desk.write(alloc, leave, pass, least, user, moment, call) {
+        Ok(shown) => Ok(Verdict::Shows(shown)),
+        Err(Stop::Refused { cause, number }) => Ok(Verdict::Refuses(cause, number)),
+        Err(Stop::Ahead { number }) => {
+            Ok(Verdict::Refuses(Cause::StepAhead(least, number), number))
+        }
+        Err(Stop::Memory) => Err(AllocError),
+    }
+}
+
+/// Answers a question at what the desk then shows.
+pub fn read_turn<D: Desk>(
+    alloc: Global,
+    leave: &mut D::Leave,
+    desk: &mut D,
+    pass: &mut D::Pass,
+    user: &Text,
+    least: u64,
+    question: &<D::Kind as Machine>::Question,
+) -> Result<Verdict, AllocError>
+where
+    D::Kind: Numbered,
+    requires { D.is_of desk.old pass.old }
+    ensures is_of { D.is_of desk.new pass.new }
+    ensures callers { D.callers desk.new ≡ D.callers desk.old }
+    ensures turned { IfOk result (λ verdict. (wire : Wire) (call_of : Request → Result (Asked D.Kind.Call D.Kind.Question) Cause) (users : List User) (head : Head) (last : Bool)
+        → Turned (record { next = D.Kind.next; answer = D.Kind.answer; number = D.Kind.number; call = call_of; wire = wire }) users head last (reads user.now least question.now) (D.known pass.old) (D.words desk.old) (wire.reply_text (verdict_shown wire verdict) last) (D.known pass.new) (D.words desk.new)) }
+    ensures starved { OnErr result (GoesOn (D.known pass.old) (D.known pass.new) [] × (D.words desk.new ≡ D.words desk.old)) }
+{
+    let Ok(version) = desk.look(leave, pass) else {
+        return Err(AllocError);
+    };
+    let number = version.number();
+    if number < least {
+        return Ok(Verdict::Refuses(Cause::StepAhead(least, number), number));
+    }
+    match version.answer(alloc, user, question) {
+        Ok(shown) => Ok(Verdict::Shows(shown)),
+        Err(Halt::Refused(cause)) => Ok(Verdict::Refuses(cause, number)),
+        Err(Halt::Memory) => Err(AllocError),
+    }
+}
