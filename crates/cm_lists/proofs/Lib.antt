@@ -1,2 +1,3 @@
+mod Nested
 mod Places
 mod Tables

@@ -3,5 +3,6 @@
 
 ghost use Rattle.std.specs.Prelude.{◌≡◌};
 
+pub mod buckets;
 pub mod sequence;
 pub mod table;

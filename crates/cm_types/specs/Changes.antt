@@ -38,11 +38,16 @@ is_before a b = is_lt (slice_cmp nat_cmp a b)
 abbrev pub placed : {A : Type 0} → (A → List ℕ) → A → List A → List A
 placed name x xs = filter (λ y. is_before (name y) (name x)) xs ++ x ∷ filter (λ y. is_before (name x) (name y)) xs
 
-abbrev pub placed_props : List PropDef → List PropDef → List PropDef
-placed_props defs new = fold (λ all d. placed (λ e. e.id) d all) defs new
+-- property definitions in byte order of their ids, a later one in place of an earlier one of its id
+abbrev pub sorted_props : List PropDef → List PropDef
+sorted_props defs = fold (λ all d. placed (λ e. e.id) d all) [] defs
 
 abbrev pub placed_type : TypeDef → List TypeDef → List TypeDef
 placed_type t types = placed (λ s. s.id) t types
+
+-- types in byte order of their ids
+abbrev pub sorted_types : List TypeDef → List TypeDef
+sorted_types types = fold (λ all t. placed_type t all) [] types
 
 -- ---- what is made of a request
 
@@ -136,7 +141,7 @@ made_type parent q = record {
   content_allowed = unwrap_or (if_kept (is_document parent.base) q.content_allowed) parent.content_allowed;
   allowed_source_types = unwrap_or (if_kept (is_relationship parent.base) q.allowed_source_types) [];
   allowed_target_types = unwrap_or (if_kept (is_relationship parent.base) q.allowed_target_types) [];
-  properties = placed_props [] (made_props q.properties);
+  properties = sorted_props (made_props q.properties);
 }
 
 -- ---- rules of property definitions
@@ -164,20 +169,23 @@ is_many_for Multi ss = false
 abbrev pub has_wrong_value : PropDef → Bool
 has_wrong_value d = not (is_none (value_fault d d.default)) || list_any (is_wrong_choice d) d.choices
 
-abbrev pub is_wrong_request : PropRequest → Bool
-is_wrong_request p = is_many_for (cardinality_of p) (unwrap_or p.default []) || has_wrong_value (made_prop p)
+abbrev pub gives_many : PropRequest → Bool
+gives_many p = is_many_for (cardinality_of p) (unwrap_or p.default [])
 
 -- several values have no order
 abbrev pub is_wrongly_ordered : PropDef → Bool
 is_wrongly_ordered d = d.orderable && not (is_single d.cardinality)
 
 -- new property definitions break a rule
+abbrev pub breaks_def_rule : List TypeDef → List PropDef → Bool
+breaks_def_rule types defs =
+    list_any has_wrong_value defs
+    || list_any is_wrongly_ordered defs
+    || list_any (is_taken_prop types) defs
+    || has_clash defs
+
 abbrev pub breaks_prop_rule : List TypeDef → List PropRequest → Bool
-breaks_prop_rule types ps =
-    list_any is_wrong_request ps
-    || list_any is_wrongly_ordered (made_props ps)
-    || list_any (is_taken_prop types) (made_props ps)
-    || has_clash (made_props ps)
+breaks_prop_rule types ps = list_any gives_many ps || breaks_def_rule types (made_props ps)
 
 -- ---- createType
 
@@ -216,15 +224,26 @@ breaks_type_rule types parent q =
     || breaks_attribute_rule parent q
     || breaks_prop_rule types q.properties
 
+-- the type that a request makes below this parent
+abbrev pub judge_below : List TypeDef → TypeDef → TypeRequest → Judged TypeDef
+judge_below types parent q = do
+  refuse causes.TypeFixed (not parent.mutability.create)
+  refuse causes.TypeRule (breaks_type_rule types parent q)
+  Ok (made_type parent q)
+
 -- the type that a request makes, or the first cause against it
 abbrev pub judge_new_type : List TypeDef → TypeRequest → Judged TypeDef
 judge_new_type types q = do
   refuse causes.TypeNotFound (lacks_parent types q)
   refuse causes.TypeTaken (is_taken types q)
   parent ← find_or causes.TypeRule (option_and_then (type_in types) q.parent)
-  refuse causes.TypeFixed (not parent.mutability.create)
-  refuse causes.TypeRule (breaks_type_rule types parent q)
-  Ok (made_type parent q)
+  judge_below types parent q
+
+-- the list of types with the new one
+abbrev pub judge_with_type : List TypeDef → TypeRequest → Judged (List TypeDef)
+judge_with_type types q = do
+  t ← judge_new_type types q
+  Ok (placed_type t types)
 
 -- ---- updateType
 
@@ -360,26 +379,47 @@ abbrev pub changed_type : TypeDef → TypeRequest → TypeDef
 changed_type t q = record t {
   display_name = text_or t.display_name q.display_name;
   description = text_or t.description q.description;
-  properties = placed_props t.properties (made_props (new_props t.properties q.properties));
+  properties = sorted_props (t.properties ++ made_props (new_props t.properties q.properties));
 }
+
+-- the changed type
+abbrev pub judge_change_of : List TypeDef → TypeDef → TypeRequest → Judged TypeDef
+judge_change_of types t q = do
+  refuse causes.TypeFixed (not t.mutability.update)
+  refuse causes.TypeRule (breaks_change_rule types t q)
+  Ok (changed_type t q)
 
 -- the type that a request changes, as it is then, or the first cause against it
 abbrev pub judge_changed_type : List TypeDef → TypeRequest → Judged TypeDef
 judge_changed_type types q = do
   t ← find_or causes.TypeNotFound (type_in types q.id)
-  refuse causes.TypeFixed (not t.mutability.update)
-  refuse causes.TypeRule (breaks_change_rule types t q)
-  Ok (changed_type t q)
+  judge_change_of types t q
+
+-- the list of types with the changed one
+abbrev pub judge_with_change : List TypeDef → TypeRequest → Judged (List TypeDef)
+judge_with_change types q = do
+  t ← judge_changed_type types q
+  Ok (placed_type t types)
 
 -- ---- deleteType
 
--- the type that may be removed as far as the types tell, or the first cause against it
-abbrev pub judge_removed_type : List TypeDef → List ℕ → Judged TypeDef
+-- it may be removed
+abbrev pub judge_removal_of : List TypeDef → TypeDef → Judged (Unit {0})
+judge_removal_of types t = do
+  refuse causes.TypeFixed (not t.mutability.delete)
+  refuse causes.TypeInUse (list_any (is_child_type t.id) types)
+
+-- the type may be removed as far as the types tell, or the first cause against it
+abbrev pub judge_removed_type : List TypeDef → List ℕ → Judged (Unit {0})
 judge_removed_type types id = do
   t ← find_or causes.TypeNotFound (type_in types id)
-  refuse causes.TypeFixed (not t.mutability.delete)
-  refuse causes.TypeInUse (list_any (is_child_type id) types)
-  Ok t
+  judge_removal_of types t
 
 abbrev pub without_type : List TypeDef → List ℕ → List TypeDef
 without_type types id = filter (λ t. not (bytes_eq t.id id)) types
+
+-- the list of types without the one that is removed
+abbrev pub judge_without_type : List TypeDef → List ℕ → Judged (List TypeDef)
+judge_without_type types id = do
+  judge_removed_type types id
+  Ok (without_type types id)

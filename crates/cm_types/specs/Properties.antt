@@ -1,8 +1,6 @@
 -- What is wrong with a given property, and the values that are kept (CMIS 1.1, sections 2.1.2.1 and 2.1.3.3).
-use Rattle.std.specs.Prelude.{ℕ, ◌-◌, ◌^◌, ◌==◌, nat_lt, ℤ, pos, negsuc, int_lt, int_le, Bool, true, false, ◌&&◌, ◌||◌, not, if◌then◌else◌, List, [], ◌∷◌, length, drop, map, filter_map, find, Option, Some, None, unwrap_or, option_map, bytes_eq, codes, count_by}
+use Rattle.std.specs.Prelude.{ℕ, ◌==◌, nat_lt, ℤ, pos, negsuc, int_lt, Bool, true, false, ◌&&◌, ◌||◌, not, if◌then◌else◌, List, [], ◌∷◌, length, map, filter_map, find, Option, Some, None, Ok, unwrap_or, option_map, bytes_eq, codes, count_by}
 use Rattle.std.specs.List.{list_any, list_all}
-use Rattle.std.specs.Char.{is_ascii_digit}
-use Rattle.std.specs.Str.Parse.{signed_digits_value, starts_with_minus}
 use Rattle.core.specs.Fmt.{is_char_start}
 use Rattle.cm_base.specs.declared.value.Slot.{Slot}
 use Rattle.cm_base.specs.declared.value.Scalar.{Scalar}
@@ -13,6 +11,7 @@ use Rattle.cm_base.specs.declared.cause.Cause.{Cause}
 use Rattle.cm_base.specs.declared.cause.Cause.TheVariants as causes
 use Rattle.cm_base.specs.declared.cause.PropertyFault.{PropertyFault}
 use Rattle.cm_base.specs.declared.cause.PropertyFault.TheVariants as faults
+use Rattle.cm_base.specs.Decimals.{decimal_i64}
 use Rattle.cm_base.specs.Judged.{Judged, ◌>>◌, first_cause}
 use Rattle.cm_types.specs.declared.property.PropDef.{PropDef}
 use Rattle.cm_types.specs.declared.property.PropertyKind.{PropertyKind}
@@ -68,30 +67,6 @@ same_scalar _ _ = false
 
 -- ---- texts of values
 
--- one digit or more, the first not 0 unless it is the only one
-abbrev pub is_led : List ℕ → Bool
-is_led [] = false
-is_led (d ∷ []) = true
-is_led (d ∷ e ∷ ds) = not (d == 48)
-
-abbrev pub is_plain_number : List ℕ → Bool
-is_plain_number ds = is_led ds && list_all is_ascii_digit ds
-
--- a decimal number without a plus sign and leading zeros; minus zero is none
-abbrev pub is_plain_whole : List ℕ → Bool
-is_plain_whole text =
-    if starts_with_minus text then is_plain_number (drop 1 text) && not (bytes_eq (drop 1 text) (codes "0"))
-    else is_plain_number text
-
--- a number of 64 bits with a sign
-abbrev pub is_in_64_bits : ℤ → Bool
-is_in_64_bits n = int_le (negsuc (2 ^ 63 - 1)) n && int_lt n (pos (2 ^ 63))
-
-abbrev pub whole_of_text : List ℕ → Option ℤ
-whole_of_text text =
-    let n = signed_digits_value 10 text in
-    if is_plain_whole text && is_in_64_bits n then Some n else None
-
 abbrev pub flag_of_text : List ℕ → Option Bool
 flag_of_text text =
     if bytes_eq text (codes "true") then Some true
@@ -101,8 +76,8 @@ flag_of_text text =
 -- the scalar that a text states, by the kind of the property: a moment is in milliseconds since 1970, UTC
 abbrev pub scalar_of_text : PropertyKind → List ℕ → Option Scalar
 scalar_of_text kinds.Boolean text = option_map Flag (flag_of_text text)
-scalar_of_text kinds.Integer text = option_map Whole (whole_of_text text)
-scalar_of_text kinds.Datetime text = option_map Time (whole_of_text text)
+scalar_of_text kinds.Integer text = option_map Whole (decimal_i64 text)
+scalar_of_text kinds.Datetime text = option_map Time (decimal_i64 text)
 scalar_of_text kinds.String text = Some (Words text)
 scalar_of_text kinds.Uri text = Some (Words text)
 scalar_of_text kinds.Id text = Some (Words text)
@@ -251,6 +226,10 @@ abbrev pub judge_properties : PropertyCall → List PropDef → List Slot → Li
 judge_properties call defs old given =
     first_cause (given_cause call defs) given
     >> first_cause (missing_cause call old given) defs
+
+-- the values that are kept, or the first fault
+abbrev pub judge_values : PropertyCall → List PropDef → List Slot → List Given → Judged (List Slot)
+judge_values call defs old given = judge_properties call defs old given >> Ok (kept_values call defs old given)
 
 -- the texts of a given property
 abbrev pub given_texts : List Given → List ℕ → List (List ℕ)

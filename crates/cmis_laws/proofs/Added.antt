@@ -1,5 +1,5 @@
 -- An object more: what each fact says of it, and that what was there stays there.
-use Rattle.std.specs.Prelude.{◌≡◌, ℕ, ◌+◌, ◌<◌, ◌≤◌, true, false, not, List, ◌++◌, map, All, Option, Some, None, IfSome, is_some, unwrap_or, option_and_then, bytes_eq, codes}
+use Rattle.std.specs.Prelude.{◌≡◌, ℕ, ◌+◌, ◌<◌, ◌≤◌, true, false, not, List, ◌++◌, map, All, Option, Some, None, IfSome, is_some, unwrap_or, option_and_then, codes}
 use Rattle.std.proofs.Common.{refl, sym, ap, subst, ◌∙◌, inl, inr, arith}
 use Rattle.std.proofs.lemmas.Bool.{both_ways}
 use Rattle.std.proofs.lemmas.List.Elements.{All-push, All-append, All-weaker, All-map}

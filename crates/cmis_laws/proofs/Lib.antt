@@ -1,10 +1,13 @@
 pub mod Added
 pub mod Entries
+pub mod Kept
 pub mod Lists
 pub mod Made
+pub mod Moved
 pub mod Objects
 pub mod Opening
 pub mod Paired
+pub mod Passed
 pub mod Placed
 pub mod Steps
 pub mod Tree

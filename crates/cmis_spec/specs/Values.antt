@@ -24,13 +24,9 @@ abbrev pub texts : List (List ℕ) → Value
 texts [] = Unset
 texts (t ∷ ts) = Many (map Words (t ∷ ts))
 
--- these two have one text
-abbrev pub is_apart_single : List ℕ → Bool
-is_apart_single id = bytes_eq id (codes "cmis:name") || bytes_eq id (codes "cmis:objectTypeId")
-
 -- these three are kept beside the other values
 abbrev pub is_apart : List ℕ → Bool
-is_apart id = is_apart_single id || bytes_eq id (codes "cmis:secondaryObjectTypeIds")
+is_apart id = bytes_eq id (codes "cmis:name") || bytes_eq id (codes "cmis:objectTypeId") || bytes_eq id (codes "cmis:secondaryObjectTypeIds")
 
 -- the values that are kept with an object: the set ones but those three
 abbrev pub kept_beside : List Slot → List Slot

@@ -25,7 +25,7 @@ use Rattle.cm_types.specs.Types.{type_in, is_of_base, props_of, longest_chain}
 use Rattle.cm_types.specs.Properties.{value_in, texts_of, value_fault, is_faulty}
 use Rattle.cmis_spec.specs.Repository.{Repository, same, root, most_levels, most_steps, most_cost, object_at, series_at, is_a, type_of, entry_name, parent_in}
 use Rattle.cmis_spec.specs.Access.{object_named, rank}
-use Rattle.cmis_spec.specs.Values.{words, texts, is_apart_single, form_value}
+use Rattle.cmis_spec.specs.Values.{words, texts, form_value}
 
 -- each of the list stands so to each after it
 abbrev pub Apart : {A : Type 0} → (A → A → Type 0) → List A → Type 0
@@ -208,11 +208,11 @@ HasTypes types =
 abbrev pub Agrees : PropDef → List PropDef → Type 0
 Agrees d defs = All (λ e. (bytes_eq d.id e.id || bytes_eq d.query_name e.query_name) ≡ true → d ≡ e) defs
 
--- the name, the type and the secondary types are kept beside the other values: every text that stands there is a value of their properties
+-- every text is a value of the properties that are kept beside the others
 abbrev pub TakesTexts : PropDef → Type 0
 TakesTexts d =
-    (is_apart_single d.id ≡ true → (t : List ℕ) → value_fault d (words t) ≡ None)
-    × (bytes_eq d.id (codes "cmis:secondaryObjectTypeIds") ≡ true → (d.required ≡ false) × ((ts : List (List ℕ)) → value_fault d (texts ts) ≡ None))
+    ((bytes_eq d.id (codes "cmis:name") || bytes_eq d.id (codes "cmis:objectTypeId")) ≡ true → (t : List ℕ) → is_faulty d (words t) ≡ false)
+    × (bytes_eq d.id (codes "cmis:secondaryObjectTypeIds") ≡ true → (ts : List (List ℕ)) → is_faulty d (texts ts) ≡ false)
 
 -- and its default value has no fault of its own
 abbrev pub IsDef : List TypeDef → PropDef → Type 0

@@ -13,7 +13,8 @@ fn decoded(alloc: Global, bytes: &[u8]) -> Result<Text, AllocError>
     Ok(Text::from_string(text.into_owned(alloc)?))
 }
 
-fn form_pairs(alloc: Global, text: &[u8]) -> Result<Vec<Pair>, AllocError>
+/// The pairs of a text in the form application/x-www-form-urlencoded. What is no UTF-8 has U+FFFD in its place.
+pub fn form_pairs(alloc: Global, text: &[u8]) -> Result<Vec<Pair>, AllocError>
     ensures { IfOk result (λ v. v.items ≡ form_pairs text.now) }
 {
     let mut list = Vec::new(alloc);
@@ -26,18 +27,18 @@ fn form_pairs(alloc: Global, text: &[u8]) -> Result<Vec<Pair>, AllocError>
     Ok(list)
 }
 
-fn both(alloc: Global, form: &[u8], query: &[u8]) -> Result<Vec<Pair>, AllocError>
-    ensures { IfOk result (λ v. v.items ≡ form_pairs form.now ++ form_pairs query.now) }
+fn both(alloc: Global, form: Vec<Pair>, query: &[u8]) -> Result<Vec<Pair>, AllocError>
+    ensures { IfOk result (λ v. v.items ≡ form.items ++ form_pairs query.now) }
 {
-    let mut all = form_pairs(alloc, form)?;
+    let mut all = form;
     let mut more = form_pairs(alloc, query)?;
     all.append(&mut more)?;
     Ok(all)
 }
 
-/// The pairs of an urlencoded form, and then those of a target's query. Text that is no UTF-8 has U+FFFD in its place.
-pub fn read_pairs(alloc: Global, form: &[u8], query: &[u8]) -> Result<Pairs, AllocError>
-    ensures { IfOk result (λ p. p ≡ form_pairs form.now ++ form_pairs query.now) }
+/// The pairs of a form, and then those of a target's query.
+pub fn with_query(alloc: Global, form: Vec<Pair>, query: &[u8]) -> Result<Pairs, AllocError>
+    ensures { IfOk result (λ p. p ≡ form.items ++ form_pairs query.now) }
 {
     let all = both(alloc, form, query)?;
     Pairs::from_vec(alloc, all)

@@ -6,7 +6,7 @@ use crate::lists::texts;
 use crate::number::number;
 use crate::pairs::Pairs;
 use crate::properties::{properties, typed};
-use crate::read::read_pairs;
+use crate::read::{form_pairs, with_query};
 use cm_base::argument::Argument;
 use cm_base::cause::Cause;
 use cm_base::text::Texts;
@@ -14,9 +14,13 @@ use cm_call::question::PropertyFilter;
 use std::alloc::{AllocError, Global};
 
 fn form(alloc: Global) -> Result<Pairs, AllocError> {
-    read_pairs(
+    let form = form_pairs(
         alloc,
         b"propertyId[0]=cmis%3Aname&propertyValue[0]=a+b&propertyId[1]=cmis:objectTypeId&propertyValue[1]=cmis:folder&propertyId[2]=k:tags&propertyValue[2][0]=x&propertyValue[2][1]=y&policy[0]=7&policy[2]=9&addACEPrincipal[0]=bob&addACEPermission[0][0]=cmis:read",
+    )?;
+    with_query(
+        alloc,
+        form,
         b"succinct=true&succinct=false&maxItems=20&skipCount=07&filter=cmis:name+,%09cmis:path",
     )
 }

@@ -4,3 +4,4 @@ pub mod Heads
 pub mod OneBody
 pub mod KeptBody
 pub mod OneFront
+pub mod NeverCut

@@ -23,13 +23,13 @@ use Rattle.http_grammar.proofs.KeptBody.{IsDecidedBody, body_kept, LengthAtMost,
 -- ---- one front
 
 -- a head that isn't too long stands in the first bytes
-in_part : (bytes : List ℕ) (h : RequestHead) (rest : List ℕ) → HasHead bytes h rest
+pub in_part : (bytes : List ℕ) (h : RequestHead) (rest : List ℕ) → HasHead bytes h rest
     → ReadsRequest (take head_limit bytes) h (take (head_limit - length (print_request h)) rest)
 in_part bytes h rest x =
     let n : length (print_request h) + (head_limit - length (print_request h)) ≡ head_limit = omega (arith, x.short) in
     (x.reads.0, ap (take head_limit) x.reads.1 ∙ sym (ap (λ (k : ℕ). take k (print_request h ++ rest)) n) ∙ take-append-add (print_request h) rest (head_limit - length (print_request h)))
 
-not_hopeless : (bytes : List ℕ) (h : RequestHead) (rest : List ℕ) → HasHead bytes h rest → HasNoFuture (take head_limit bytes) → ⊥
+pub not_hopeless : (bytes : List ℕ) (h : RequestHead) (rest : List ℕ) → HasHead bytes h rest → HasNoFuture (take head_limit bytes) → ⊥
 not_hopeless bytes h rest x f =
     f.never [] h _ (subst (λ b. ReadsRequest b h (take (head_limit - length (print_request h)) rest)) (sym (append-nil (take head_limit bytes))) (in_part bytes h rest x))
 

@@ -3,7 +3,8 @@ ghost use Rattle.std.specs.Prelude.{◌≡◌, ◌<◌, ◌≤◌, ◌++◌, ℕ
 ghost use Rattle.http_grammar.specs.Request.{Head, Request};
 ghost use Rattle.http_grammar.specs.Chunks.{BodyFront, ChunkedBody};
 ghost use Rattle.http_grammar.specs.Fields.{expects_continue};
-ghost use Rattle.http_grammar.specs.First.{First, Front, IsDecided, Whole, Waits, HoldsHead};
+ghost use Rattle.http_grammar.specs.First.{First, Front, IsDecided, Whole, Waits, Fault, HoldsHead};
+ghost use Rattle.http_grammar.specs.declared.fault.HttpFault.TheVariants.{Cut};
 
 /// At most one thing stands at the front of the bytes.
 pub fn first_is_one()
@@ -43,4 +44,9 @@ pub fn whole_request_holds_its_head()
 /// Where a head waits for its body, the bytes hold it, and it expects the interim reply.
 pub fn waiting_head_is_held()
     ensures { (bytes : List ℕ) (h : Head) → First bytes (Waits h) → HoldsHead bytes h × (expects_continue h ≡ true) }
+{}
+
+/// The bytes alone are never cut: whether the input ends is for a reader to say.
+pub fn first_is_never_cut()
+    ensures { (bytes : List ℕ) → First bytes (Fault Cut) → ⊥ }
 {}

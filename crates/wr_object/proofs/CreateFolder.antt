@@ -1,12 +1,11 @@
 -- createFolder keeps what is well formed.
-use Rattle.std.specs.Prelude.{◌≡◌, ℕ, ◌+◌, ◌<◌, ◌≤◌, Bool, true, false, not, ◌&&◌, ◌||◌, List, [], ◌∷◌, ◌++◌, map, filter, filter_map, fold, find, All, Option, Some, None, Ok, is_some, is_none, option_map, unwrap_or, nat_lt, nat_le, bytes_eq, codes, if◌then◌else◌}
-use Rattle.std.specs.List.{list_any, flat_map}
+use Rattle.std.specs.Prelude.{◌≡◌, ℕ, ◌+◌, ◌≤◌, Bool, true, false, not, ◌||◌, List, [], ◌∷◌, map, filter, filter_map, fold, All, Option, Some, None, Ok, is_some, is_none, option_map, unwrap_or, nat_lt, nat_le, bytes_eq, codes, if◌then◌else◌}
+use Rattle.std.specs.List.{list_any}
 use Rattle.std.proofs.Common.{refl, sym, ap, subst, ◌∙◌, arith}
 use Rattle.std.proofs.lemmas.Bool.{both_ways, ltb-false}
 use Rattle.std.proofs.lemmas.List.Elements.{All-nil, All-cons, All-head, All-tail, All-append, All-filter, All-map, All-weaker}
 use Rattle.core.specs.List.{cons_option}
 use Rattle.core.specs.Ordering.{is_lt, is_gt}
-use Rattle.cm_base.specs.declared.number.Oid.{Oid}
 use Rattle.cm_base.specs.declared.number.Moment.{Moment}
 use Rattle.cm_base.specs.declared.object.Object.{Object}
 use Rattle.cm_base.specs.declared.access.Ace.{Ace}
@@ -22,16 +21,17 @@ use Rattle.cm_types.specs.Types.{type_in, same_base}
 use Rattle.cm_types.specs.Properties.{judge_properties}
 use Rattle.cm_call.specs.declared.write.AceRequest.{AceRequest}
 use Rattle.cm_call.specs.declared.write.CreateFolder.{CreateFolder}
-use Rattle.cm_acl.specs.Acl.{level_named, ace_order, with_ace, without_aces, changed_aces, same_ace}
+use Rattle.cm_acl.specs.Acl.{level_named, ace_order, with_ace, without_aces, same_ace}
 use Rattle.cm_show.specs.Addressed.{addressed}
 use Rattle.cmis_spec.specs.Repository.{Repository, root, most_levels, most_steps, most_cost, object_at, is_a, depth_of, is_taken, new_number}
-use Rattle.cmis_spec.specs.Access.{rank, lacks, read_named, object_named, reads}
-use Rattle.cmis_spec.specs.Well.{Apart, ComesBefore, IsBaseAt, IsAceList, IsWellFormed}
-use Rattle.cmis_laws.proofs.Lists.{by_test, none_some}
-use Rattle.cmis_laws.proofs.Made.{IsNewFolder, folder_keeps}
+use Rattle.cmis_spec.specs.Access.{rank, lacks, read_named, object_named}
+use Rattle.cmis_spec.specs.Well.{Apart, ComesBefore, IsBaseAt, IsWellFormed}
+use Rattle.cmis_laws.proofs.Lists.{none_some}
+use Rattle.cmis_laws.proofs.Made.{folder_keeps}
 use Rattle.wr_rules.specs.Rules.{judge_storage, distinct, name_in, type_id_in, secondary_in, unknown_type, has_other_secondary, bars_child, unread_cause, read_all, has_other_policy, policies_in, has_unknown_permission, aces_of, aces_in, new_aces}
-use Rattle.wr_rules.proofs.Passed.{refused_not, then_ok, refuse_ok, find_ok, first_none, addressed_there, some_none, read_there, named_there}
-use Rattle.wr_rules.proofs.Kept.{kept_new}
+use Rattle.cmis_laws.proofs.Kept.{kept_new}
+use Rattle.cmis_laws.proofs.Passed.{refused_not, then_ok, refuse_ok, find_ok, first_none, some_none, not_false, or_left, or_right}
+use Rattle.wr_rules.proofs.Found.{addressed_there, read_there, named_there}
 use Rattle.wr_object.specs.CreateFolder.{folder_props, is_uncontrollable, refusal_create_folder, new_folder, after_create_folder_in, after_create_folder}
 
 -- ---- what a refusal that is none tells
@@ -84,18 +84,6 @@ passes r u m cost call h =
     }
 
 -- ---- parts
-
-or_left : (a b : Bool) → a || b ≡ false → a ≡ false
-or_left true b h = h
-or_left false b h = refl
-
-or_right : (a b : Bool) → a || b ≡ false → b ≡ false
-or_right true b h = absurd (both_ways true h refl)
-or_right false b h = h
-
-not_false : (b : Bool) → not b ≡ false → b ≡ true
-not_false true h = refl
-not_false false h = absurd (both_ways true h refl)
 
 typed_of : (types : List TypeDef) (ids : List (List ℕ)) → All (λ id. unknown_type types id ≡ None) ids → All (λ s. is_some (type_in types s) ≡ true) ids
 typed_of types ids h = All-weaker (λ id. unknown_type types id ≡ None) (λ s. is_some (type_in types s) ≡ true) (λ s e. one (type_in types s) e) ids h

@@ -1,18 +1,16 @@
 -- createFolder (CMIS 1.1, section 2.2.4.3): when it is refused, what it makes of the repository, and what it answers.
-use Rattle.std.specs.Prelude.{ℕ, ◌+◌, ◌==◌, nat_le, nat_lt, Bool, true, false, ◌&&◌, ◌||◌, not, if◌then◌else◌, List, [], ◌∷◌, map, Option, Some, None, Ok, unwrap_or, option_map, length, codes}
+use Rattle.std.specs.Prelude.{ℕ, ◌+◌, nat_le, nat_lt, Bool, true, ◌&&◌, ◌||◌, not, List, [], Some, None, unwrap_or, option_map, length}
 use Rattle.cm_base.specs.declared.number.Oid.{Oid}
 use Rattle.cm_base.specs.declared.number.Moment.{Moment}
 use Rattle.cm_base.specs.declared.object.Object.{Object}
 use Rattle.cm_base.specs.declared.access.Level.TheVariants as levels
 use Rattle.cm_base.specs.declared.log.ChangeKind.TheVariants as changes
-use Rattle.cm_base.specs.declared.cause.Cause.{Cause}
 use Rattle.cm_base.specs.declared.cause.Cause.TheVariants as causes
 use Rattle.cm_base.specs.Judged.{Judged, ◌>>=◌, ◌>>◌, refuse, find_or, first_cause}
 use Rattle.cm_base.specs.Names.{is_name}
 use Rattle.cm_types.specs.declared.definition.TypeDef.{TypeDef}
 use Rattle.cm_types.specs.declared.definition.BaseType.TheVariants as bases
 use Rattle.cm_types.specs.declared.property.PropDef.{PropDef}
-use Rattle.cm_types.specs.declared.given.Given.{Given}
 use Rattle.cm_types.specs.declared.given.PropertyCall.TheVariants as calls
 use Rattle.cm_types.specs.Types.{type_in, same_base, props_of}
 use Rattle.cm_types.specs.Properties.{judge_properties, kept_values}

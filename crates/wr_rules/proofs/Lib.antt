@@ -1,3 +1,1 @@
-pub mod Definitions
-pub mod Kept
-pub mod Passed
+pub mod Found

@@ -1,0 +1,72 @@
+//! What a request asks.
+ghost use Rattle.std.specs.Prelude.{◌≡◌};
+ghost use Rattle.cm_base.specs.Judged.{Meets};
+ghost use Rattle.bind_read.specs.Calls.{names_in, bound, call_of_request};
+
+use crate::asked::Asked;
+use crate::children::children_of;
+use crate::create_folder::create_folder_of;
+use crate::fields::step_of;
+use crate::form::{form_of, method_of};
+use crate::object::{object_of, properties_of};
+use crate::stub::Request;
+use crate::words::{Service, service_of};
+use cm_base::fail::Fail;
+use cm_base::items::Items;
+use cm_base::text::Texts;
+use cm_call::question::Question;
+use cm_call::write::Write;
+use form_args::pairs::Pairs;
+use form_args::read::with_query;
+use request_target::target::{Target, query_of, target_of};
+use std::alloc::Global;
+
+fn names_in(alloc: Global, target: Target) -> Texts
+    ensures { result ≡ names_in target }
+{
+    match target {
+        Target::Service => Items::new(alloc),
+        Target::Repository => Items::new(alloc),
+        Target::Object(names) => names,
+    }
+}
+
+fn bound(alloc: Global, service: Service, names: &Texts, pairs: &Pairs) -> Result<Asked, Fail>
+    ensures { Meets (λ a. a) result (bound service names.now pairs.now) }
+{
+    match service {
+        Service::CreateFolder => {
+            let call = create_folder_of(alloc, names, pairs)?;
+            Ok(Asked::Write(Write::CreateFolder(call)))
+        }
+        Service::Object => {
+            let question = object_of(alloc, names, pairs)?;
+            Ok(Asked::Question(Question::Object(question)))
+        }
+        Service::Properties => {
+            let question = properties_of(alloc, names, pairs)?;
+            Ok(Asked::Question(Question::Properties(question)))
+        }
+        Service::Children => {
+            let question = children_of(alloc, names, pairs)?;
+            Ok(Asked::Question(Question::Children(question)))
+        }
+    }
+}
+
+/// What a request asks, or the first cause why it asks nothing, in this order: the method, the address, the form, the action or
+/// selector, the CMIS-Step field, and the arguments of the call in their order.
+#[tactic(auto, using(crate::proofs::Exits::fails_bind))]
+pub fn call_of(alloc: Global, request: &Request) -> Result<Asked, Fail>
+    ensures { Meets (λ a. a) result (call_of_request request.now) }
+{
+    let head = request.head();
+    let method = method_of(head.method())?;
+    let target = target_of(alloc, head.target())?;
+    let form = form_of(alloc, method, request)?;
+    let pairs = with_query(alloc, form, query_of(head.target()))?;
+    let service = service_of(alloc, method, &target, &pairs)?;
+    let _step = step_of(head)?;
+    let names = names_in(alloc, target);
+    bound(alloc, service, &names, &pairs)
+}

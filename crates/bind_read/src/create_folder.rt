@@ -1,0 +1,48 @@
+//! The arguments of createFolder.
+ghost use Rattle.std.specs.Prelude.{◌≡◌};
+ghost use Rattle.cm_base.specs.Judged.{Meets};
+ghost use Rattle.bind_read.specs.CreateFolder.{create_folder_of};
+
+use crate::parts::place_of;
+use cm_base::argument::Argument;
+use cm_base::fail::Fail;
+use cm_base::text::Texts;
+use cm_call::write::CreateFolder;
+use form_args::choice::flag;
+use form_args::entries::aces;
+use form_args::lists::texts;
+use form_args::pairs::Pairs;
+use form_args::properties::{properties, typed};
+use std::alloc::Global;
+
+/// The call that the arguments make, or the first of their causes.
+#[tactic(auto, using(crate::proofs::Exits::fails_bind, crate::proofs::Exits::fails_then))]
+pub fn create_folder_of(alloc: Global, names: &Texts, pairs: &Pairs) -> Result<CreateFolder, Fail>
+    ensures { Meets (λ c. c) result (create_folder_of names.now pairs.now) }
+{
+    let succinct = flag(pairs, Argument::Succinct, false)?;
+    let properties = properties(alloc, pairs)?;
+    typed(properties.as_slice())?;
+    let add = aces(
+        alloc,
+        pairs,
+        Argument::AddAcePrincipal,
+        Argument::AddAcePermission,
+    )?;
+    let remove = aces(
+        alloc,
+        pairs,
+        Argument::RemoveAcePrincipal,
+        Argument::RemoveAcePermission,
+    )?;
+    let policies = texts(alloc, pairs, Argument::Policy.word())?;
+    let place = place_of(alloc, names, pairs)?;
+    Ok(CreateFolder {
+        place,
+        properties,
+        policies,
+        remove,
+        add,
+        succinct,
+    })
+}

@@ -1,0 +1,81 @@
+//! The method and the form of a request.
+ghost use Rattle.std.specs.Prelude.{◌≡◌, codes, option_map, IfOk};
+ghost use Rattle.cm_base.specs.declared.cause.Cause.TheVariants as causes;
+ghost use Rattle.cm_base.specs.Judged.{Meets};
+ghost use Rattle.bind_read.specs.Forms.{method_of, form_by, form_in, form_of};
+
+use crate::fields::content_type;
+use crate::media::is_of_type;
+use crate::stub::{Head, Request};
+use cm_base::cause::Cause;
+use cm_base::fail::Fail;
+use cm_base::text::Text;
+use form_args::pairs::Pair;
+use form_args::read::form_pairs;
+use std::alloc::{AllocError, Global};
+
+/// The methods of the Browser Binding.
+#[derive(Clone, Copy, Debug, PartialEq, Eq)]
+pub enum Method {
+    Get,
+    Post,
+}
+
+/// The method of this name; any other is BadMethod.
+pub fn method_of(word: &[u8]) -> Result<Method, Cause>
+    ensures { result ≡ method_of word.now }
+{
+    if word == b"GET".as_slice() {
+        Ok(Method::Get)
+    } else if word == b"POST".as_slice() {
+        Ok(Method::Post)
+    } else {
+        Err(Cause::BadMethod)
+    }
+}
+
+/// The cause of a form of request that is not served yet.
+pub fn unserved(alloc: Global) -> Result<Cause, AllocError>
+    ensures { IfOk result (λ c. c ≡ causes.NotServed (codes "form")) }
+{
+    let word = Text::from_str(alloc, "form")?;
+    Ok(Cause::NotServed(word))
+}
+
+fn form_by(alloc: Global, kind: Option<&[u8]>, body: &[u8]) -> Result<Vec<Pair>, Fail>
+    ensures { Meets (λ v. v.items) result (form_by (option_map (λ t. t.now) kind.entry) body.now) }
+{
+    match kind {
+        None => Err(Fail::Refused(Cause::BadBody)),
+        Some(kind) => {
+            if is_of_type(b"application/x-www-form-urlencoded", kind) {
+                let form = form_pairs(alloc, body)?;
+                Ok(form)
+            } else if is_of_type(b"multipart/form-data", kind) {
+                let cause = unserved(alloc)?;
+                Err(Fail::Refused(cause))
+            } else {
+                Err(Fail::Refused(Cause::BadBody))
+            }
+        }
+    }
+}
+
+fn form_in(alloc: Global, head: &Head, body: &[u8]) -> Result<Vec<Pair>, Fail>
+    ensures { Meets (λ v. v.items) result (form_in head.now body.now) }
+{
+    match body {
+        [] => Ok(Vec::new(alloc)),
+        [_, ..] => form_by(alloc, content_type(head), body),
+    }
+}
+
+/// The pairs of a request's form: of the body of a POST, which is urlencoded or empty.
+pub fn form_of(alloc: Global, method: Method, request: &Request) -> Result<Vec<Pair>, Fail>
+    ensures { Meets (λ v. v.items) result (form_of method request.now) }
+{
+    match method {
+        Method::Get => Ok(Vec::new(alloc)),
+        Method::Post => form_in(alloc, request.head(), request.body().as_slice()),
+    }
+}

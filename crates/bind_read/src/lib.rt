@@ -1,0 +1,16 @@
+//! What a request asks: a write or a question with all its arguments, or the first cause why it asks nothing (CMIS 1.1, section 5.4).
+#![tactic(auto)]
+
+ghost use Rattle.std.specs.Prelude.{◌≡◌};
+
+pub mod asked;
+pub mod call;
+pub mod children;
+pub mod create_folder;
+pub mod fields;
+pub mod form;
+pub mod media;
+pub mod object;
+pub mod parts;
+pub mod stub;
+pub mod words;

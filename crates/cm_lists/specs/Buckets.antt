@@ -1,0 +1,13 @@
+-- Maps under numbers.
+use Rattle.std.specs.Prelude.{ℕ, List, [], Option, unwrap_or, option_and_then}
+use Rattle.core.specs.Ordering.{nat_cmp}
+use Rattle.core.specs.declared.cmp.Ordering.{Ordering}
+use Rattle.core.specs.FinMap.Entries.{find}
+
+-- the value at the key in the map under the number
+abbrev pub find_in : {K V : Type 0} → (K → K → Ordering) → List (ℕ × List (K × V)) → ℕ → K → Option V
+find_in R buckets n key = option_and_then (find R key) (find nat_cmp n buckets)
+
+-- the map under the number; where there is none, the empty one
+abbrev pub bucket_of : {K V : Type 0} → List (ℕ × List (K × V)) → ℕ → List (K × V)
+bucket_of buckets n = unwrap_or (find nat_cmp n buckets) []

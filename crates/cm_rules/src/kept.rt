@@ -1,0 +1,175 @@
+//! The values that are kept.
+ghost use Rattle.std.specs.Prelude.{◌≡◌, IfOk, [], ◌∷◌, false};
+ghost use Rattle.cm_base.specs.Judged.{Meets, judge_by, first_cause};
+ghost use Rattle.cm_types.specs.Properties.{is_set, value_of_texts, stated, value_before, kept_value, kept_values, default_values, is_missing, missing_cause};
+
+use crate::fault::stated;
+use crate::lookup::{given_of, slot_in};
+use crate::text::is_formless;
+use cm_base::cause::{Cause, PropertyFault};
+use cm_base::copies::Copies;
+use cm_base::fail::Fail;
+use cm_base::items::Items;
+use cm_base::text::Text;
+use cm_base::value::{Slot, Value, Values};
+use cm_types::given::{Given, PropertyCall};
+use cm_types::property::{PropDef, PropDefs, PropertyKind};
+use std::alloc::{AllocError, Global};
+
+fn is_set(value: &Value) -> bool
+    ensures { result ≡ is_set value.now }
+{
+    match value {
+        Value::Unset => false,
+        _ => true,
+    }
+}
+
+fn value_before(
+    alloc: Global,
+    call: PropertyCall,
+    old: &[Slot],
+    def: &PropDef,
+) -> Result<Value, AllocError>
+    ensures { IfOk result (λ v. v ≡ value_before call old.now def.now) }
+{
+    match call {
+        PropertyCall::Create => match slot_in(old, &def.id) {
+            Some(value) => value.copied(alloc),
+            None => def.default.copied(alloc),
+        },
+        _ => match slot_in(old, &def.id) {
+            Some(value) => value.copied(alloc),
+            None => Ok(Value::Unset),
+        },
+    }
+}
+
+fn kept_value(
+    alloc: Global,
+    call: PropertyCall,
+    old: &[Slot],
+    given: &[Given],
+    def: &PropDef,
+) -> Result<Value, AllocError>
+    ensures { IfOk result (λ v. v ≡ kept_value call old.now given.now def.now) }
+{
+    match given_of(given, &def.id) {
+        Some(one) => stated(alloc, def, one),
+        None => value_before(alloc, call, old, def),
+    }
+}
+
+/// The values that are kept, by the order of the definitions.
+pub fn kept_values(
+    alloc: Global,
+    call: PropertyCall,
+    defs: &[PropDef],
+    old: &[Slot],
+    given: &[Given],
+) -> Result<Values, AllocError>
+    ensures { IfOk result (λ v. v ≡ kept_values call defs.now old.now given.now) }
+{
+    let mut kept = Items::new(alloc);
+    for def in defs {
+        let value = kept_value(alloc, call, old, given, def)?;
+        let id = def.id.copied(alloc)?;
+        kept.push(Slot { id, value })?;
+    }
+    Ok(kept)
+}
+
+/// The default values of the properties, unset where there is none.
+pub fn defaults(alloc: Global, defs: &PropDefs) -> Result<Values, AllocError>
+    ensures { IfOk result (λ v. v ≡ default_values defs.now) }
+{
+    let defs = defs.as_slice();
+    let mut all = Items::new(alloc);
+    for def in defs {
+        let value = def.default.copied(alloc)?;
+        let id = def.id.copied(alloc)?;
+        all.push(Slot { id, value })?;
+    }
+    Ok(all)
+}
+
+#[tactic(auto, using(crate::proofs::Lists::is_set_one))]
+fn states_one(kind: PropertyKind, text: &Text) -> bool
+    ensures { result ≡ is_set (value_of_texts kind false (text.now ∷ [])) }
+{
+    !is_formless(kind, text)
+}
+
+fn states_some(kind: PropertyKind, several: bool, texts: &[Text]) -> bool
+    ensures { result ≡ is_set (value_of_texts kind several texts.now) }
+{
+    match texts {
+        [] => false,
+        [text, ..] => {
+            if several {
+                true
+            } else {
+                states_one(kind, text)
+            }
+        }
+    }
+}
+
+fn is_set_before(call: PropertyCall, old: &[Slot], def: &PropDef) -> bool
+    ensures { result ≡ is_set (value_before call old.now def.now) }
+{
+    match slot_in(old, &def.id) {
+        Some(value) => is_set(value),
+        None => match call {
+            PropertyCall::Create => is_set(&def.default),
+            _ => false,
+        },
+    }
+}
+
+fn is_kept_set(call: PropertyCall, old: &[Slot], given: &[Given], def: &PropDef) -> bool
+    ensures { result ≡ is_set (kept_value call old.now given.now def.now) }
+{
+    match given_of(given, &def.id) {
+        Some(one) => states_some(def.kind, one.several, one.texts.as_slice()),
+        None => is_set_before(call, old, def),
+    }
+}
+
+fn is_missing(call: PropertyCall, old: &[Slot], given: &[Given], def: &PropDef) -> bool
+    ensures { result ≡ is_missing call old.now given.now def.now }
+{
+    def.required && !is_kept_set(call, old, given, def)
+}
+
+fn judge_one(
+    alloc: Global,
+    call: PropertyCall,
+    old: &[Slot],
+    given: &[Given],
+    def: &PropDef,
+) -> Result<(), Fail>
+    ensures { Meets (λ x. x) result (judge_by (missing_cause call old.now given.now def.now)) }
+{
+    if is_missing(call, old, given, def) {
+        let id = def.id.copied(alloc)?;
+        return Err(Fail::Refused(Cause::Property(id, PropertyFault::Required)));
+    }
+    Ok(())
+}
+
+#[tactic(auto, using(cm_types::proofs::Exits::first_more, cm_types::proofs::Exits::first_fails, cm_types::proofs::Exits::first_none))]
+pub(crate) fn judge_missing(
+    alloc: Global,
+    call: PropertyCall,
+    defs: &[PropDef],
+    old: &[Slot],
+    given: &[Given],
+) -> Result<(), Fail>
+    ensures { Meets (λ x. x) result (first_cause (missing_cause call old.now given.now) defs.now) }
+{
+    for def in defs {
+        judge_one(alloc, call, old, given, def)?;
+    }
+    Ok(())
+}

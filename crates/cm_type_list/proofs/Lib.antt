@@ -1,0 +1,5 @@
+mod Clashing
+mod Firsting
+mod Keyed
+mod Looping
+mod Pointwise

@@ -1,0 +1,23 @@
+use Rattle.std.proofs.Common.{◌≡◌, ◌≤◌, ◌+◌, ◌++◌, List, ℕ, length, take, drop, arith, sym, subst, ap, ◌∙◌, Ok}
+use Rattle.outside.specs.declared.traits.Failed.{Failed}
+use Rattle.std.proofs.lemmas.List.{take-append-drop, length-drop}
+use Rattle.outside.specs.Outside.{Took, Writes}
+use Rattle.outside.proofs.Known.{wrote_more, wrote_no_more}
+use Rattle.http_reply.proofs.send.send.Goals as goal
+
+pub returns-in-Err-clause-front : goal.returns-in-Err-clause-front
+returns-in-Err-clause-front g c = (
+  take c.loop-done.done c.args.piece.now,
+  drop c.loop-done.done c.args.piece.now,
+  sym (take-append-drop c.loop-done.done c.args.piece.now),
+  wrote_no_more _ _ _ _ c.loop-done.invariant.1 c.in-Err.ensures.cause.later c.in-Err.ensures.bytes,
+)
+
+pub loop-done-preserved : goal.loop-done-preserved
+loop-done-preserved g c =
+    let w : Writes {E = Failed} (g.K.Sink.told c.loop-done.sink) (g.K.Sink.told c.write.new.self) (Ok c.in-Ok.count) (drop c.loop-done.done c.args.piece.now) =
+    subst (λ (t : List ℕ). Writes {E = Failed} (g.K.Sink.told c.loop-done.sink) (g.K.Sink.told c.write.new.self) (Ok c.in-Ok.count) t) c.tail.ensures c.in-Ok.ensures.bytes in (
+      omega (arith, length-drop c.loop-done.done c.args.piece.now, w.1),
+      wrote_more _ _ _ c.args.piece.now c.loop-done.done c.in-Ok.count c.loop-done.invariant.1 c.in-Ok.ensures.cause.later w.2,
+      c.in-Ok.ensures.aside ∙ c.loop-done.invariant.2,
+    )

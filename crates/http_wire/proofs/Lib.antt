@@ -1,0 +1,10 @@
+pub mod Ranges
+pub mod Digits
+pub mod Named
+pub mod SeenHeads
+pub mod HeadReading
+pub mod BodyReading
+pub mod PieceSeeing
+pub mod ChunkReading
+pub mod DataReading
+pub mod RequestReading

@@ -1,0 +1,4 @@
+pub mod Form
+pub mod Path
+pub mod Steps
+pub mod Targets
