@@ -10,15 +10,15 @@ use Rattle.desk_model.specs.Desks.{Known}
 use Rattle.http_grammar.specs.Request.{Head}
 use Rattle.talk.specs.declared.turn.Verdict.{Verdict}
 use Rattle.talk.specs.declared.turn.Verdict.TheVariants.{Shows, Refuses}
-use Rattle.talk.specs.Wire.{Wire}
+use Rattle.http_reply.specs.Replies.{cause_shown}
 use Rattle.talk.specs.Served.{Kind, Ask}
 use Rattle.talk.specs.Session.{Setting, Does, listed, timed}
 use Rattle.talk.specs.Told.{Told}
 
 -- what is shown of what the desk says
-abbrev pub verdict_shown : Wire → Verdict → Shown
-verdict_shown w (Shows shown) = shown
-verdict_shown w (Refuses cause n) = w.cause_shown cause (Some n)
+abbrev pub verdict_shown : Verdict → Shown
+verdict_shown (Shows shown) = shown
+verdict_shown (Refuses cause n) = cause_shown cause (Some n)
 
 -- a pass that knew k knows l, and has made these entries
 pub record GoesOn {S C : Type 0} (k l : Known S C) (made : List (Entry C)) : Type 0 where

@@ -5,11 +5,11 @@
 mod asked;
 mod end;
 mod laws;
-mod numbered;
+mod served;
 mod turn;
 
 pub use asked::Asked;
 pub use end::End;
 pub use laws::{alone_is_one, session_alone, session_stands};
-pub use numbered::Numbered;
+pub use served::Served;
 pub use turn::{Verdict, read_turn, write_turn};

@@ -1,15 +1,13 @@
 //! The part of a turn that is made at the desk.
 ghost use Rattle.std.specs.Prelude.{◌≡◌, ℕ, Bool, List, [], IfOk, OnErr, Result};
 ghost use Rattle.cm_base.specs.declared.user.User.{User};
-ghost use Rattle.cm_base.specs.declared.cause.Cause.{Cause};
-ghost use Rattle.http_grammar.specs.Request.{Head, Request};
-ghost use Rattle.talk.specs.declared.asked.Asked.{Asked};
-ghost use Rattle.talk.specs.Wire.{Wire};
-ghost use Rattle.talk.specs.Served.{Kind, writes, reads};
+ghost use Rattle.http_grammar.specs.Request.{Head};
+ghost use Rattle.http_reply.specs.Replies.{reply_text};
+ghost use Rattle.talk.specs.Served.{Kind, writes, reads, wire_of};
 ghost use Rattle.talk.specs.Told.{ToldOrOneMore};
 ghost use Rattle.talk.specs.Turned.{Turned, GoesOn, verdict_shown};
 
-use crate::numbered::Numbered;
+use crate::served::Served;
 use cm_base::cause::Cause;
 use cm_base::shown::Shown;
 use cm_base::text::Text;
@@ -34,12 +32,12 @@ pub fn write_turn<D: Desk>(
     call: <D::Kind as Machine>::Call,
 ) -> Result<Verdict, AllocError>
 where
-    D::Kind: Numbered,
+    D::Kind: Served,
     requires { D.is_of desk.old pass.old }
     ensures is_of { D.is_of desk.new pass.new }
     ensures callers { D.callers desk.new ≡ D.callers desk.old }
-    ensures turned { IfOk result (λ verdict. (wire : Wire) (call_of : Request → Result (Asked D.Kind.Call D.Kind.Question) Cause) (users : List User) (head : Head) (last : Bool)
-        → Turned (record { next = D.Kind.next; answer = D.Kind.answer; number = D.Kind.number; call = call_of; wire = wire }) users head last (writes user.now least call) (D.known pass.old) (D.words desk.old) (wire.reply_text (verdict_shown wire verdict) last) (D.known pass.new) (D.words desk.new)) }
+    ensures turned { IfOk result (λ verdict. (users : List User) (head : Head) (last : Bool)
+        → Turned (record { next = D.Kind.next; answer = D.Kind.answer; number = D.Kind.number; call = D.Kind.call; wire = wire_of D.Kind.user D.Kind.least D.Kind.closes }) users head last (writes user.now least call) (D.known pass.old) (D.words desk.old) (reply_text (verdict_shown verdict) last) (D.known pass.new) (D.words desk.new)) }
     ensures starved { OnErr result (GoesOn (D.known pass.old) (D.known pass.new) [] × ToldOrOneMore (D.words desk.old) [] (D.words desk.new)) }
 {
     let moment = desk.moment(leave);
@@ -64,12 +62,12 @@ pub fn read_turn<D: Desk>(
     question: &<D::Kind as Machine>::Question,
 ) -> Result<Verdict, AllocError>
 where
-    D::Kind: Numbered,
+    D::Kind: Served,
     requires { D.is_of desk.old pass.old }
     ensures is_of { D.is_of desk.new pass.new }
     ensures callers { D.callers desk.new ≡ D.callers desk.old }
-    ensures turned { IfOk result (λ verdict. (wire : Wire) (call_of : Request → Result (Asked D.Kind.Call D.Kind.Question) Cause) (users : List User) (head : Head) (last : Bool)
-        → Turned (record { next = D.Kind.next; answer = D.Kind.answer; number = D.Kind.number; call = call_of; wire = wire }) users head last (reads user.now least question.now) (D.known pass.old) (D.words desk.old) (wire.reply_text (verdict_shown wire verdict) last) (D.known pass.new) (D.words desk.new)) }
+    ensures turned { IfOk result (λ verdict. (users : List User) (head : Head) (last : Bool)
+        → Turned (record { next = D.Kind.next; answer = D.Kind.answer; number = D.Kind.number; call = D.Kind.call; wire = wire_of D.Kind.user D.Kind.least D.Kind.closes }) users head last (reads user.now least question.now) (D.known pass.old) (D.words desk.old) (reply_text (verdict_shown verdict) last) (D.known pass.new) (D.words desk.new)) }
     ensures starved { OnErr result (GoesOn (D.known pass.old) (D.known pass.new) [] × (D.words desk.new ≡ D.words desk.old)) }
 {
     let Ok(version) = desk.look(leave, pass) else {

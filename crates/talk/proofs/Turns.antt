@@ -1,0 +1,125 @@
+-- The turns that are made at a desk.
+use Rattle.std.proofs.Common.{◌≡◌, ℕ, ◌+◌, ◌≤◌, ◌<◌, nat_lt, Bool, List, [], ◌∷◌, ◌++◌, Option, Some, None, Result, Ok, Err, IfSome, length, refl, ap, sym, ◌∙◌, arith, length-append, subst, if◌then◌else◌}
+use Rattle.std.proofs.lemmas.List.{append-nil}
+use Rattle.std.proofs.lemmas.Bool.{lt-ltb, le-ltb}
+use mathlib.Core.List.{IsPrefix}
+use Rattle.outside.specs.Clocks.{Words, first_word, rest_words}
+use Rattle.cm_base.specs.declared.cause.Cause.{Cause}
+use Rattle.cm_base.specs.declared.cause.Cause.TheVariants as causes
+use Rattle.cm_base.specs.declared.number.Moment.{Moment}
+use Rattle.cm_base.specs.declared.shown.Shown.{Shown}
+use Rattle.cm_base.specs.declared.user.User.{User}
+use Rattle.desk_model.specs.declared.entry.Entry.{Entry}
+use Rattle.desk_model.specs.declared.machine.Stop.TheVariants as stops
+use Rattle.desk_model.specs.Clocks.{moment_of}
+use Rattle.desk_model.specs.Histories.{History, replay, shown_by, state_of}
+use Rattle.desk_model.specs.Desks.{Known, entry_of, with_entry, with_seen, Wrote, Looked}
+use Rattle.desk_model.proofs.Replays.{replay-more}
+use Rattle.http_grammar.specs.Request.{Head}
+use Rattle.talk.specs.Served.{Kind, Ask, faulty, writes, reads}
+use Rattle.talk.specs.Session.{Setting, number_at, Accepted, Refused, ahead, refused, Does, with_number, reading_text, listed}
+use Rattle.talk.specs.Told.{Gives, Told, ToldOrOneMore}
+use Rattle.talk.specs.Turned.{Turned, GoesOn, setting}
+use Rattle.talk.proofs.ListFacts.{prefix-le, prefix-more}
+
+-- a reply that has its number
+numbered : (a : Shown) (n : ℕ) → a.number ≡ Some n → a ≡ with_number n a
+numbered a n e = λ i. record { status = a.status; kind = a.kind; body = a.body; number = e i }
+
+shown-ok : {S A X : Type 0} (r : Result (S × A) X) (a : A) → shown_by r ≡ Ok a → (t : S) × (r ≡ Ok (t, a))
+shown-ok (Ok p) a h = (let e : p.1 ≡ a = cc h in (p.0, λ i. Ok (p.0, e i)))
+shown-ok (Err x) a h = absurd (cc h)
+
+pub told-one : (v u w : Option Words) (x : Moment) → IfSome v (λ a. (x ≡ moment_of (first_word a)) × (u ≡ Some (rest_words a))) → w ≡ u → Told v (x ∷ []) w
+told-one None u w x h e = tt
+told-one (Some a) u w x h e = (h.0, e ∙ h.1)
+
+same-none : (v w : Option Words) → w ≡ v → Told v [] w
+same-none None w e = tt
+same-none (Some a) w e = e
+
+saw-on : {S C : Type 0} (k : Known S C) (g : List (Entry C)) → IsPrefix k.seen g → GoesOn k (with_seen k g) []
+saw-on k g pre = record { opening = refl; base = refl; caller = refl; seen = pre; own = sym (append-nil k.own) }
+
+pub accepted-turn : {S C Q : Type 0} (kind : Kind S C Q) (users : List User) (head : Head) (last : Bool) (k l : Known S C) (least : ℕ) (user : List ℕ) (moment : Moment) (call : C) (a : Shown) (v w : Option Words)
+    → ((s t : S) (e : Entry C) (a : Shown) → kind.next s e ≡ Ok (t, a) → a.number ≡ Some (kind.number t))
+    → Wrote kind.next kind.number k least user moment call (Ok a) l → Told v (moment ∷ []) w
+    → Turned kind users head last (writes user least call) k v (kind.wire.reply_text a last) l w
+accepted-turn kind users head last k l least user moment call a v w law h told =
+    let g = h.0 in
+    let e : Entry _ = entry_of k user moment call in
+    let step = shown-ok (kind.next (replay kind.next k.opening g) e) a h.4 in
+    let after : step.0 ≡ replay kind.next k.opening (g ++ e ∷ []) = replay-more kind.next k.opening step.0 a g e step.1 in
+    let number : a.number ≡ Some (kind.number (replay kind.next k.opening (g ++ e ∷ []))) = law _ _ _ _ step.1 ∙ ap (λ t. Some (kind.number t)) after in
+    let longer : length k.seen < length (g ++ e ∷ []) = omega (arith, prefix-le k.seen g h.1, length-append g (e ∷ [])) in
+    rw h.2 (record {
+      wrote = Some e;
+      moment = moment;
+      does = (longer, record { earlier = g; prefix = refl; entry_is = refl; not_ahead = h.3; shown = a; accepted = h.4; text_is = ap (λ a. kind.wire.reply_text a last) (numbered a _ number) });
+      on = record { opening = refl; base = refl; caller = refl; seen = prefix-more k.seen g (e ∷ []) h.1; own = refl };
+      told = told;
+    })
+
+pub refused-turn : {S C Q : Type 0} (kind : Kind S C Q) (users : List User) (head : Head) (last : Bool) (k l : Known S C) (least : ℕ) (user : List ℕ) (moment : Moment) (call : C) (cause : Cause) (n : ℕ) (v w : Option Words)
+    → Wrote {A = Shown} kind.next kind.number k least user moment call (Err (stops.Refused cause n)) l → Told v (moment ∷ []) w
+    → Turned kind users head last (writes user least call) k v (kind.wire.reply_text (kind.wire.cause_shown cause (Some n)) last) l w
+refused-turn kind users head last k l least user moment call cause n v w h told =
+    rw h.2 (record {
+      wrote = None;
+      moment = moment;
+      does = (prefix-le k.seen h.0 h.1, refused cause h.3 h.4 (ap (λ n. kind.wire.reply_text (kind.wire.cause_shown cause (Some n)) last) h.5));
+      on = saw-on k h.0 h.1;
+      told = told;
+    })
+
+pub ahead-turn : {S C Q : Type 0} (kind : Kind S C Q) (users : List User) (head : Head) (last : Bool) (k l : Known S C) (least : ℕ) (user : List ℕ) (moment : Moment) (call : C) (n : ℕ) (v w : Option Words)
+    → Wrote {A = Shown} {X = Cause} kind.next kind.number k least user moment call (Err (stops.Ahead n)) l → Told v (moment ∷ []) w
+    → Turned kind users head last (writes user least call) k v (kind.wire.reply_text (kind.wire.cause_shown (causes.StepAhead least n) (Some n)) last) l w
+ahead-turn kind users head last k l least user moment call n v w h told =
+    rw h.2 (record {
+      wrote = None;
+      moment = moment;
+      does = (prefix-le k.seen h.0 h.1, ahead h.3 (ap (λ n. kind.wire.reply_text (kind.wire.cause_shown (causes.StepAhead least n) (Some n)) last) h.4));
+      on = saw-on k h.0 h.1;
+      told = told;
+    })
+
+-- a question, by the text that is due at the version
+pub looked-turn : {S C Q : Type 0} (kind : Kind S C Q) (users : List User) (head : Head) (last : Bool) (k l : Known S C) (least : ℕ) (user : List ℕ) (question : Q) (g : History S C) (text : List ℕ) (v w : Option Words) (moment : Moment)
+    → Looked k g l → text ≡ reading_text kind (setting k users) g.journal last user least question → w ≡ v
+    → Turned kind users head last (reads user least question) k v text l w
+looked-turn kind users head last k l least user question g text v w moment h is words =
+    rw h.2 (record {
+      wrote = None;
+      moment = moment;
+      does = (prefix-le k.seen g.journal h.0, is);
+      on = saw-on k g.journal h.0;
+      told = same-none v w words;
+    })
+
+pub late-text : {S C Q : Type 0} (kind : Kind S C Q) (users : List User) (last : Bool) (k : Known S C) (least : ℕ) (user : List ℕ) (question : Q) (g : History S C) (n : ℕ)
+    → g.opening ≡ k.opening → n ≡ kind.number (state_of kind.next g) → n < least
+    → kind.wire.reply_text (kind.wire.cause_shown (causes.StepAhead least n) (Some n)) last ≡ reading_text kind (setting k users) g.journal last user least question
+late-text kind users last k least user question g n o num lt =
+    let here : n ≡ number_at kind (setting k users) g.journal = num ∙ ap (λ o. kind.number (replay kind.next o g.journal)) o in
+    let below = rw here at lt in
+    rw (lt-ltb (number_at kind (setting k users) g.journal) least below) (ap (λ n. kind.wire.reply_text (kind.wire.cause_shown (causes.StepAhead least n) (Some n)) last) here)
+
+pub said-text : {S C Q : Type 0} (kind : Kind S C Q) (users : List User) (last : Bool) (k : Known S C) (least : ℕ) (user : List ℕ) (question : Q) (g : History S C) (n : ℕ) (a : Shown)
+    → ((s : S) (u : List ℕ) (q : Q) (a : Shown) → kind.answer s u q ≡ Ok a → a.number ≡ Some (kind.number s))
+    → g.opening ≡ k.opening → n ≡ kind.number (state_of kind.next g) → least ≤ n → kind.answer (state_of kind.next g) user question ≡ Ok a
+    → kind.wire.reply_text a last ≡ reading_text kind (setting k users) g.journal last user least question
+said-text kind users last k least user question g n a law o num le is =
+    let here : n ≡ number_at kind (setting k users) g.journal = num ∙ ap (λ o. kind.number (replay kind.next o g.journal)) o in
+    let above = rw here at le in
+    let there : kind.answer (replay kind.next k.opening g.journal) user question ≡ Ok a = ap (λ o. kind.answer (replay kind.next o g.journal) user question) (sym o) ∙ is in
+    rw (le-ltb (number_at kind (setting k users) g.journal) least above, there) (ap (λ a. kind.wire.reply_text a last) (numbered a _ (law _ _ _ _ there)))
+
+pub refused-text : {S C Q : Type 0} (kind : Kind S C Q) (users : List User) (last : Bool) (k : Known S C) (least : ℕ) (user : List ℕ) (question : Q) (g : History S C) (n : ℕ) (cause : Cause)
+    → g.opening ≡ k.opening → n ≡ kind.number (state_of kind.next g) → least ≤ n → kind.answer (state_of kind.next g) user question ≡ Err cause
+    → kind.wire.reply_text (kind.wire.cause_shown cause (Some n)) last ≡ reading_text kind (setting k users) g.journal last user least question
+refused-text kind users last k least user question g n cause o num le is =
+    let here : n ≡ number_at kind (setting k users) g.journal = num ∙ ap (λ o. kind.number (replay kind.next o g.journal)) o in
+    let above = rw here at le in
+    let there : kind.answer (replay kind.next k.opening g.journal) user question ≡ Err cause = ap (λ o. kind.answer (replay kind.next o g.journal) user question) (sym o) ∙ is in
+    rw (le-ltb (number_at kind (setting k users) g.journal) least above, there) (ap (λ n. kind.wire.reply_text (kind.wire.cause_shown cause (Some n)) last) here)
