@@ -1,5 +1,5 @@
 -- The turns that are made at a desk.
-use Rattle.std.proofs.Common.{◌≡◌, ℕ, ◌+◌, ◌≤◌, ◌<◌, nat_lt, Bool, List, [], ◌∷◌, ◌++◌, Option, Some, None, Result, Ok, Err, IfSome, length, refl, ap, sym, ◌∙◌, arith, length-append, subst, if◌then◌else◌}
+use Rattle.std.proofs.Common.{pos, ◌≡◌, ℕ, ◌+◌, ◌≤◌, ◌<◌, nat_lt, Bool, List, [], ◌∷◌, ◌++◌, Option, Some, None, Result, Ok, Err, IfSome, length, refl, ap, sym, ◌∙◌, arith, length-append, subst, if◌then◌else◌}
 use Rattle.std.proofs.lemmas.List.{append-nil}
 use Rattle.std.proofs.lemmas.Bool.{lt-ltb, le-ltb}
 use mathlib.Core.List.{IsPrefix}
@@ -85,13 +85,13 @@ ahead-turn kind users head last k l least user moment call n v w h told =
     })
 
 -- a question, by the text that is due at the version
-pub looked-turn : {S C Q : Type 0} (kind : Kind S C Q) (users : List User) (head : Head) (last : Bool) (k l : Known S C) (least : ℕ) (user : List ℕ) (question : Q) (g : History S C) (text : List ℕ) (v w : Option Words) (moment : Moment)
+pub looked-turn : {S C Q : Type 0} (kind : Kind S C Q) (users : List User) (head : Head) (last : Bool) (k l : Known S C) (least : ℕ) (user : List ℕ) (question : Q) (g : History S C) (text : List ℕ) (v w : Option Words)
     → Looked k g l → text ≡ reading_text kind (setting k users) g.journal last user least question → w ≡ v
     → Turned kind users head last (reads user least question) k v text l w
-looked-turn kind users head last k l least user question g text v w moment h is words =
+looked-turn kind users head last k l least user question g text v w h is words =
     rw h.2 (record {
       wrote = None;
-      moment = moment;
+      moment = record { 0 = pos 0 };
       does = (prefix-le k.seen g.journal h.0, is);
       on = saw-on k g.journal h.0;
       told = same-none v w words;
@@ -123,3 +123,32 @@ refused-text kind users last k least user question g n cause o num le is =
     let above = rw here at le in
     let there : kind.answer (replay kind.next k.opening g.journal) user question ≡ Err cause = ap (λ o. kind.answer (replay kind.next o g.journal) user question) (sym o) ∙ is in
     rw (le-ltb (number_at kind (setting k users) g.journal) least above, there) (ap (λ n. kind.wire.reply_text (kind.wire.cause_shown cause (Some n)) last) here)
+
+-- a refusal leaves the pass without a new entry
+pub refused-on : {S C Q : Type 0} (kind : Kind S C Q) (k l : Known S C) (least : ℕ) (user : List ℕ) (moment : Moment) (call : C) (cause : Cause) (n : ℕ)
+    → Wrote {A = Shown} kind.next kind.number k least user moment call (Err (stops.Refused cause n)) l → GoesOn k l []
+refused-on kind k l least user moment call cause n h = rw h.2 (saw-on k h.0 h.1)
+
+pub ahead-on : {S C Q : Type 0} (kind : Kind S C Q) (k l : Known S C) (least : ℕ) (user : List ℕ) (moment : Moment) (call : C) (n : ℕ)
+    → Wrote {A = Shown} {X = Cause} kind.next kind.number k least user moment call (Err (stops.Ahead n)) l → GoesOn k l []
+ahead-on kind k l least user moment call n h = rw h.2 (saw-on k h.0 h.1)
+
+-- a question whose step is ahead, one that is answered, and one that is refused
+pub late-turn : {S C Q : Type 0} (kind : Kind S C Q) (users : List User) (head : Head) (last : Bool) (k l : Known S C) (least : ℕ) (user : List ℕ) (question : Q) (g : History S C) (n : ℕ) (v w : Option Words)
+    → Looked k g l → n ≡ kind.number (state_of kind.next g) → n < least → w ≡ v
+    → Turned kind users head last (reads user least question) k v (kind.wire.reply_text (kind.wire.cause_shown (causes.StepAhead least n) (Some n)) last) l w
+late-turn kind users head last k l least user question g n v w h num lt words =
+    looked-turn kind users head last k l least user question g _ v w h (late-text kind users last k least user question g n h.1 num lt) words
+
+pub said-turn : {S C Q : Type 0} (kind : Kind S C Q) (users : List User) (head : Head) (last : Bool) (k l : Known S C) (least : ℕ) (user : List ℕ) (question : Q) (g : History S C) (n : ℕ) (a : Shown) (v w : Option Words)
+    → ((s : S) (u : List ℕ) (q : Q) (a : Shown) → kind.answer s u q ≡ Ok a → a.number ≡ Some (kind.number s))
+    → Looked k g l → n ≡ kind.number (state_of kind.next g) → least ≤ n → kind.answer (state_of kind.next g) user question ≡ Ok a → w ≡ v
+    → Turned kind users head last (reads user least question) k v (kind.wire.reply_text a last) l w
+said-turn kind users head last k l least user question g n a v w law h num le is words =
+    looked-turn kind users head last k l least user question g _ v w h (said-text kind users last k least user question g n a law h.1 num le is) words
+
+pub denied-turn : {S C Q : Type 0} (kind : Kind S C Q) (users : List User) (head : Head) (last : Bool) (k l : Known S C) (least : ℕ) (user : List ℕ) (question : Q) (g : History S C) (n : ℕ) (cause : Cause) (v w : Option Words)
+    → Looked k g l → n ≡ kind.number (state_of kind.next g) → least ≤ n → kind.answer (state_of kind.next g) user question ≡ Err cause → w ≡ v
+    → Turned kind users head last (reads user least question) k v (kind.wire.reply_text (kind.wire.cause_shown cause (Some n)) last) l w
+denied-turn kind users head last k l least user question g n cause v w h num le is words =
+    looked-turn kind users head last k l least user question g _ v w h (refused-text kind users last k least user question g n cause h.1 num le is) words
