@@ -1,5 +1,5 @@
 -- The turns that are made at a desk.
-use Rattle.std.proofs.Common.{pos, ◌≡◌, ℕ, ◌+◌, ◌≤◌, ◌<◌, nat_lt, Bool, List, [], ◌∷◌, ◌++◌, Option, Some, None, Result, Ok, Err, IfSome, length, refl, ap, sym, ◌∙◌, arith, length-append, subst, if◌then◌else◌}
+use Rattle.std.proofs.Common.{inl, inr, pos, ◌≡◌, ℕ, ◌+◌, ◌≤◌, ◌<◌, nat_lt, Bool, List, [], ◌∷◌, ◌++◌, Option, Some, None, Result, Ok, Err, IfSome, length, refl, ap, sym, ◌∙◌, arith, length-append, subst, if◌then◌else◌}
 use Rattle.std.proofs.lemmas.List.{append-nil}
 use Rattle.std.proofs.lemmas.Bool.{lt-ltb, le-ltb}
 use mathlib.Core.List.{IsPrefix}
@@ -19,7 +19,9 @@ use Rattle.http_grammar.specs.Request.{Head}
 use Rattle.talk.specs.Served.{Kind, Ask, faulty, writes, reads}
 use Rattle.talk.specs.Session.{Setting, number_at, Accepted, Refused, ahead, refused, Does, with_number, reading_text, listed}
 use Rattle.talk.specs.Told.{Gives, Told, ToldOrOneMore}
-use Rattle.talk.specs.Turned.{Turned, GoesOn, setting}
+use Rattle.talk.specs.declared.turn.Verdict.{Verdict}
+use Rattle.talk.specs.declared.turn.Verdict.TheVariants.{Shows, Refuses}
+use Rattle.talk.specs.Turned.{Turned, GoesOn, Stays, IsRefusal, IfRefuses, setting}
 use Rattle.talk.proofs.ListFacts.{prefix-le, prefix-more}
 
 -- a reply that has its number
@@ -152,3 +154,23 @@ pub denied-turn : {S C Q : Type 0} (kind : Kind S C Q) (users : List User) (head
     → Turned kind users head last (reads user least question) k v (kind.wire.reply_text (kind.wire.cause_shown cause (Some n)) last) l w
 denied-turn kind users head last k l least user question g n cause v w h num le is words =
     looked-turn kind users head last k l least user question g _ v w h (refused-text kind users last k least user question g n cause h.1 num le is) words
+
+-- one word more is gone
+pub stays-late : {S C : Type 0} (k l : Known S C) (u v w : Option Words) (moment : Moment) → GoesOn k l [] → IfSome u (λ a. (moment ≡ moment_of (first_word a)) × (v ≡ Some (rest_words a))) → w ≡ v → Stays k l u w
+stays-late k l u v w moment on h e = record { on = on; told = inr (moment, told-one u v w moment h e) }
+
+-- the pass is as it was, after a word of the clock
+pub same-on : {S C : Type 0} (k l : Known S C) → l ≡ k → GoesOn k l []
+same-on k l e = rw e (record { opening = refl; base = refl; caller = refl; seen = ([], append-nil k.seen); own = sym (append-nil k.own) })
+
+-- no word is gone
+pub stays-same : {S C : Type 0} (k l : Known S C) (u w : Option Words) → GoesOn k l [] → w ≡ u → Stays k l u w
+stays-same k l u w on e = record { on = on; told = inl (same-none u w e) }
+
+pub looked-stays : {S C : Type 0} (k l : Known S C) (g : History S C) (u w : Option Words) → Looked k g l → w ≡ u → Stays k l u w
+looked-stays k l g u w h e = stays-same k l u w (rw h.2 (saw-on k g.journal h.0)) e
+
+-- what a refusal says
+pub of-refusal : (verdict : Verdict) (fact : Type 0) → IsRefusal verdict → IfRefuses verdict fact → fact
+of-refusal (Shows shown) fact is holds = absurd is
+of-refusal (Refuses cause n) fact is holds = holds

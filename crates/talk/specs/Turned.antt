@@ -1,5 +1,5 @@
 -- What one turn tells of the desk.
-use Rattle.std.specs.Prelude.{◌≡◌, ℕ, Bool, List, ◌++◌, Option, Some, length}
+use Rattle.std.specs.Prelude.{◌≡◌, ℕ, Bool, List, [], ◌++◌, Option, Some, length}
 use mathlib.Core.List.{IsPrefix}
 use Rattle.outside.specs.Clocks.{Words}
 use Rattle.cm_base.specs.declared.number.Moment.{Moment}
@@ -13,12 +13,22 @@ use Rattle.talk.specs.declared.turn.Verdict.TheVariants.{Shows, Refuses}
 use Rattle.http_reply.specs.Replies.{cause_shown}
 use Rattle.talk.specs.Served.{Kind, Ask}
 use Rattle.talk.specs.Session.{Setting, Does, listed, timed}
-use Rattle.talk.specs.Told.{Told}
+use Rattle.talk.specs.Told.{Told, ToldOrOneMore}
 
 -- what is shown of what the desk says
 abbrev pub verdict_shown : Verdict → Shown
 verdict_shown (Shows shown) = shown
 verdict_shown (Refuses cause n) = cause_shown cause (Some n)
+
+-- a fact of a refusal
+abbrev pub IfRefuses : Verdict → Type 0 → Type 0
+IfRefuses (Shows shown) fact = Unit {0}
+IfRefuses (Refuses cause n) fact = fact
+
+-- it is a refusal
+abbrev pub IsRefusal : Verdict → Type 0
+IsRefusal (Shows shown) = ⊥
+IsRefusal (Refuses cause n) = Unit {0}
 
 -- a pass that knew k knows l, and has made these entries
 pub record GoesOn {S C : Type 0} (k l : Known S C) (made : List (Entry C)) : Type 0 where
@@ -27,6 +37,11 @@ pub record GoesOn {S C : Type 0} (k l : Known S C) (made : List (Entry C)) : Typ
   pub caller : l.caller ≡ k.caller
   pub seen : IsPrefix k.seen l.seen
   pub own : l.own ≡ k.own ++ made
+
+-- the pass has made no entry, and at most one word of the clock is gone
+pub record Stays {S C : Type 0} (k l : Known S C) (words after : Option Words) : Type 0 where
+  pub on : GoesOn k l []
+  pub told : ToldOrOneMore words [] after
 
 -- the setting of a session whose pass knows k
 abbrev pub setting : {S C : Type 0} → Known S C → List User → Setting S

@@ -5,11 +5,13 @@
 mod asked;
 mod end;
 mod laws;
+mod reply;
 mod served;
 mod turn;
 
 pub use asked::Asked;
 pub use end::End;
 pub use laws::{alone_is_one, session_alone, session_stands};
+pub use reply::reply_to;
 pub use served::Served;
 pub use turn::{Verdict, read_turn, write_turn};

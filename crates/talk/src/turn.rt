@@ -4,14 +4,14 @@ ghost use Rattle.cm_base.specs.declared.user.User.{User};
 ghost use Rattle.http_grammar.specs.Request.{Head};
 ghost use Rattle.http_reply.specs.Replies.{reply_text};
 ghost use Rattle.talk.specs.Served.{Kind, writes, reads, wire_of};
-ghost use Rattle.talk.specs.Told.{ToldOrOneMore};
-ghost use Rattle.talk.specs.Turned.{Turned, GoesOn, verdict_shown};
+ghost use Rattle.talk.specs.Turned.{Turned, Stays, IfRefuses, IsRefusal, verdict_shown};
 
 use crate::served::Served;
 use cm_base::cause::Cause;
 use cm_base::shown::Shown;
 use cm_base::text::Text;
 use desk_model::{Desk, Halt, Machine, Stop};
+use http_reply::cause_shown;
 use std::alloc::{AllocError, Global};
 
 /// What the desk says: a reply, or a cause at a version with this number.
@@ -38,7 +38,8 @@ where
     ensures callers { D.callers desk.new ≡ D.callers desk.old }
     ensures turned { IfOk result (λ verdict. (users : List User) (head : Head) (last : Bool)
         → Turned (record { next = D.Kind.next; answer = D.Kind.answer; number = D.Kind.number; call = D.Kind.call; wire = wire_of D.Kind.user D.Kind.least D.Kind.closes }) users head last (writes user.now least call) (D.known pass.old) (D.words desk.old) (reply_text (verdict_shown verdict) last) (D.known pass.new) (D.words desk.new)) }
-    ensures starved { OnErr result (GoesOn (D.known pass.old) (D.known pass.new) [] × ToldOrOneMore (D.words desk.old) [] (D.words desk.new)) }
+    ensures refusal { IfOk result (λ verdict. IfRefuses verdict (Stays (D.known pass.old) (D.known pass.new) (D.words desk.old) (D.words desk.new))) }
+    ensures starved { OnErr result (Stays (D.known pass.old) (D.known pass.new) (D.words desk.old) (D.words desk.new)) }
 {
     let moment = desk.moment(leave);
     match desk.write(alloc, leave, pass, least, user, moment, call) {
@@ -68,7 +69,7 @@ where
     ensures callers { D.callers desk.new ≡ D.callers desk.old }
     ensures turned { IfOk result (λ verdict. (users : List User) (head : Head) (last : Bool)
         → Turned (record { next = D.Kind.next; answer = D.Kind.answer; number = D.Kind.number; call = D.Kind.call; wire = wire_of D.Kind.user D.Kind.least D.Kind.closes }) users head last (reads user.now least question.now) (D.known pass.old) (D.words desk.old) (reply_text (verdict_shown verdict) last) (D.known pass.new) (D.words desk.new)) }
-    ensures starved { OnErr result (GoesOn (D.known pass.old) (D.known pass.new) [] × (D.words desk.new ≡ D.words desk.old)) }
+    ensures stays { Stays (D.known pass.old) (D.known pass.new) (D.words desk.old) (D.words desk.new) }
 {
     let Ok(version) = desk.look(leave, pass) else {
         return Err(AllocError);
@@ -81,5 +82,19 @@ where
         Ok(shown) => Ok(Verdict::Shows(shown)),
         Err(Halt::Refused(cause)) => Ok(Verdict::Refuses(cause, number)),
         Err(Halt::Memory) => Err(AllocError),
+    }
+}
+
+/// What is shown of what the desk says. A reply is there already, and takes no memory.
+pub fn shown_of(alloc: Global, verdict: Verdict) -> Result<Shown, AllocError>
+    ensures shown { IfOk result (λ shown. shown ≡ verdict_shown verdict) }
+    ensures refusal { OnErr result (IsRefusal verdict) }
+{
+    match verdict {
+        Verdict::Shows(shown) => Ok(shown),
+        Verdict::Refuses(cause, number) => match cause_shown(alloc, &cause, Some(number)) {
+            Ok(shown) => Ok(shown),
+            Err(_) => Err(AllocError),
+        },
     }
 }
