@@ -1,5 +1,5 @@
 -- The turns that are made at a desk.
-use Rattle.std.proofs.Common.{inl, inr, pos, ◌≡◌, ℕ, ◌+◌, ◌≤◌, ◌<◌, nat_lt, Bool, List, [], ◌∷◌, ◌++◌, Option, Some, None, Result, Ok, Err, IfSome, length, refl, ap, sym, ◌∙◌, arith, length-append, subst, if◌then◌else◌}
+use Rattle.std.proofs.Common.{IfOk, inl, inr, pos, ◌≡◌, ℕ, ◌+◌, ◌≤◌, ◌<◌, nat_lt, Bool, List, [], ◌∷◌, ◌++◌, Option, Some, None, Result, Ok, Err, IfSome, length, refl, ap, sym, ◌∙◌, arith, length-append, subst, if◌then◌else◌}
 use Rattle.std.proofs.lemmas.List.{append-nil}
 use Rattle.std.proofs.lemmas.Bool.{lt-ltb, le-ltb}
 use mathlib.Core.List.{IsPrefix}
@@ -15,9 +15,10 @@ use Rattle.desk_model.specs.Clocks.{moment_of}
 use Rattle.desk_model.specs.Histories.{History, replay, shown_by, state_of}
 use Rattle.desk_model.specs.Desks.{Known, entry_of, with_entry, with_seen, Wrote, Looked}
 use Rattle.desk_model.proofs.Replays.{replay-more}
-use Rattle.http_grammar.specs.Request.{Head}
-use Rattle.talk.specs.Served.{Kind, Ask, faulty, writes, reads}
-use Rattle.talk.specs.Session.{Setting, number_at, Accepted, Refused, ahead, refused, Does, with_number, reading_text, listed}
+use Rattle.http_grammar.specs.Request.{Head, Request}
+use Rattle.talk.specs.declared.asked.Asked.TheVariants.{Write, Question}
+use Rattle.talk.specs.Served.{Kind, Ask, faulty, writes, reads, ask_of}
+use Rattle.talk.specs.Session.{plain_shown, Setting, number_at, Accepted, Refused, ahead, refused, Does, with_number, reading_text, listed}
 use Rattle.talk.specs.Told.{Gives, Told, ToldOrOneMore}
 use Rattle.talk.specs.declared.turn.Verdict.{Verdict}
 use Rattle.talk.specs.declared.turn.Verdict.TheVariants.{Shows, Refuses}
@@ -174,3 +175,61 @@ looked-stays k l g u w h e = stays-same k l u w (rw h.2 (saw-on k g.journal h.0)
 pub of-refusal : (verdict : Verdict) (fact : Type 0) → IsRefusal verdict → IfRefuses verdict fact → fact
 of-refusal (Shows shown) fact is holds = absurd is
 of-refusal (Refuses cause n) fact is holds = holds
+
+-- a fact of what came, from another
+pub if-ok-map : {T E : Type 0} (P Q : T → Type 0) (r : Result T E) → ((x : T) → P x → Q x) → IfOk r P → IfOk r Q
+if-ok-map P Q (Ok x) f p = f x p
+if-ok-map P Q (Err e) f p = tt
+
+-- what a request asks, by its parts
+pub asks-write : {S C Q : Type 0} (kind : Kind S C Q) (users : List User) (r : Request) (user : List ℕ) (least : ℕ) (call : C)
+    → kind.wire.caller_of r.head users ≡ Ok user → kind.call r ≡ Ok (Write call) → least ≡ kind.wire.least_of r.head → ask_of kind users r ≡ writes user least call
+asks-write kind users r user least call a b c = rw (a, b, c) refl
+
+pub asks-question : {S C Q : Type 0} (kind : Kind S C Q) (users : List User) (r : Request) (user : List ℕ) (least : ℕ) (question : Q)
+    → kind.wire.caller_of r.head users ≡ Ok user → kind.call r ≡ Ok (Question question) → least ≡ kind.wire.least_of r.head → ask_of kind users r ≡ reads user least question
+asks-question kind users r user least question a b c = rw (a, b, c) refl
+
+pub asks-badly : {S C Q : Type 0} (kind : Kind S C Q) (users : List User) (r : Request) (user : List ℕ) (cause : Cause)
+    → kind.wire.caller_of r.head users ≡ Ok user → kind.call r ≡ Err cause → ask_of kind users r ≡ faulty cause
+asks-badly kind users r user cause a b = rw (a, b) refl
+
+pub asks-wrongly : {S C Q : Type 0} (kind : Kind S C Q) (users : List User) (r : Request) (cause : Cause)
+    → kind.wire.caller_of r.head users ≡ Err cause → ask_of kind users r ≡ faulty cause
+asks-wrongly kind users r cause a = rw a refl
+
+-- the turn of a request that asks so
+pub turned-asking : {S C Q : Type 0} (kind : Kind S C Q) (users : List User) (head : Head) (last : Bool) (a b : Ask C Q) (k : Known S C) (u : Option Words) (text : List ℕ) (l : Known S C) (v : Option Words)
+    → b ≡ a → Turned kind users head last a k u text l v → Turned kind users head last b k u text l v
+turned-asking kind users head last a b k u text l v e t = subst (λ ask. Turned kind users head last ask k u text l v) (sym e) t
+
+-- a cause of credentials or of arguments
+pub faulty-turn : {S C Q : Type 0} (kind : Kind S C Q) (users : List User) (head : Head) (last : Bool) (cause : Cause) (k : Known S C) (u : Option Words)
+    → Turned kind users head last (faulty cause) k u (kind.wire.reply_text (plain_shown kind.wire head cause) last) k u
+faulty-turn kind users head last cause k u = record {
+  wrote = None;
+  moment = record { 0 = pos 0 };
+  does = (refl, refl);
+  on = same-on k k refl;
+  told = same-none u u refl;
+}
+
+pub stays-put : {S C : Type 0} (k : Known S C) (u : Option Words) → Stays k k u u
+stays-put k u = stays-same k k u u (same-on k k refl) refl
+
+-- a request whose arguments have a cause, and one whose credentials have
+pub badly-turn : {S C Q : Type 0} (kind : Kind S C Q) (users : List User) (r : Request) (head : Head) (shown : Shown) (last : Bool) (user : List ℕ) (cause : Cause) (k : Known S C) (u : Option Words)
+    → head ≡ r.head → kind.wire.caller_of head users ≡ Ok user → kind.call r ≡ Err cause → shown ≡ plain_shown kind.wire head cause
+    → Turned kind users r.head last (ask_of kind users r) k u (kind.wire.reply_text shown last) k u
+badly-turn kind users r head shown last user cause k u e caller call is =
+    let text : kind.wire.reply_text (plain_shown kind.wire r.head cause) last ≡ kind.wire.reply_text shown last = ap (λ a. kind.wire.reply_text a last) (sym (is ∙ ap (λ h. plain_shown kind.wire h cause) e)) in
+    turned-asking kind users r.head last (faulty cause) (ask_of kind users r) k u (kind.wire.reply_text shown last) k u (asks-badly kind users r user cause (ap (λ h. kind.wire.caller_of h users) (sym e) ∙ caller) call)
+    (subst (λ text. Turned kind users r.head last (faulty cause) k u text k u) text (faulty-turn kind users r.head last cause k u))
+
+pub wrongly-turn : {S C Q : Type 0} (kind : Kind S C Q) (users : List User) (r : Request) (head : Head) (shown : Shown) (last : Bool) (cause : Cause) (k : Known S C) (u : Option Words)
+    → head ≡ r.head → kind.wire.caller_of head users ≡ Err cause → shown ≡ plain_shown kind.wire head cause
+    → Turned kind users r.head last (ask_of kind users r) k u (kind.wire.reply_text shown last) k u
+wrongly-turn kind users r head shown last cause k u e caller is =
+    let text : kind.wire.reply_text (plain_shown kind.wire r.head cause) last ≡ kind.wire.reply_text shown last = ap (λ a. kind.wire.reply_text a last) (sym (is ∙ ap (λ h. plain_shown kind.wire h cause) e)) in
+    turned-asking kind users r.head last (faulty cause) (ask_of kind users r) k u (kind.wire.reply_text shown last) k u (asks-wrongly kind users r cause (ap (λ h. kind.wire.caller_of h users) (sym e) ∙ caller))
+    (subst (λ text. Turned kind users r.head last (faulty cause) k u text k u) text (faulty-turn kind users r.head last cause k u))
