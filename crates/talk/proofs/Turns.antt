@@ -1,5 +1,5 @@
 -- The turns that are made at a desk.
-use Rattle.std.proofs.Common.{IfOk, inl, inr, pos, ◌≡◌, ℕ, ◌+◌, ◌≤◌, ◌<◌, nat_lt, Bool, List, [], ◌∷◌, ◌++◌, Option, Some, None, Result, Ok, Err, IfSome, length, refl, ap, sym, ◌∙◌, arith, length-append, subst, if◌then◌else◌}
+use Rattle.std.proofs.Common.{IfOk, inl, inr, pos, ◌≡◌, ℕ, ◌≤◌, ◌<◌, Bool, List, [], ◌∷◌, ◌++◌, Option, Some, None, Result, Ok, Err, IfSome, length, refl, ap, sym, ◌∙◌, arith, length-append, subst}
 use Rattle.std.proofs.lemmas.List.{append-nil}
 use Rattle.std.proofs.lemmas.Bool.{lt-ltb, le-ltb}
 use mathlib.Core.List.{IsPrefix}
@@ -13,13 +13,13 @@ use Rattle.desk_model.specs.declared.entry.Entry.{Entry}
 use Rattle.desk_model.specs.declared.machine.Stop.TheVariants as stops
 use Rattle.desk_model.specs.Clocks.{moment_of}
 use Rattle.desk_model.specs.Histories.{History, replay, shown_by, state_of}
-use Rattle.desk_model.specs.Desks.{Known, entry_of, with_entry, with_seen, Wrote, Looked}
+use Rattle.desk_model.specs.Desks.{Known, entry_of, with_seen, Wrote, Looked}
 use Rattle.desk_model.proofs.Replays.{replay-more}
 use Rattle.http_grammar.specs.Request.{Head, Request}
 use Rattle.talk.specs.declared.asked.Asked.TheVariants.{Write, Question}
 use Rattle.talk.specs.Served.{Kind, Ask, faulty, writes, reads, ask_of}
-use Rattle.talk.specs.Session.{plain_shown, Setting, number_at, Accepted, Refused, ahead, refused, Does, with_number, reading_text, listed}
-use Rattle.talk.specs.Told.{Gives, Told, ToldOrOneMore}
+use Rattle.talk.specs.Session.{plain_shown, number_at, ahead, refused, with_number, reading_text}
+use Rattle.talk.specs.Told.{Told}
 use Rattle.talk.specs.declared.turn.Verdict.{Verdict}
 use Rattle.talk.specs.declared.turn.Verdict.TheVariants.{Shows, Refuses}
 use Rattle.talk.specs.Turned.{Turned, GoesOn, Stays, IsRefusal, IfRefuses, setting}

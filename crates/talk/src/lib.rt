@@ -1,5 +1,5 @@
 //! One session of a connection: the relation between the bytes that come in, the history, and the bytes that go out,
-//! with its laws. It is generic in the machine and in the words of the wire.
+//! with its laws; and the reply to one request, over any desk. It is generic in the machine.
 #![tactic(auto)]
 
 mod asked;

@@ -79,7 +79,7 @@ where
         return Ok(Verdict::Refuses(Cause::StepAhead(least, number), number));
     }
     match version.answer(alloc, user, question) {
-        Ok(shown) => Ok(Verdict::Shows(shown)),
+        Ok(answered) => Ok(Verdict::Shows(answered)),
         Err(Halt::Refused(cause)) => Ok(Verdict::Refuses(cause, number)),
         Err(Halt::Memory) => Err(AllocError),
     }

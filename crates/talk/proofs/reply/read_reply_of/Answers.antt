@@ -1,4 +1,3 @@
-use Rattle.std.proofs.Common.{◌≡◌}
 use Rattle.talk.proofs.reply.read_reply_of.Goals as goal
 
 pub returns-in-Ok-shown_of-clause-turned : goal.returns-in-Ok-shown_of-clause-turned

@@ -1,4 +1,3 @@
-use Rattle.std.proofs.Common.{◌≡◌}
 use Rattle.talk.specs.Served.{Kind, wire_of}
 use Rattle.talk.proofs.Turns.{if-ok-map, badly-turn, wrongly-turn}
 use Rattle.talk.proofs.reply.reply_to.Goals as goal

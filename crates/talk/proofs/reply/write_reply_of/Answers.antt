@@ -1,4 +1,3 @@
-use Rattle.std.proofs.Common.{◌≡◌}
 use Rattle.talk.proofs.Turns.{of-refusal}
 use Rattle.talk.proofs.reply.write_reply_of.Goals as goal
 

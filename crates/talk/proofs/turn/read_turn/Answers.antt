@@ -1,5 +1,4 @@
-use Rattle.std.proofs.Common.{◌≡◌}
-use Rattle.talk.proofs.Turns.{late-turn, said-turn, denied-turn, looked-stays, stays-same, same-on}
+use Rattle.talk.proofs.Turns.{late-turn, said-turn, denied-turn, looked-stays}
 use Rattle.talk.proofs.turn.read_turn.Goals as goal
 
 pub returns-then-number-least-clause-turned : goal.returns-then-number-least-clause-turned

@@ -1,5 +1,4 @@
-use Rattle.std.proofs.Common.{◌≡◌, ◌∷◌, []}
-use Rattle.talk.specs.Served.{Kind, wire_of}
+use Rattle.talk.specs.Served.{wire_of}
 use Rattle.talk.proofs.Turns.{accepted-turn, refused-turn, ahead-turn, told-one, refused-on, ahead-on, same-on, stays-late}
 use Rattle.talk.proofs.turn.write_turn.Goals as goal
 
