@@ -16,9 +16,9 @@ flip : (a b : ℕ) → (b == a) ≡ (a == b)
 flip a b = grind arith
 
 pub find-with : {K V : Type 0} (R : K → K → Ordering) → IsTotalOrder R → (b : List (ℕ × List (K × V))) (m : ℕ) (key : K) (v : V) (n : ℕ) (k : K)
-  → find_in R (put nat_cmp m (put R key v (bucket_of b m)) b) n k ≡ (if n == m && eq_by_cmp R k key then Some v else find_in R b n k)
+    → find_in R (put nat_cmp m (put R key v (bucket_of b m)) b) n k ≡ (if n == m && eq_by_cmp R k key then Some v else find_in R b n k)
 find-with R total b m key v n k =
-  ap (option_and_then (find R k)) (find-put nat_cmp nat_cmp_total n m (put R key v (bucket_of b m)) b ∙ ap (λ c. cond c (Some (put R key v (bucket_of b m))) (find nat_cmp n b)) (ties n m ∙ flip n m))
-  ∙ by_test (n == m)
+    ap (option_and_then (find R k)) (find-put nat_cmp nat_cmp_total n m (put R key v (bucket_of b m)) b ∙ ap (λ c. cond c (Some (put R key v (bucket_of b m))) (find nat_cmp n b)) (ties n m ∙ flip n m))
+    ∙ by_test (n == m)
     (λ e. rw e (find-put R total k key v (bucket_of b m) ∙ ap (λ o. cond (eq_by_cmp R k key) (Some v) o) (find-bucket R (find nat_cmp m b) k ∙ ap (λ j. find_in R b j k) (sym (eqb-true n m e)))))
     (λ e. rw e refl)

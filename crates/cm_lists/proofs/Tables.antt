@@ -16,8 +16,8 @@ by_test {G} b f g = elim b as (λ c. b ≡ c → G) [ true ↦ f | false ↦ g ]
 
 pub ties : (a b : ℕ) → is_eq (nat_cmp a b) ≡ (b == a)
 ties a b = by_test (b == a)
-  (λ e. let k : a ≡ b = sym (eqb-true b a e) in rw (e, ← nat_cmp_is a b Equal k) refl)
-  (λ e. grind (arith, e))
+    (λ e. let k : a ≡ b = sym (eqb-true b a e) in rw (e, ← nat_cmp_is a b Equal k) refl)
+    (λ e. grind (arith, e))
 
 pub map-keyed : {V : Type 0} (number : V → ℕ) (xs : List V) → map (λ e. e.1) (keyed number xs) ≡ xs
 map-keyed number [] = refl
@@ -32,16 +32,16 @@ find-keyed number n (x ∷ xs) = rw (ties n (number x), find-keyed number n xs) 
 pub put-last : {V : Type 0} (number : V → ℕ) (m : V) (xs : List V) → All (λ x. (number x) < (number m)) xs → entries.put nat_cmp (number m) m (keyed number xs) ≡ keyed number (xs ++ m ∷ [])
 put-last number m [] all = refl
 put-last number m (x ∷ xs) all =
-  let past : (number x) < (number m) = All-head (λ x. (number x) < (number m)) x xs all in
-  rw (← nat_cmp_is (number m) (number x) Greater past)
+    let past : (number x) < (number m) = All-head (λ x. (number x) < (number m)) x xs all in
+    rw (← nat_cmp_is (number m) (number x) Greater past)
     (ap (λ es. (number x, x) ∷ es) (put-last number m xs (All-tail (λ x. (number x) < (number m)) x xs all)))
 
 -- a map with a member behind all others
 pub with-last : {V : Type 0} (number : V → ℕ) (es fs : List (ℕ × V)) (k : ℕ) (m : V) → es ≡ keyed number (map (λ e. e.1) es) → k ≡ number m → All (λ x. (number x) < (number m)) (map (λ e. e.1) es)
-  → fs ≡ entries.put nat_cmp k m es → fs ≡ keyed number (map (λ e. e.1) es ++ m ∷ [])
+    → fs ≡ entries.put nat_cmp k m es → fs ≡ keyed number (map (λ e. e.1) es ++ m ∷ [])
 with-last number es fs k m is at all put_so =
-  let xs = map (λ (e : ℕ × _). e.1) es in
-  put_so ∙ (ap (λ k. entries.put nat_cmp k m es) at ∙ (ap (entries.put nat_cmp (number m) m) is ∙ put-last number m xs all))
+    let xs = map (λ (e : ℕ × _). e.1) es in
+    put_so ∙ (ap (λ k. entries.put nat_cmp k m es) at ∙ (ap (entries.put nat_cmp (number m) m) is ∙ put-last number m xs all))
 
 -- ---- a member in the place of another
 
@@ -61,26 +61,26 @@ past_all : {V : Type 0} (number : V → ℕ) (x : V) (n : ℕ) (xs : List V) →
 past_all number x n xs l all = All-weaker (λ y. (number x) < (number y)) (λ y. ((number y) == n) ≡ false) (λ y h. above (number x) (number y) n l h) xs all
 
 pub put-in : {V : Type 0} (number : V → ℕ) (m : V) (xs : List V) → Rises number xs → is_some (find (λ x. (number x) == (number m)) xs) ≡ true
-  → entries.put nat_cmp (number m) m (keyed number xs) ≡ keyed number (map (λ x. if (number x) == (number m) then m else x) xs)
+    → entries.put nat_cmp (number m) m (keyed number xs) ≡ keyed number (map (λ x. if (number x) == (number m) then m else x) xs)
 put-in number m [] rises there = absurd (both_ways false refl there)
 put-in number m (x ∷ xs) rises there = by_test ((number x) == (number m))
-  (λ e. let k : (number m) ≡ (number x) = sym (eqb-true (number x) (number m) e) in
+    (λ e. let k : (number m) ≡ (number x) = sym (eqb-true (number x) (number m) e) in
     let beside = map-beside (λ y. (number y) == (number m)) m xs (past_all number x (number m) xs (omega (arith, k)) rises.0) in
     rw (e, ← nat_cmp_is (number m) (number x) Equal k) (ap (λ n. (n, m) ∷ keyed number xs) (sym k) ∙ ap (λ ys. (number m, m) ∷ keyed number ys) (sym beside)))
-  (λ e. by_test (nat_lt (number x) (number m))
+    (λ e. by_test (nat_lt (number x) (number m))
     (λ l. let past : (number x) < (number m) = ltb-true (number x) (number m) l in
-      rw (e, ← nat_cmp_is (number m) (number x) Greater past) (ap (λ es. (number x, x) ∷ es) (put-in number m xs rises.1 (rw e at there))))
+    rw (e, ← nat_cmp_is (number m) (number x) Greater past) (ap (λ es. (number x, x) ∷ es) (put-in number m xs rises.1 (rw e at there))))
     (λ l. let less : (number m) ≤ (number x) = ltb-false (number x) (number m) l in
-      absurd (both_ways (is_some (find (λ y. (number y) == (number m)) (x ∷ xs)))
-        (none_some (λ y. (number y) == (number m)) (x ∷ xs) (All-cons (λ y. ((number y) == (number m)) ≡ false) x xs e (past_all number x (number m) xs less rises.0))) there)))
+    absurd (both_ways (is_some (find (λ y. (number y) == (number m)) (x ∷ xs)))
+    (none_some (λ y. (number y) == (number m)) (x ∷ xs) (All-cons (λ y. ((number y) == (number m)) ≡ false) x xs e (past_all number x (number m) xs less rises.0))) there)))
 
 -- ---- a member taken out
 
 pub without-keyed : {V : Type 0} (number : V → ℕ) (n : ℕ) (xs : List V) → without_key nat_cmp n (keyed number xs) ≡ keyed number (filter (λ x. not ((number x) == n)) xs)
 without-keyed number n [] = refl
 without-keyed number n (x ∷ xs) = by_test ((number x) == n)
-  (λ e. rw (ties n (number x), e) (without-keyed number n xs))
-  (λ e. rw (ties n (number x), e) (ap (λ es. (number x, x) ∷ es) (without-keyed number n xs)))
+    (λ e. rw (ties n (number x), e) (without-keyed number n xs))
+    (λ e. rw (ties n (number x), e) (ap (λ es. (number x, x) ∷ es) (without-keyed number n xs)))
 
 -- ---- what a map is, once it is a list by its numbers
 

@@ -22,7 +22,8 @@ with_object r x aces policies = record r {
   objects = r.objects ++ x ∷ [];
   access = r.access ++ record { at = x.id; aces = aces } ∷ [];
   applied = r.applied ++ map (λ p. record { policy = p; object = x.id }) policies;
-  next = r.next + 1 }
+  next = r.next + 1;
+}
 
 -- a child more in a folder
 abbrev pub with_pair : Repository → Oid → Oid → Repository

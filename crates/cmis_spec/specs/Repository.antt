@@ -92,7 +92,8 @@ root_folder maker m step = record {
   changer = maker;
   changed = m;
   token = step;
-  series = None }
+  series = None;
+}
 
 -- the list of the root: the administrator may do anything, and anyone may read; the entries stand in byte order of the principals
 abbrev pub root_aces : List ℕ → List Ace
@@ -122,7 +123,8 @@ opening types users m step =
       log = [];
       next = 2;
       step = step;
-      cost = 0 }
+      cost = 0;
+    }
 
 -- ---- objects and their types
 

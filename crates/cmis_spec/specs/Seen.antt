@@ -89,7 +89,8 @@ seen_series r u s = record {
   name = s.name;
   versions = s.versions;
   owner = option_map (λ w. w.owner) s.working;
-  copy = option_and_then (λ w. if is_read r u w.copy then Some w.copy else None) s.working }
+  copy = option_and_then (λ w. if is_read r u w.copy then Some w.copy else None) s.working;
+}
 
 abbrev pub seen_object : Repository → List ℕ → Object → SeenObject
 seen_object r u x = record {
@@ -99,7 +100,8 @@ seen_object r u x = record {
   renditions = filter (λ d. same d.of x.id) r.renditions;
   folders = map (λ f. f.id) (parents_of r u (entry_of x));
   policies = map (λ p. p.id) (policies_of r u x.id);
-  series = option_map (seen_series r u) (series_of r x) }
+  series = option_map (seen_series r u) (series_of r x);
+}
 
 -- the visible events with their numbers, the first of the list having number n
 abbrev pub seen_events : Repository → List ℕ → ℕ → List Change → List SeenEvent
@@ -115,7 +117,8 @@ seen r u = record {
   administrator = is_administrator r.users u;
   groups = groups_of r u;
   objects = map (seen_object r u) (filter (reads r u) r.objects);
-  log = seen_events r u 1 r.log }
+  log = seen_events r u 1 r.log;
+}
 
 -- ---- two repositories that look the same
 

@@ -32,7 +32,8 @@ abbrev pub children_reply : Repository → List ℕ → ReadChildren → List Ob
 children_reply r u q children = replies.Children (record {
   objects = map (shown_object r u q.filter q.succinct) (page q.skip_count q.max_items children);
   has_more_items = has_more q.skip_count q.max_items children;
-  num_items = length children })
+  num_items = length children;
+})
 
 -- all that the caller reads is counted before the cut
 abbrev pub answer_children : Repository → List ℕ → ReadChildren → Judged Reply

@@ -106,6 +106,7 @@ level_permits p levels.None h = absurd (never (bytes_eq p (codes "cmis:read")) (
     is_none_level : Option Level → Bool
     is_none_level (Some levels.None) = true
     is_none_level _ = false
+
     never : (a b c : Bool) → (if a then Some levels.Read else if b then Some levels.Write else if c then Some levels.All else None) ≡ Some levels.None → ⊥
     never true b c h = both_ways false refl (ap is_none_level h)
     never false true c h = both_ways false refl (ap is_none_level h)
@@ -115,9 +116,9 @@ level_permits p levels.None h = absurd (never (bytes_eq p (codes "cmis:read")) (
 levels_permit : (ps : List (List ℕ)) → All (λ l. 1 ≤ rank l) (filter_map level_named ps)
 levels_permit [] = All-nil (λ l. 1 ≤ rank l)
 levels_permit (p ∷ ps) = elim (level_named p) as (λ o. level_named p ≡ o → All (λ l. 1 ≤ rank l) (cons_option o (filter_map level_named ps))) [
-    | None ↦ λ e. levels_permit ps
-    | Some l ↦ λ e. All-cons (λ l. 1 ≤ rank l) l (filter_map level_named ps) (level_permits p l e) (levels_permit ps)
-  ] refl
+  | None ↦ λ e. levels_permit ps
+  | Some l ↦ λ e. All-cons (λ l. 1 ≤ rank l) l (filter_map level_named ps) (level_permits p l e) (levels_permit ps)
+] refl
 
 asked_permit : (asked : List AceRequest) → All Permits (aces_in asked)
 asked_permit [] = All-nil Permits
@@ -135,8 +136,8 @@ new_permit : (u : List ℕ) (remove add : List AceRequest) → All Permits (new_
 new_permit u remove add =
     let own : Ace = record { principal = u; level = levels.All } in
     added_permit (without_aces (aces_in remove) (own ∷ [])) (aces_in add)
-      (All-filter (λ a. not (list_any (same_ace a) (aces_in remove))) Permits (own ∷ []) (All-cons Permits own [] (omega arith) (All-nil Permits)))
-      (asked_permit add)
+    (All-filter (λ a. not (list_any (same_ace a) (aces_in remove))) Permits (own ∷ []) (All-cons Permits own [] (omega arith) (All-nil Permits)))
+    (asked_permit add)
 
 -- ---- the policies are policies
 
@@ -155,11 +156,11 @@ IsGood r u id = (x : Object) → read_named r u id ≡ Some x → IsBaseAt r bas
 good_all : (r : Repository) (u : List ℕ) (ids : List (List ℕ)) → has_other_policy r u ids ≡ false → All (IsGood r u) ids
 good_all r u [] h = All-nil (IsGood r u)
 good_all r u (id ∷ ids) h = elim (read_named r u id) as (λ o. read_named r u id ≡ o → list_any (λ x. not (is_a r bases.Policy x)) (cons_option o (read_all r u ids)) ≡ false → All (IsGood r u) (id ∷ ids)) [
-    | None ↦ λ e k. All-cons (IsGood r u) id ids (λ x f. absurd (none_some x (sym e ∙ f))) (good_all r u ids k)
-    | Some y ↦ λ e k. All-cons (IsGood r u) id ids
-        (λ x f. policy_at r u id x f (or_left (not (is_a r bases.Policy x)) (list_any (λ x. not (is_a r bases.Policy x)) (read_all r u ids)) (subst (λ z. not (is_a r bases.Policy z) || list_any (λ x. not (is_a r bases.Policy x)) (read_all r u ids) ≡ false) (same_found y x (sym e ∙ f)) k)))
-        (good_all r u ids (or_right (not (is_a r bases.Policy y)) (list_any (λ x. not (is_a r bases.Policy x)) (read_all r u ids)) k))
-  ] refl h
+  | None ↦ λ e k. All-cons (IsGood r u) id ids (λ x f. absurd (none_some x (sym e ∙ f))) (good_all r u ids k)
+  | Some y ↦ λ e k. All-cons (IsGood r u) id ids
+      (λ x f. policy_at r u id x f (or_left (not (is_a r bases.Policy x)) (list_any (λ x. not (is_a r bases.Policy x)) (read_all r u ids)) (subst (λ z. not (is_a r bases.Policy z) || list_any (λ x. not (is_a r bases.Policy x)) (read_all r u ids) ≡ false) (same_found y x (sym e ∙ f)) k)))
+      (good_all r u ids (or_right (not (is_a r bases.Policy y)) (list_any (λ x. not (is_a r bases.Policy x)) (read_all r u ids)) k))
+] refl h
   where
     same_found : (y x : Object) → Some y ≡ Some x → y ≡ x
     same_found y x h = ap (λ o. elim o [ None ↦ y | Some z ↦ z ]) h
@@ -167,9 +168,9 @@ good_all r u (id ∷ ids) h = elim (read_named r u id) as (λ o. read_named r u 
 named_all : (r : Repository) (u : List ℕ) (ids : List (List ℕ)) → All (IsGood r u) ids → All (IsBaseAt r bases.Policy) (map (λ (x : Object). x.id) (read_all r u ids))
 named_all r u [] all = All-nil (IsBaseAt r bases.Policy)
 named_all r u (id ∷ ids) all = elim (read_named r u id) as (λ o. read_named r u id ≡ o → All (IsBaseAt r bases.Policy) (map (λ (x : Object). x.id) (cons_option o (read_all r u ids)))) [
-    | None ↦ λ e. named_all r u ids (All-tail (IsGood r u) id ids all)
-    | Some x ↦ λ e. All-cons (IsBaseAt r bases.Policy) x.id (map (λ (x : Object). x.id) (read_all r u ids)) (All-head (IsGood r u) id ids all x e) (named_all r u ids (All-tail (IsGood r u) id ids all))
-  ] refl
+  | None ↦ λ e. named_all r u ids (All-tail (IsGood r u) id ids all)
+  | Some x ↦ λ e. All-cons (IsBaseAt r bases.Policy) x.id (map (λ (x : Object). x.id) (read_all r u ids)) (All-head (IsGood r u) id ids all x e) (named_all r u ids (All-tail (IsGood r u) id ids all))
+] refl
 
 -- ---- all
 
@@ -182,19 +183,19 @@ keeps_create_folder r u m cost call w h ordered =
     let there : object_at r p.parent.id ≡ Some p.parent = addressed_there r u call.place p.parent w.numbers p.at in
     let policies_ok = distinct_all (IsGood r u) call.policies (good_all r u call.policies (or_right (not (is_a r bases.Folder p.parent)) (has_other_policy r u call.policies) p.kinds)) in
     subst (λ f. IsWellFormed (after_create_folder_in r u m cost call f)) (sym (ap (λ o. unwrap_or (option_map (λ f. f.id) o) root) p.at))
-      (folder_keeps r cost m p.parent.id x (new_aces u call.remove call.add) (policies_in r u call.policies) w (record {
-        number = refl;
-        alone = refl;
-        name = name_in call.properties;
-        named = refl;
-        base = rw p.kind (not_false (same_base bases.Folder p.def.base) (or_left (not (same_base bases.Folder p.def.base)) (has_other_secondary r.types (secondary_in call.properties)) p.base));
-        typed = (ap is_some p.kind, typed_of r.types (secondary_in call.properties) p.known);
-        kept = kept_new r (type_id_in call.properties) (secondary_in call.properties) call.properties x w.defs p.properties refl;
-        token = omega arith;
-        listed = (ordered, new_permit u call.remove call.add);
-        applied = named_all r u (distinct call.policies) policies_ok;
-        below = (p.parent, there, not_false (is_a r bases.Folder p.parent) (or_left (not (is_a r bases.Folder p.parent)) (has_other_policy r u call.policies) p.kinds));
-        depth = p.depth;
-        free = p.free;
-        room = record { steps = omega (arith, ltb-false most_steps (r.step + 1) p.steps); bytes = omega (arith, ltb-false most_cost (r.cost + cost) p.bytes) };
-      }))
+    (folder_keeps r cost m p.parent.id x (new_aces u call.remove call.add) (policies_in r u call.policies) w (record {
+      number = refl;
+      alone = refl;
+      name = name_in call.properties;
+      named = refl;
+      base = rw p.kind (not_false (same_base bases.Folder p.def.base) (or_left (not (same_base bases.Folder p.def.base)) (has_other_secondary r.types (secondary_in call.properties)) p.base));
+      typed = (ap is_some p.kind, typed_of r.types (secondary_in call.properties) p.known);
+      kept = kept_new r (type_id_in call.properties) (secondary_in call.properties) call.properties x w.defs p.properties refl;
+      token = omega arith;
+      listed = (ordered, new_permit u call.remove call.add);
+      applied = named_all r u (distinct call.policies) policies_ok;
+      below = (p.parent, there, not_false (is_a r bases.Folder p.parent) (or_left (not (is_a r bases.Folder p.parent)) (has_other_policy r u call.policies) p.kinds));
+      depth = p.depth;
+      free = p.free;
+      room = record { steps = omega (arith, ltb-false most_steps (r.step + 1) p.steps); bytes = omega (arith, ltb-false most_cost (r.cost + cost) p.bytes) };
+    }))

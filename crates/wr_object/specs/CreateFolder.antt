@@ -81,14 +81,15 @@ new_folder r u m call = record {
   changer = u;
   changed = m;
   token = r.step + 1;
-  series = None }
+  series = None;
+}
 
 -- the folder in its parent, one step further, with its event
 abbrev pub after_create_folder_in : Repository → List ℕ → Moment → ℕ → CreateFolder → Oid → Repository
 after_create_folder_in r u m cost call parent =
     noted (stepped (with_pair
-        (with_object r (new_folder r u m call) (new_aces u call.remove call.add) (policies_in r u call.policies))
-        parent (new_number r)) cost) changes.Created (new_number r) m []
+    (with_object r (new_folder r u m call) (new_aces u call.remove call.add) (policies_in r u call.policies))
+    parent (new_number r)) cost) changes.Created (new_number r) m []
 
 abbrev pub after_create_folder : Repository → List ℕ → Moment → ℕ → CreateFolder → Repository
 after_create_folder r u m cost call =
@@ -100,4 +101,5 @@ after_create_folder r u m cost call =
 abbrev pub acknowledgement_create_folder : Repository → List ℕ → Moment → ℕ → CreateFolder → Reply
 acknowledgement_create_folder r u m cost call = replies.Object (record {
   object = shown_object (after_create_folder r u m cost call) u filters.All call.succinct (new_folder r u m call);
-  created = true })
+  created = true;
+})

@@ -8,14 +8,14 @@ use Rattle.cm_lists.proofs.table.Table.with_member.Goals as goal
 pub invariant_of-result : goal.invariant_of-result
 invariant_of-result g c =
     stays_keyed g.V.Numbered.number _ _ (c.in_ok-entries.ensures ∙ (ap (λ k. entries.put nat_cmp k c.args.member c.self.inside.entries) c.number-number.ensures
-      ∙ (ap (entries.put nat_cmp (g.V.Numbered.number c.args.member) c.args.member) c.self.invariant
-      ∙ put-in g.V.Numbered.number c.args.member _ (subst (Rises g.V.Numbered.number) (sym c.self.view_is) c.requires.rising)
-        (subst (λ xs. is_some (find (λ x. (g.V.Numbered.number x) == (g.V.Numbered.number c.args.member)) xs) ≡ true) (sym c.self.view_is) c.requires.there))))
+    ∙ (ap (entries.put nat_cmp (g.V.Numbered.number c.args.member) c.args.member) c.self.invariant
+    ∙ put-in g.V.Numbered.number c.args.member _ (subst (Rises g.V.Numbered.number) (sym c.self.view_is) c.requires.rising)
+    (subst (λ xs. is_some (find (λ x. (g.V.Numbered.number x) == (g.V.Numbered.number c.args.member)) xs) ≡ true) (sym c.self.view_is) c.requires.there))))
 
 pub returns : goal.returns
 returns g c =
     list_of g.V.Numbered.number _ _ (c.in_ok-entries.ensures ∙ (ap (λ k. entries.put nat_cmp k c.args.member c.self.inside.entries) c.number-number.ensures
-      ∙ (ap (entries.put nat_cmp (g.V.Numbered.number c.args.member) c.args.member) c.self.invariant
-      ∙ put-in g.V.Numbered.number c.args.member _ (subst (Rises g.V.Numbered.number) (sym c.self.view_is) c.requires.rising)
-        (subst (λ xs. is_some (find (λ x. (g.V.Numbered.number x) == (g.V.Numbered.number c.args.member)) xs) ≡ true) (sym c.self.view_is) c.requires.there))))
+    ∙ (ap (entries.put nat_cmp (g.V.Numbered.number c.args.member) c.args.member) c.self.invariant
+    ∙ put-in g.V.Numbered.number c.args.member _ (subst (Rises g.V.Numbered.number) (sym c.self.view_is) c.requires.rising)
+    (subst (λ xs. is_some (find (λ x. (g.V.Numbered.number x) == (g.V.Numbered.number c.args.member)) xs) ≡ true) (sym c.self.view_is) c.requires.there))))
     ∙ ap (map (λ x. if (g.V.Numbered.number x) == (g.V.Numbered.number c.args.member) then c.args.member else x)) c.self.view_is
