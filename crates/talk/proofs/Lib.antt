@@ -5,3 +5,4 @@ pub mod Alones
 pub mod FromSession
 pub mod OneAlone
 pub mod SmallRuns
+pub mod Turns
