@@ -111,10 +111,14 @@ mod tests {
     use super::*;
     use std::test::Fail;
 
-    fn added(alloc: Global, index: &Index, series: u64, number: u64) -> Result<Index, AllocError> {
-        let key = IndexKey::Series(Oid(series));
-        let more = index.with_pair(alloc, key, Oid(number))?;
-        Ok(more)
+    const ROWS: [(u64, u64); 5] = [(1, 9), (1, 2), (1, 2), (3, 4), (1, 300)];
+
+    fn filled(alloc: Global) -> Result<Index, AllocError> {
+        let mut index = Index::empty(alloc);
+        for (series, number) in ROWS {
+            index = index.with_pair(alloc, IndexKey::Series(Oid(series)), Oid(number))?;
+        }
+        Ok(index)
     }
 
     fn count_of(alloc: Global, index: &Index, series: u64) -> Result<usize, AllocError> {
@@ -123,17 +127,19 @@ mod tests {
         Ok(ids.len())
     }
 
+    fn count_without(alloc: Global, index: &Index) -> Result<usize, AllocError> {
+        let less = index.without_pair(alloc, IndexKey::Series(Oid(1)), Oid(9))?;
+        count_of(alloc, &less, 1)
+    }
+
     #[test]
     fn keeps_pairs_by_key(rt: HostRuntime) -> Result<(), Fail> {
         let alloc = rt.alloc();
-        let one = added(alloc, &Index::empty(alloc), 1, 9)?;
-        let two = added(alloc, &one, 1, 2)?;
-        let again = added(alloc, &two, 1, 2)?;
-        let other = added(alloc, &again, 3, 4)?;
-        let less = other.without_pair(alloc, IndexKey::Series(Oid(1)), Oid(9))?;
-        assert_eq!(rt; count_of(alloc, &other, 1)?, 2);
-        assert_eq!(rt; count_of(alloc, &less.share(alloc)?, 1)?, 1);
-        assert_eq!(rt; count_of(alloc, &one, 3)?, 0);
+        let index = filled(alloc)?.share(alloc)?;
+        let count = count_of(alloc, &index, 1)?;
+        assert_eq!(rt; count, 3);
+        let fewer = count_without(alloc, &index)?;
+        assert_eq!(rt; fewer, 2);
         Ok(())
     }
 }
