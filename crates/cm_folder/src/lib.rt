@@ -4,3 +4,5 @@
 ghost use Rattle.std.specs.Prelude.{◌≡◌};
 
 pub mod entry;
+pub mod filing;
+pub mod places;
