@@ -1,5 +1,5 @@
 -- Indexes by place: look-ups, and an entry more.
-use Rattle.std.proofs.Common.{◌≡◌, ℕ, ◌+◌, ◌<◌, ◌==◌, ◌&&◌, ◌||◌, Bool, true, false, not, cond, List, [], ◌∷◌, ◌++◌, map, filter, Option, Some, None, unwrap_or, sym, ap, refl, ◌∙◌, subst, arith, Ordering, Less, Equal, Greater, is_eq, bytes_eq}
+use Rattle.std.proofs.Common.{◌≡◌, ℕ, zero, suc, ◌-◌, option_map, ◌+◌, ◌<◌, ◌==◌, ◌&&◌, ◌||◌, Bool, true, false, not, cond, List, [], ◌∷◌, ◌++◌, map, filter, Option, Some, None, unwrap_or, sym, ap, refl, ◌∙◌, subst, arith, Ordering, Less, Equal, Greater, is_eq, bytes_eq}
 use Rattle.std.specs.List.{list_any}
 use Rattle.core.specs.List.{AllByRecursion}
 use Rattle.core.specs.Ordering.{nat_cmp, eq_by_cmp, ordering_then, ordering_reverse}
@@ -11,10 +11,11 @@ use Rattle.std.proofs.lemmas.List.Elements.{filter-append}
 use Rattle.std.proofs.lemmas.Map.Text.{is_eq-slice_cmp}
 use mathlib.Core.List.{map-append}
 use Rattle.cm_base.specs.declared.number.Oid.{Oid}
-use Rattle.cmis_spec.specs.Repository.{same}
+use Rattle.std.specs.List.{find as find_by}
+use Rattle.cmis_spec.specs.Repository.{same, levels_up}
 use Rattle.cm_folder.specs.declared.entry.FilingEntry.{FilingEntry}
-use Rattle.cm_folder.specs.Filings.{is_entry, is_filed_in, is_name_taken}
-use Rattle.cm_folder.specs.Places.{bucket_by, placed, name_order, IsFiling}
+use Rattle.cm_folder.specs.Filings.{is_entry, is_filed_in, is_name_taken, folder_of, folders_up_in, is_above_in}
+use Rattle.cm_folder.specs.Places.{bucket_by, first_value, placed, name_order, IsFiling}
 
 equal_of : (r : Ordering) → is_eq r ≡ true → r ≡ Equal
 equal_of Less e = absurd (cc e)
@@ -132,3 +133,31 @@ filing_with es n children names e more others h c k = record {
     last : (es : List (ℕ × FilingEntry)) → AllByRecursion (λ d. d.0 < n) es → AllByRecursion (λ d. d.0 < n + 1) (es ++ (n, e) ∷ [])
     last [] h = (omega arith, tt)
     last (d ∷ es) h = (let lt : d.0 < n = h.0 in omega (arith, lt), last es h.1)
+
+-- the folder of the child's first entry
+pub folder_same : (c : Oid) (es : List (ℕ × FilingEntry)) → first_value (placed nat_cmp (λ (e : FilingEntry). e.child.0) (λ e. e.folder) c.0 es) ≡ folder_of (map (λ e. e.1) es) c
+folder_same c [] = refl
+folder_same c (e ∷ es) =
+    let rest = filter (λ (e : ℕ × FilingEntry). eq_by_cmp nat_cmp c.0 e.1.child.0) es in
+    let eq : eq_by_cmp nat_cmp c.0 e.1.child.0 ≡ same e.1.child c = unsigned_tied c.0 e.1.child.0 ∙ flip e.1.child.0 c.0 in
+    ap (λ b. first_value (map (λ (e : ℕ × FilingEntry). (e.0, e.1.folder)) (cond b (e ∷ rest) rest))) eq
+    ∙ elim (same e.1.child c) as (λ b. first_value (map (λ (e : ℕ × FilingEntry). (e.0, e.1.folder)) (cond b (e ∷ rest) rest)) ≡ option_map (λ (e : FilingEntry). e.folder) (cond b (Some e.1) (find_by (λ (e : FilingEntry). same e.child c) (map (λ e. e.1) es)))) [
+      | true ↦ refl
+      | false ↦ folder_same c es
+    ]
+
+-- the folder is one of the child's, or stands above one
+pub above_same : (list : List FilingEntry) (a c : Oid) (es : List (ℕ × FilingEntry)) → map (λ e. e.1) es ≡ list → list_any (λ e. list_any (same a) (folders_up_in levels_up list e.1)) (placed nat_cmp (λ (e : FilingEntry). e.child.0) (λ e. e.folder) c.0 es) ≡ is_above_in list a c
+above_same list a c es is =
+    any_placed nat_cmp (λ (e : FilingEntry). e.child.0) (λ e. e.folder) (λ x. list_any (same a) (folders_up_in levels_up list x)) c.0 es
+    ∙ any_by (λ (e : FilingEntry). eq_by_cmp nat_cmp c.0 e.child.0 && list_any (same a) (folders_up_in levels_up list e.folder)) (λ (e : FilingEntry). same e.child c && list_any (same a) (folders_up_in levels_up list e.folder)) (λ (e : FilingEntry). ap (λ b. b && list_any (same a) (folders_up_in levels_up list e.folder)) (unsigned_tied c.0 e.child.0 ∙ flip e.child.0 c.0)) (map (λ e. e.1) es)
+    ∙ ap (list_any (λ (e : FilingEntry). same e.child c && list_any (same a) (folders_up_in levels_up list e.folder))) is
+
+-- one folder further up
+pub up_none : (a : Oid) (n : ℕ) (list : List FilingEntry) (f : Oid) → n ≡ 0 → list_any (same a) (folders_up_in n list f) ≡ false
+up_none a zero list f e = refl
+up_none a (suc n) list f e = absurd (omega (arith, e))
+
+pub up_step : (a : Oid) (n : ℕ) (list : List FilingEntry) (f : Oid) → 0 < n → list_any (same a) (folders_up_in n list f) ≡ (same a f || list_any (same a) (unwrap_or (option_map (folders_up_in (n - 1) list) (folder_of list f)) []))
+up_step a zero list f lt = absurd (omega (arith, lt))
+up_step a (suc n) list f lt = let e : n ≡ suc n - 1 = omega arith in ap (λ m. same a f || list_any (same a) (unwrap_or (option_map (folders_up_in m list) (folder_of list f)) [])) e

@@ -1,5 +1,5 @@
 -- Entries by their places, and their indexes.
-use Rattle.std.specs.Prelude.{◌≡◌, ℕ, ◌<◌, List, [], map, filter, unwrap_or}
+use Rattle.std.specs.Prelude.{◌≡◌, ℕ, ◌<◌, List, [], ◌∷◌, Option, None, Some, map, filter, unwrap_or}
 use Rattle.core.specs.List.{AllByRecursion}
 use Rattle.core.specs.Ordering.{nat_cmp, eq_by_cmp, ordering_then}
 use Rattle.core.specs.Cmp.Lexicographic.{slice_cmp}
@@ -11,6 +11,10 @@ use Rattle.cm_folder.specs.declared.entry.FilingEntry.{FilingEntry}
 -- the map under a key; where there is none, the empty one
 abbrev pub bucket_by : {K X : Type 0} → (K → K → Ordering) → List (K × List (ℕ × X)) → K → List (ℕ × X)
 bucket_by R buckets q = unwrap_or (find R q buckets) []
+
+abbrev pub first_value : {X : Type 0} → List (ℕ × X) → Option X
+first_value [] = None
+first_value (e ∷ es) = Some e.1
 
 -- the values of the entries that have the key, by their places
 abbrev pub placed : {K E X : Type 0} → (K → K → Ordering) → (E → K) → (E → X) → K → List (ℕ × E) → List (ℕ × X)

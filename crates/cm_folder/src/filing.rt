@@ -3,8 +3,9 @@ ghost use Rattle.std.specs.Prelude.{◌≡◌, ◌+◌, ◌<◌, ◌||◌, ◌&&
 ghost use Rattle.std.specs.List.{list_any};
 ghost use Rattle.cm_base.specs.Judged.{Leaves};
 ghost use Rattle.cmis_spec.specs.Repository.{same};
-ghost use Rattle.cm_folder.specs.Places.{bucket_by, name_order};
-ghost use Rattle.cm_folder.specs.Filings.{is_filed_in, is_name_taken, folder_of, refusal_file, filed_with};
+ghost use Rattle.cm_folder.specs.Places.{bucket_by, name_order, first_value};
+ghost use Rattle.cmis_spec.specs.Repository.{levels_up};
+ghost use Rattle.cm_folder.specs.Filings.{is_filed_in, is_name_taken, is_above_in, folders_up_in, folder_of, refusal_file, filed_with};
 
 use crate::entry::FilingEntry;
 use crate::places::PlacesBy;
@@ -76,6 +77,25 @@ fn has_other_under(by_name: &PlacesBy<(u64, Text), Oid>, key: &(u64, Text), chil
     }
 }
 
+// The first of the folders.
+fn first_folder(folders: &Map<u64, Oid>) -> Option<Oid>
+    ensures { result ≡ first_value folders.now }
+{
+    let mut entries = folders.iter();
+    match entries.next() {
+        Some(entry) => Some(entry.1),
+        None => None,
+    }
+}
+
+// The most folders on a way up, the root counted.
+#[tactic(auto, unfolding(cmis_spec::specs::Repository::levels_up))]
+fn levels() -> u64
+    ensures { result ≡ levels_up }
+{
+    49
+}
+
 impl Filing {
     /// No entries, which take no memory.
     pub fn empty(alloc: Global) -> Filing
@@ -95,6 +115,56 @@ impl Filing {
     {
         match self.by_child.get(&child.0) {
             Some(folders) => has_folder(folders, folder),
+            None => false,
+        }
+    }
+
+    /// The folder of the child's first entry; none where it is filed nowhere. It takes no memory.
+    pub fn folder_of(&self, child: Oid) -> Option<Oid>
+        ensures { result ≡ folder_of self.now child }
+    {
+        match self.by_child.get(&child.0) {
+            Some(folders) => first_folder(folders),
+            None => None,
+        }
+    }
+
+    // Whether the folder is one of so many, from another one up.
+    fn stands_over(&self, levels: u64, folder: Oid, from: Oid) -> bool
+        ensures { result ≡ list_any (same folder) (folders_up_in levels self.now from) }
+    {
+        if levels == 0 {
+            return false;
+        }
+        if folder.0 == from.0 {
+            return true;
+        }
+        match self.folder_of(from) {
+            Some(up) => self.stands_over(levels - 1, folder, up),
+            None => false,
+        }
+    }
+
+    // Whether the folder is one of these, or stands above one.
+    fn over_one(&self, folder: Oid, folders: &Map<u64, Oid>) -> bool
+        ensures { result ≡ list_any (λ e. list_any (same folder) (folders_up_in levels_up self.now e.1)) folders.now }
+    {
+        let mut found = false;
+        for entry in folders.iter() {
+            let at: &(u64, Oid) = entry;
+            if self.stands_over(levels(), folder, at.1) {
+                found = true;
+            }
+        }
+        found
+    }
+
+    /// Whether the folder is one of the child's, or stands above one of these. It takes no memory.
+    pub fn is_above(&self, folder: Oid, child: Oid) -> bool
+        ensures { result ≡ is_above_in self.now folder child }
+    {
+        match self.by_child.get(&child.0) {
+            Some(folders) => self.over_one(folder, folders),
             None => false,
         }
     }
