@@ -1,5 +1,5 @@
 -- Indexes by place: look-ups, and an entry more.
-use Rattle.std.proofs.Common.{◌≡◌, ℕ, zero, suc, ◌-◌, option_map, ◌+◌, ◌<◌, ◌==◌, ◌&&◌, ◌||◌, Bool, true, false, not, cond, List, [], ◌∷◌, ◌++◌, map, filter, Option, Some, None, unwrap_or, sym, ap, refl, ◌∙◌, subst, arith, Ordering, Less, Equal, Greater, is_eq, bytes_eq}
+use Rattle.std.proofs.Common.{◌≡◌, ℕ, zero, suc, ◌-◌, option_map, ◌+◌, ◌<◌, ◌==◌, ◌&&◌, ◌||◌, Bool, true, false, not, cond, List, [], ◌∷◌, ◌++◌, map, filter, Some, unwrap_or, sym, ap, refl, ◌∙◌, subst, arith, Ordering, Less, Equal, Greater, is_eq, bytes_eq}
 use Rattle.std.specs.List.{list_any}
 use Rattle.core.specs.List.{AllByRecursion}
 use Rattle.core.specs.Ordering.{nat_cmp, eq_by_cmp, ordering_then, ordering_reverse}
@@ -115,8 +115,8 @@ pub taken_same : (f c : Oid) (name : List ℕ) (es : List (ℕ × FilingEntry)) 
 taken_same f c name es =
     any_placed name_order (λ (e : FilingEntry). (e.folder.0, e.name)) (λ e. e.child) (λ x. not (same x c)) (f.0, name) es
     ∙ any_by (λ (e : FilingEntry). eq_by_cmp name_order (f.0, name) (e.folder.0, e.name) && not (same e.child c)) (λ (e : FilingEntry). same e.folder f && not (same e.child c) && bytes_eq e.name name)
-      (λ (e : FilingEntry). ap (λ b. b && not (same e.child c)) (tied_then (nat_cmp f.0 e.folder.0) (slice_cmp nat_cmp name e.name) ∙ (λ i. (unsigned_tied f.0 e.folder.0 ∙ flip e.folder.0 f.0) i && text_flip name e.name i)) ∙ and_moved (same e.folder f) (bytes_eq e.name name) (not (same e.child c)))
-      (map (λ e. e.1) es)
+    (λ (e : FilingEntry). ap (λ b. b && not (same e.child c)) (tied_then (nat_cmp f.0 e.folder.0) (slice_cmp nat_cmp name e.name) ∙ (λ i. (unsigned_tied f.0 e.folder.0 ∙ flip e.folder.0 f.0) i && text_flip name e.name i)) ∙ and_moved (same e.folder f) (bytes_eq e.name name) (not (same e.child c)))
+    (map (λ e. e.1) es)
 
 -- an entry at the end keeps the indexes
 pub filing_with : (es : List (ℕ × FilingEntry)) (n : ℕ) (children : List (ℕ × List (ℕ × Oid))) (names : List ((ℕ × List ℕ) × List (ℕ × Oid))) (e : FilingEntry) (more : List (ℕ × List (ℕ × Oid))) (others : List ((ℕ × List ℕ) × List (ℕ × Oid)))

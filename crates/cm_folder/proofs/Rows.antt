@@ -1,11 +1,11 @@
 -- Rows: the root (1) with the folder a (2), in it the folder b (3), and in b the item c (4), which stands in the root too.
-use Rattle.std.proofs.Common.{◌≡◌, Bool, true, false, List, [], ◌∷◌, Ok, Err, refl}
+use Rattle.std.proofs.Common.{◌≡◌, true, false, List, [], ◌∷◌, Ok, Err, refl}
 use Rattle.std.specs.Prelude.{codes}
 use Rattle.cm_base.specs.declared.number.Oid.{Oid}
 use Rattle.cm_base.specs.declared.cause.Cause.TheVariants as causes
 use Rattle.cmis_spec.specs.Repository.{most_levels, levels_up}
 use Rattle.cm_folder.specs.declared.entry.FilingEntry.{FilingEntry}
-use Rattle.cm_folder.specs.Filings.{depth_in, is_above_in, path_in, refusal_file, refusal_unfile, refusal_shift, refusal_rename, unfiled, shifted, renamed}
+use Rattle.cm_folder.specs.Filings.{depth_in, is_above_in, path_in, refusal_file, refusal_unfile, refusal_shift, refusal_rename}
 
 abbrev n1 : Oid
 n1 = record { 0 = 1 }

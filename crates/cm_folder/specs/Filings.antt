@@ -1,5 +1,5 @@
 -- The filing of a repository as the list of its entries in the order in which they were made (CMIS 1.1, section 2.1.5).
-use Rattle.std.specs.Prelude.{◌≡◌, ℕ, zero, suc, ◌+◌, ◌-◌, ◌<◌, ◌≤◌, nat_lt, Bool, false, ◌&&◌, ◌||◌, not, if◌then◌else◌, ◌⊎◌, List, [], ◌∷◌, ◌++◌, map, filter, find, length, count_by, All, Option, Some, None, unwrap_or, option_map, bytes_eq}
+use Rattle.std.specs.Prelude.{◌≡◌, ℕ, zero, suc, ◌+◌, ◌-◌, ◌≤◌, nat_lt, Bool, ◌&&◌, ◌||◌, not, if◌then◌else◌, ◌⊎◌, List, [], ◌∷◌, ◌++◌, map, filter, find, length, count_by, Option, Some, unwrap_or, option_map, bytes_eq}
 use Rattle.std.specs.List.{list_any}
 use Rattle.cm_base.specs.declared.number.Oid.{Oid}
 use Rattle.cm_base.specs.declared.cause.Cause.TheVariants as causes

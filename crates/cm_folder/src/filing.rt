@@ -193,7 +193,9 @@ impl Filing {
             return Err(AllocError);
         }
         let name = entry.name.copied(alloc)?;
-        let by_child = self.by_child.with(alloc, entry.child.0, place, entry.folder)?;
+        let by_child = self
+            .by_child
+            .with(alloc, entry.child.0, place, entry.folder)?;
         let by_name = self
             .by_name
             .with(alloc, (entry.folder.0, name), place, entry.child)?;
@@ -233,5 +235,39 @@ impl Filing {
             by_child,
             by_name,
         })
+    }
+}
+
+#[cfg(test)]
+mod tests {
+    use super::*;
+    use std::test::Fail as TestFail;
+
+    fn item(alloc: Global, folder: u64, child: u64) -> Result<FilingEntry, AllocError> {
+        let name = Text::from_str(alloc, "a")?;
+        Ok(FilingEntry {
+            folder: Oid(folder),
+            child: Oid(child),
+            is_folder: false,
+            name,
+        })
+    }
+
+    fn looks_right(filing: &Filing) -> bool {
+        filing.is_filed(Oid(1), Oid(2))
+            && !filing.is_filed(Oid(2), Oid(1))
+            && filing.is_above(Oid(1), Oid(2))
+            && filing.folder_of(Oid(2)) == Some(Oid(1))
+    }
+
+    #[test]
+    fn files_a_child(rt: HostRuntime) -> Result<(), TestFail> {
+        let alloc = rt.alloc();
+        let entry = item(alloc, 1, 2)?;
+        match Filing::empty(alloc).file(alloc, entry) {
+            Ok(filing) => assert!(rt; looks_right(&filing)),
+            Err(_) => assert!(rt; false),
+        }
+        Ok(())
     }
 }
