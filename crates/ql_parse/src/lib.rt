@@ -1,0 +1,4 @@
+//! The parser of the query language.
+#![tactic(auto)]
+
+mod parts;
