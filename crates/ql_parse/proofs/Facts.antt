@@ -187,11 +187,11 @@ selection_sane = choice_sane selection_choice
 pub served_table_optional : Optional (mapped g.plain_name g.bare_table) g.alias g.with_alias
 served_table_optional = record { sane_a = (mapped_sane g.plain_name g.bare_table plain_name_sane); sane_b = alias_sane; apart = λ t h. refl }
 
-pub served_table_sane : Sane (perhaps (mapped g.plain_name g.bare_table) g.alias g.with_alias)
+pub served_table_sane : Sane g.served_table
 served_table_sane = optional_sane served_table_optional
 
-pub table_standing : Standing (perhaps (mapped g.plain_name g.bare_table) g.alias g.with_alias) g.left_out
-table_standing = record { sane = served_table_sane; apart = apart (by_kind (perhaps (mapped g.plain_name g.bare_table) g.alias g.with_alias).first) (by_kind g.left_out) refl (λ text h. plain_left text h) (λ text. refl) (λ text. refl) (λ text. refl) refl }
+pub table_standing : Standing g.served_table g.left_out
+table_standing = record { sane = served_table_sane; apart = apart (by_kind g.served_table.first) (by_kind g.left_out) refl (λ text h. plain_left text h) (λ text. refl) (λ text. refl) (λ text. refl) refl }
 
 pub table_sane : Sane g.table
 table_sane = standing_sane table_standing

@@ -275,8 +275,11 @@ abbrev pub with_alias : Table → List ℕ → Table
 with_alias table text = record { name = table.name; alias = Some text }
 
 -- name [[AS] name]
+abbrev pub served_table : Rule Token Table
+served_table = perhaps (mapped plain_name bare_table) alias with_alias
+
 abbrev pub table : Rule Token Table
-table = part (perhaps (mapped plain_name bare_table) alias with_alias)
+table = part served_table
 
 abbrev pub timed : Unit {0} → Timestamp → Literal
 timed _ time = literals.Time time
