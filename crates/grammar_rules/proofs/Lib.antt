@@ -4,3 +4,4 @@ pub mod Laws
 pub mod Wholes
 pub mod Tellings
 pub mod Carried
+pub mod Within
