@@ -4,4 +4,5 @@
 ghost use Rattle.std.specs.Prelude.{◌≡◌};
 
 pub mod kind;
+pub mod shape;
 pub mod word;
