@@ -89,22 +89,3 @@ impl<K: Key, V: Drop> Buckets<K, V> {
         Ok(Buckets { maps })
     }
 }
-
-#[cfg(test)]
-mod tests {
-    use super::*;
-    use std::test::Fail;
-
-    #[test]
-    fn each_number_has_its_own_map(rt: HostRuntime) -> Result<(), Fail> {
-        let alloc = rt.alloc();
-        let none: Buckets<u64, u64> = Buckets::empty(alloc);
-        let one = none.with(alloc, 1, 5, 50)?;
-        let two = one.with(alloc, 2, 5, 60)?.share(alloc)?;
-        assert_eq!(rt; two.get(1, &5), Some(&50));
-        assert_eq!(rt; two.get(2, &5), Some(&60));
-        assert_eq!(rt; one.get(2, &5), None);
-        assert!(rt; none.bucket(1).is_none() && two.bucket(2).is_some());
-        Ok(())
-    }
-}

@@ -72,22 +72,3 @@ impl<V: Drop> Sequence<V> {
         self.entries.iter()
     }
 }
-
-#[cfg(test)]
-mod tests {
-    use super::*;
-    use std::test::Fail;
-
-    #[test]
-    fn older_lists_stand(rt: HostRuntime) -> Result<(), Fail> {
-        let alloc = rt.alloc();
-        let none: Sequence<u64> = Sequence::empty(alloc);
-        let one = none.with_last(alloc, 7)?;
-        let two = one.with_last(alloc, 8)?.share(alloc)?;
-        assert_eq!(rt; none.len(), 0);
-        assert_eq!(rt; one.get(0), Some(&7));
-        assert_eq!(rt; one.get(1), None);
-        assert_eq!(rt; two.get(1), Some(&8));
-        Ok(())
-    }
-}

@@ -146,37 +146,3 @@ impl<V: Numbered> Table<V> {
         self.entries.iter()
     }
 }
-
-#[cfg(test)]
-mod tests {
-    use super::*;
-    use std::test::Fail;
-
-    #[derive(Drop)]
-    struct Ticket(u64);
-
-    impl Numbered for Ticket {
-        ghost number = { λ t. t.0 };
-
-        fn number(&self) -> u64 {
-            self.0
-        }
-    }
-
-    #[test]
-    fn older_lists_stand(rt: HostRuntime) -> Result<(), Fail> {
-        let alloc = rt.alloc();
-        let none: Table<Ticket> = Table::empty(alloc);
-        let one = none.with_last(alloc, Ticket(3))?;
-        let gone = one.without(alloc, 3)?;
-        let again = one.share(alloc)?;
-        assert!(rt; none.get(3).is_none() && gone.get(3).is_none());
-        assert!(rt; one.get(3).is_some() && again.get(3).is_some());
-        assert_eq!(rt; one.len(), 1);
-        let mut members = one.iter();
-        assert!(rt; members.next().is_some());
-        let other = one.with_member(alloc, Ticket(3))?;
-        assert_eq!(rt; other.len(), 1);
-        Ok(())
-    }
-}

@@ -70,32 +70,3 @@ impl Log {
         self.events.iter()
     }
 }
-
-#[cfg(test)]
-mod tests {
-    use super::*;
-    use cm_base::items::Items;
-    use cm_base::log::ChangeKind;
-    use cm_base::number::{Moment, Oid};
-    use std::test::Fail;
-
-    fn event(alloc: Global, number: u64) -> Change {
-        Change {
-            kind: ChangeKind::Created,
-            object: Oid(number),
-            moment: Moment(7),
-            readers: Items::new(alloc),
-        }
-    }
-
-    #[test]
-    fn older_logs_stand(rt: HostRuntime) -> Result<(), Fail> {
-        let alloc = rt.alloc();
-        let one = Log::empty(alloc).note(alloc, event(alloc, 2))?;
-        let two = one.note(alloc, event(alloc, 3))?.share(alloc)?;
-        assert_eq!(rt; (one.len(), two.len()), (1, 2));
-        assert!(rt; matches!(two.get(1), Some(e) if e.object.0 == 3));
-        assert!(rt; one.get(1).is_none() && two.iter().next().is_some());
-        Ok(())
-    }
-}

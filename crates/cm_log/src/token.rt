@@ -11,27 +11,3 @@ pub fn from_token(text: &Text) -> Option<u64>
 {
     read_u64(text.bytes())
 }
-
-#[cfg(test)]
-mod tests {
-    use super::*;
-    use std::test::Fail;
-
-    #[test]
-    fn reads_decimal_numbers(rt: HostRuntime) -> Result<(), Fail> {
-        let rows = [
-            ("0", Some(0)),
-            ("17", Some(17)),
-            ("18446744073709551615", Some(18446744073709551615)),
-            ("18446744073709551616", None),
-            ("007", None),
-            ("+1", None),
-            ("", None),
-        ];
-        for (text, want) in rows {
-            let token = Text::from_str(rt.alloc(), text)?;
-            assert_eq!(rt; from_token(&token), want);
-        }
-        Ok(())
-    }
-}

@@ -136,21 +136,3 @@ impl Filing {
         })
     }
 }
-
-#[cfg(test)]
-mod tests {
-    use super::*;
-    use std::test::Fail;
-
-    #[test]
-    fn a_child_stands_in_its_folder(rt: HostRuntime) -> Result<(), Fail> {
-        let alloc = rt.alloc();
-        let none = Filing::empty(alloc);
-        let one = none.with_pair(alloc, Oid(1), Oid(2))?.share(alloc)?;
-        assert!(rt; one.has(Oid(1), Oid(2)) && !one.has(Oid(2), Oid(1)));
-        assert_eq!(rt; one.parent(Oid(2)), Some(Oid(1)));
-        assert_eq!(rt; one.children(alloc, Oid(1))?.len(), 1);
-        assert_eq!(rt; none.parent(Oid(2)), None);
-        Ok(())
-    }
-}

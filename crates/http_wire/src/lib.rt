@@ -14,8 +14,6 @@ mod piece;
 mod pieces;
 mod reader;
 mod reading;
-#[cfg(test)]
-mod tests;
 mod window;
 
 pub use fault::WireStop;

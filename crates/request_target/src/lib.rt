@@ -7,5 +7,3 @@ pub mod form;
 pub mod path;
 pub mod step;
 pub mod target;
-#[cfg(test)]
-mod tests;

@@ -1,6 +1,0 @@
-pub mod Apart
-pub mod Facts
-pub mod Levels
-pub mod Exits
-pub mod Unescapes
-pub mod Moments

@@ -1,8 +1,0 @@
-//! Type definitions as JSON: texts of requests are read, definitions are shown (CMIS 1.1, section 5.2.9).
-#![tactic(auto)]
-
-ghost use Rattle.std.specs.Prelude.{◌≡◌};
-
-pub mod kind;
-pub mod shape;
-pub mod word;
