@@ -4,6 +4,5 @@
 ghost use Rattle.std.specs.Prelude.{◌≡◌};
 
 pub mod level;
-pub mod path;
 pub mod read;
 pub mod tree;
