@@ -16,14 +16,9 @@ use cm_base::number::{Oid, Oids};
 use cm_base::object::Object;
 use cm_base::series::Series;
 use cm_base::text::{Text, Texts};
+use cm_type_list::types::Types;
 use cm_types::definition::{BaseType, TypeDef};
 use std::alloc::{AllocError, Global};
-
-fn find_type<'a>(types: &'a [TypeDef], id: &Text) -> Option<&'a TypeDef>
-    ensures { option_copied result ≡ find (λ t. bytes_eq t.id id.now) types.now }
-{
-    types.iter().find(|t| t.id.is(id))
-}
 
 fn is_last(series: &Series, n: Oid) -> bool
     ensures { result ≡ is_latest series.now n }
@@ -70,11 +65,18 @@ impl State {
         self.objects.len()
     }
 
+    /// The definitions of the types.
+    pub fn types(&self) -> &Types
+        ensures { result.now ≡ self.now.types }
+    {
+        &self.still.types
+    }
+
     /// The definition of a type.
     pub fn type_named(&self, id: &Text) -> Option<&TypeDef>
         ensures { option_copied result ≡ type_in self.now.types id.now }
     {
-        find_type(self.still.types.as_slice(), id)
+        self.types().find(id)
     }
 
     /// The base type of x is this one.

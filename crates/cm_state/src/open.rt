@@ -15,7 +15,7 @@ use cm_base::user::{User, Users};
 use cm_lists::buckets::Buckets;
 use cm_lists::sequence::Sequence;
 use cm_lists::table::Table;
-use cm_types::definition::TypeDefs;
+use cm_type_list::types::Types;
 use std::alloc::{AllocError, Global};
 use std::sync::Arc;
 
@@ -94,7 +94,7 @@ impl State {
     /// The repository with the root alone, made by the first user at this moment, with this step number.
     pub fn opening(
         alloc: Global,
-        types: TypeDefs,
+        types: Types,
         users: &Users,
         moment: Moment,
         first_step: u64,

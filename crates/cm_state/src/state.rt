@@ -11,14 +11,14 @@ use cm_base::text::{Text, Texts};
 use cm_lists::buckets::Buckets;
 use cm_lists::sequence::Sequence;
 use cm_lists::table::Table;
-use cm_types::definition::TypeDefs;
+use cm_type_list::types::Types;
 use std::marker::Model;
 use std::sync::Arc;
 
 /// What no change of the folder tree touches.
 #[derive(Drop)]
 pub struct Still {
-    pub types: TypeDefs,
+    pub types: Types,
     pub users: Texts,
     /// The names of no groups: the empty list.
     pub no_groups: Texts,
