@@ -1,0 +1,6 @@
+-- The base types are such that a repository may begin with them.
+use Rattle.cm_opening.proofs.BaseTypes.{opens}
+use Rattle.cm_opening.proofs.open.open.Goals as goal
+
+pub opening-requires : goal.opening-requires
+opening-requires c = record { well = opens c.in_ok-types.types c.args.users.now c.args.moment c.args.first_step c.in_ok-types.ensures c.requires.bound }

@@ -1,0 +1,25 @@
+//! The opening of a repository.
+ghost use Rattle.std.specs.Prelude.{◌≡◌, ◌≤◌, IfOk};
+ghost use Rattle.cm_basetypes.specs.BaseTypes.{base_types};
+ghost use Rattle.cmis_spec.specs.Repository.{opening, most_steps};
+
+use cm_base::number::Moment;
+use cm_base::user::Users;
+use cm_basetypes::base_types::base_types;
+use cm_state::state::State;
+use std::alloc::{AllocError, Global};
+
+/// The repository with the six base types and the root, which the first user made at this moment, at this step.
+pub fn open(
+    alloc: Global,
+    users: &Users,
+    moment: Moment,
+    first_step: u64,
+) -> Result<State, AllocError>
+    requires bound { first_step ≤ most_steps }
+    ensures { IfOk result (λ state. state ≡ opening base_types users.now moment first_step) }
+{
+    let types = base_types(alloc)?;
+    let state = State::opening(alloc, types, users, moment, first_step)?;
+    Ok(state)
+}
