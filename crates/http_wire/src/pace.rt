@@ -63,16 +63,17 @@ impl Pace {
         }
     }
 
-    // Whether such a line has ended among the new bytes.
+    // Whether such a line ends among the new bytes, which are looked at up to its end.
     fn scan(&mut self, bytes: &[u8]) -> bool {
-        let mut ended = false;
         if let Some(new) = bytes.get(self.scanned..) {
             for b in new {
-                ended |= self.step(*b);
+                self.scanned = self.scanned.saturating_add(1);
+                if self.step(*b) {
+                    return true;
+                }
             }
         }
-        self.scanned = bytes.len();
-        ended
+        false
     }
 
     /// Whether another look at the bytes is worth it. At the limit it always is.
