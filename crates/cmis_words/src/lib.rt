@@ -3,6 +3,7 @@
 
 ghost use Rattle.std.specs.Prelude.{◌≡◌};
 
+pub mod laws;
 #[cfg(test)]
 mod tests;
 pub mod words;
