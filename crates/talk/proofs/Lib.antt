@@ -1,0 +1,12 @@
+pub mod ListFacts
+pub mod WireLaws
+pub mod Longer
+pub mod Alones
+pub mod FromSession
+pub mod OneAlone
+pub mod SmallRuns
+pub mod Turns
+pub mod SoFar
+pub mod Ending
+pub mod Running
+pub mod Stepping

@@ -1,0 +1,10 @@
+pub mod Wire
+pub mod Served
+pub mod Requests
+pub mod Session
+pub mod Told
+pub mod Turned
+pub mod Alone
+pub mod Steps
+pub mod Talked
+pub mod Ran
