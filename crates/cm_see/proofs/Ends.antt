@@ -1,5 +1,5 @@
 -- The texts of a value are read exactly where all its scalars are.
-use Rattle.std.proofs.Common.{◌≡◌, ℕ, List, [], ◌∷◌, refl, ap, Bool, true, ◌&&◌}
+use Rattle.std.proofs.Common.{◌≡◌, ℕ, List, [], ◌∷◌, refl, ap, ◌&&◌}
 use Rattle.std.specs.List.{list_all, filter_map}
 use Rattle.cm_base.specs.declared.value.Scalar.{Scalar}
 use Rattle.cm_base.specs.declared.value.Scalar.TheVariants.{Flag, Whole, Time, Words}

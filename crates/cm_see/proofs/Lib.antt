@@ -1,1 +1,3 @@
-pub mod Ends
+mod Children
+mod Ends
+mod Paths

@@ -1,5 +1,5 @@
 -- Reading the ends of a relationship, one after another.
-use Rattle.std.specs.Prelude.{ℕ, Bool, true, false, List, Option, Some, None, unwrap_or, option_map}
+use Rattle.std.specs.Prelude.{ℕ, Bool, true, false, List, unwrap_or, option_map}
 use Rattle.cm_base.specs.declared.value.Scalar.{Scalar}
 use Rattle.cm_types.specs.Properties.{text_of_scalar}
 use Rattle.cmis_spec.specs.Repository.{Repository}

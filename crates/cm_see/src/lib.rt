@@ -3,6 +3,8 @@
 
 ghost use Rattle.std.specs.Prelude.{◌≡◌};
 
+pub mod child;
 pub mod level;
+pub mod path;
 pub mod read;
 pub mod tree;

@@ -1,0 +1,32 @@
+use Rattle.std.proofs.Common.{rules, ◌≡◌, ◌∙◌, ◌++◌, ◌-◌, [], ℕ, Some, None, sym, ap, arith, suc, false, codes, unwrap_or, option_map, string_bytes}
+use Rattle.cmis_spec.specs.Repository.{same, root, parent_in, entry_name, path_by}
+use Rattle.cm_see.proofs.Paths.{path_step}
+use Rattle.cm_see.proofs.path.+path_by.Goals as goal
+
+pub returns-in_ok-text-in-Some : goal.returns-in_ok-text-in-Some
+returns-in_ok-text-in-Some t c =
+    let n : ℕ = c.args.levels - 1 in
+    let up = parent_in c.args.state.now.filed in
+    let name = entry_name c.args.state.now in
+    let more : suc n ≡ c.args.levels = omega (arith, c.if-levels-eq0.false) in
+    let below : same c.args.folder root ≡ false = search rules in
+    let parent : up c.args.folder ≡ Some c.in-Some.above = sym c.parent.ensures ∙ c.in-Some.is in
+    let way : string_bytes c.in_ok-way-in-Some.way ≡ unwrap_or (option_map (path_by n up name) (up c.args.folder)) [] = c.in_ok-way-in-Some.ensures ∙ sym (ap (λ o. unwrap_or (option_map (path_by n up name) o) []) parent) in
+    c.in_ok-text-in-Some.ensures
+    ∙ (ap (λ w. w ++ codes "/" ++ c.entry_text.result.now) way
+    ∙ (ap (λ s. unwrap_or (option_map (path_by n up name) (up c.args.folder)) [] ++ codes "/" ++ s) c.entry_text.ensures
+    ∙ path_step c.args.levels n up name c.args.folder more below))
+
+pub returns-in_ok-text-in-None : goal.returns-in_ok-text-in-None
+returns-in_ok-text-in-None t c =
+    let n : ℕ = c.args.levels - 1 in
+    let up = parent_in c.args.state.now.filed in
+    let name = entry_name c.args.state.now in
+    let more : suc n ≡ c.args.levels = omega (arith, c.if-levels-eq0.false) in
+    let below : same c.args.folder root ≡ false = search rules in
+    let parent : up c.args.folder ≡ None = sym c.parent.ensures ∙ c.in-None.is in
+    let way : string_bytes c.new-in-None.result ≡ unwrap_or (option_map (path_by n up name) (up c.args.folder)) [] = c.new-in-None.ensures.bytes ∙ sym (ap (λ o. unwrap_or (option_map (path_by n up name) o) []) parent) in
+    c.in_ok-text-in-None.ensures
+    ∙ (ap (λ w. w ++ codes "/" ++ c.entry_text-in-None.result.now) way
+    ∙ (ap (λ s. unwrap_or (option_map (path_by n up name) (up c.args.folder)) [] ++ codes "/" ++ s) c.entry_text-in-None.ensures
+    ∙ path_step c.args.levels n up name c.args.folder more below))
