@@ -1,13 +1,11 @@
 -- What a reply shows of an object: its properties as the caller sees them (CMIS 1.1, sections 2.1.4.3, 2.1.5.4.2 and 2.1.13.2).
-use Rattle.std.specs.Prelude.{ℕ, ◌+◌, ◌==◌, nat_lt, pos, Bool, true, false, ◌&&◌, ◌||◌, not, if◌then◌else◌, List, [], ◌∷◌, ◌++◌, map, filter, find, length, decimal, Option, Some, None, is_some, is_none, unwrap_or, option_map, option_and_then, bytes_eq, codes}
+use Rattle.std.specs.Prelude.{ℕ, ◌==◌, pos, Bool, true, false, ◌&&◌, ◌||◌, not, if◌then◌else◌, List, [], ◌∷◌, ◌++◌, map, filter, find, length, decimal, Option, Some, None, is_some, unwrap_or, option_map, option_and_then, bytes_eq, codes}
 use Rattle.std.specs.List.{list_any}
-use Rattle.cm_base.specs.declared.number.Oid.{Oid}
 use Rattle.cm_base.specs.declared.object.Object.{Object}
 use Rattle.cm_base.specs.declared.value.Value.{Value}
-use Rattle.cm_base.specs.declared.value.Value.TheVariants.{Unset, One, Many}
-use Rattle.cm_base.specs.declared.value.Scalar.TheVariants.{Flag, Whole, Time, Words}
+use Rattle.cm_base.specs.declared.value.Value.TheVariants.{Unset, One}
+use Rattle.cm_base.specs.declared.value.Scalar.TheVariants.{Flag, Whole, Time}
 use Rattle.cm_base.specs.declared.value.Slot.{Slot}
-use Rattle.cm_base.specs.declared.series.Series.{Series}
 use Rattle.cm_base.specs.declared.series.DocumentVersion.{DocumentVersion}
 use Rattle.cm_base.specs.declared.series.Label.{Label}
 use Rattle.cm_base.specs.declared.content.Content.{Content}
@@ -25,7 +23,7 @@ use Rattle.cm_call.specs.declared.reply.ShownProperty.{ShownProperty}
 use Rattle.cm_show.specs.declared.system.SystemProperty.{SystemProperty}
 use Rattle.cm_show.specs.declared.system.SystemProperty.TheVariants as properties
 use Rattle.cm_show.specs.System.{system_named}
-use Rattle.cmis_spec.specs.Repository.{Repository, same, root, is_a, series_of, owner_of, is_latest, parent_in, name_of, path_of}
+use Rattle.cmis_spec.specs.Repository.{Repository, same, is_a, series_of, owner_of, is_latest, parent_in, name_of, path_of}
 use Rattle.cmis_spec.specs.Access.{read_at}
 use Rattle.cmis_spec.specs.Values.{words, texts}
 
@@ -48,9 +46,13 @@ base_word bases.Policy = codes "cmis:policy"
 base_word bases.Item = codes "cmis:item"
 base_word bases.Secondary = codes "cmis:secondary"
 
--- the parent of a folder; the root has none
+-- the parent of a folder; the root has none, and nothing else has one
 abbrev pub parent_value : Repository → Object → Value
-parent_value r x = words_or_unset (option_map (λ f. decimal f.0) (parent_in r.filed x.id))
+parent_value r x = if is_a r bases.Folder x then words_or_unset (option_map (λ f. decimal f.0) (parent_in r.filed x.id)) else Unset
+
+-- the path of a folder; nothing else has one
+abbrev pub path_value : Repository → Object → Value
+path_value r x = if is_a r bases.Folder x then words (path_of r x.id) else Unset
 
 -- ---- versions
 
@@ -102,6 +104,10 @@ checked_out_id r u x = option_and_then (λ s. option_and_then (λ w. option_map 
 abbrev pub content_of : Repository → Object → Option Content
 content_of r x = find (λ c. same c.of x.id) r.contents
 
+-- how many bytes it has
+abbrev pub length_value : Repository → Object → Value
+length_value r x = unwrap_or (option_map (λ c. number (length c.stream.pieces)) (content_of r x)) Unset
+
 -- ---- all
 
 abbrev pub system_value : Repository → List ℕ → Object → SystemProperty → Value
@@ -116,7 +122,7 @@ system_value r u x properties.LastModifiedBy = words x.changer
 system_value r u x properties.LastModificationDate = One (Time x.changed.0)
 system_value r u x properties.ChangeToken = words (decimal x.token)
 system_value r u x properties.ParentId = parent_value r x
-system_value r u x properties.Path = words (path_of r x.id)
+system_value r u x properties.Path = path_value r x
 system_value r u x properties.IsImmutable = flag (is_immutable r x)
 system_value r u x properties.IsLatestVersion = flag (is_latest_version r x)
 system_value r u x properties.IsMajorVersion = flag (is_major_version r x)
@@ -127,7 +133,7 @@ system_value r u x properties.VersionSeriesId = words_or_unset (option_map (λ s
 system_value r u x properties.IsVersionSeriesCheckedOut = flag (is_some (checked_out_by r x))
 system_value r u x properties.VersionSeriesCheckedOutBy = words_or_unset (checked_out_by r x)
 system_value r u x properties.VersionSeriesCheckedOutId = words_or_unset (checked_out_id r u x)
-system_value r u x properties.ContentStreamLength = unwrap_or (option_map (λ c. number (length c.stream.pieces)) (content_of r x)) Unset
+system_value r u x properties.ContentStreamLength = length_value r x
 system_value r u x properties.ContentStreamMimeType = words_or_unset (option_map (λ c. c.stream.kind) (content_of r x))
 system_value r u x properties.ContentStreamFileName = words_or_unset (option_map (λ c. c.stream.file) (content_of r x))
 system_value r u x properties.ContentStreamId = words_or_unset (option_map (λ c. decimal c.step) (content_of r x))

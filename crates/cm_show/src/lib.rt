@@ -3,6 +3,11 @@
 
 ghost use Rattle.std.specs.Prelude.{◌≡◌};
 
+pub mod address;
+mod property;
+pub mod shown;
 pub mod system;
 #[cfg(test)]
 mod tests;
+mod value;
+mod version;

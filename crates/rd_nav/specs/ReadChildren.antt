@@ -36,8 +36,12 @@ children_reply r u q children = replies.Children (record {
 })
 
 -- all that the caller reads is counted before the cut
+abbrev pub answer_children_in : Repository → List ℕ → ReadChildren → Object → Judged Reply
+answer_children_in r u q x = do
+  refuse causes.WrongKind (not (is_a r bases.Folder x))
+  Ok (children_reply r u q (children_of r u x.id))
+
 abbrev pub answer_children : Repository → List ℕ → ReadChildren → Judged Reply
 answer_children r u q = do
   x ← find_or causes.NotFound (addressed r u q.place)
-  refuse causes.WrongKind (not (is_a r bases.Folder x))
-  Ok (children_reply r u q (children_of r u x.id))
+  answer_children_in r u q x

@@ -1,2 +1,8 @@
 //! Readings along the folder tree.
 #![tactic(auto)]
+
+ghost use Rattle.std.specs.Prelude.{◌≡◌};
+
+pub mod children;
+pub mod law;
+mod page;

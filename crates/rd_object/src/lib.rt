@@ -1,2 +1,7 @@
-//! Readings of one object.
+//! Readings of objects.
 #![tactic(auto)]
+
+ghost use Rattle.std.specs.Prelude.{◌≡◌};
+
+pub mod law;
+pub mod object;
