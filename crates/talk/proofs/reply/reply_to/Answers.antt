@@ -1,0 +1,19 @@
+use Rattle.talk.specs.Served.{Kind, wire_of}
+use Rattle.talk.proofs.Turns.{if-ok-map, badly-turn, wrongly-turn}
+use Rattle.talk.proofs.reply.reply_to.Goals as goal
+
+pub returns-in-Err-Refused-call_of-clause-turned : goal.returns-in-Err-Refused-call_of-clause-turned
+returns-in-Err-Refused-call_of-clause-turned g c =
+    let kind : Kind _ _ _ = record { next = g.D.Kind.Machine.next; answer = g.D.Kind.Machine.answer; number = g.D.Kind.Machine.number; call = g.D.Kind.Served.call; wire = wire_of g.D.Kind.Served.user g.D.Kind.Served.least g.D.Kind.Served.closes } in
+    let told = rw c.in-Err-Refused-call_of.field-0-is at c.in-Err-Refused-call_of.ensures in
+    if-ok-map _ _ c.plain.result
+    (λ shown is last. badly-turn kind c.args.users.now c.args.request.now c.head-head.result.now shown last _ _ _ _ c.head-head.ensures c.in-Ok.ensures told is)
+    c.plain.ensures
+
+pub returns-in-Err-Refused-clause-turned : goal.returns-in-Err-Refused-clause-turned
+returns-in-Err-Refused-clause-turned g c =
+    let kind : Kind _ _ _ = record { next = g.D.Kind.Machine.next; answer = g.D.Kind.Machine.answer; number = g.D.Kind.Machine.number; call = g.D.Kind.Served.call; wire = wire_of g.D.Kind.Served.user g.D.Kind.Served.least g.D.Kind.Served.closes } in
+    let told = rw c.in-Err-Refused.field-0-is at c.in-Err-Refused.ensures in
+    if-ok-map _ _ c.plain-in-Err-Refused.result
+    (λ shown is last. wrongly-turn kind c.args.users.now c.args.request.now c.head-head.result.now shown last _ _ _ c.head-head.ensures told is)
+    c.plain-in-Err-Refused.ensures
