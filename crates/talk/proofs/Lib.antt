@@ -6,3 +6,7 @@ pub mod FromSession
 pub mod OneAlone
 pub mod SmallRuns
 pub mod Turns
+pub mod SoFar
+pub mod Ending
+pub mod Running
+pub mod Stepping

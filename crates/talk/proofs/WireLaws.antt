@@ -13,13 +13,14 @@ pub record FrontLaws : Type 0 where
   pub one : (bytes : List ℕ) (x y : Front) → First bytes x → First bytes y → x ≡ y
   pub within : (bytes : List ℕ) (r : Request) (n : ℕ) → First bytes (Whole r n) → (0 < n) × (n ≤ length bytes)
 
--- what is decided stays; a request lies within; there is one head, and it stays; no bytes hold none; where a fault stands, more bytes give no other head
+-- what is decided stays; a request lies within; there is one head, and it stays; no bytes hold none; a request has its head; where a fault stands, more bytes give no other head
 pub record GrammarLaws : Type 0 where
   pub kept : (bytes more : List ℕ) (x : Front) → First bytes x → IsDecided x → First (bytes ++ more) x
   pub within : (bytes : List ℕ) (r : Request) (n : ℕ) → First bytes (Whole r n) → (0 < n) × (n ≤ length bytes)
   pub head_one : (bytes : List ℕ) (h k : Head) → HoldsHead bytes h → HoldsHead bytes k → h ≡ k
   pub head_kept : (bytes more : List ℕ) (h : Head) → HoldsHead bytes h → HoldsHead (bytes ++ more) h
   pub no_head : (h : Head) → HoldsHead [] h → ⊥
+  pub whole_head : (bytes : List ℕ) (r : Request) (n : ℕ) → First bytes (Whole r n) → HoldsHead bytes r.head
   pub fault_head : (bytes more : List ℕ) (fault : HttpFault) (h : Head) → First bytes (Fault fault) → HoldsHead (bytes ++ more) h → HoldsHead bytes h
 
 -- more bytes behind the requests

@@ -5,3 +5,6 @@ pub mod Session
 pub mod Told
 pub mod Turned
 pub mod Alone
+pub mod Steps
+pub mod Talked
+pub mod Ran

@@ -2,16 +2,22 @@
 //! with its laws; and the reply to one request, over any desk. It is generic in the machine.
 #![tactic(auto)]
 
+mod alone;
 mod asked;
 mod end;
 mod laws;
+mod link;
 mod reply;
 mod served;
+mod session;
+mod step;
 mod turn;
 
+pub use alone::run_alone;
 pub use asked::Asked;
 pub use end::End;
 pub use laws::{alone_is_one, session_alone, session_stands};
 pub use reply::reply_to;
 pub use served::Served;
+pub use session::talk;
 pub use turn::{Verdict, read_turn, write_turn};

@@ -1,0 +1,19 @@
+use Rattle.std.proofs.Common.{◌≡◌, ◌<◌}
+use Rattle.talk.specs.Served.{wire_of}
+use Rattle.talk.proofs.WireLaws.{GrammarLaws}
+use Rattle.talk.proofs.SoFar.{SoFar, steps_left}
+use Rattle.talk.proofs.session.talk.Given as goal
+
+abbrev pub invariant-steps : goal.invariant-steps
+invariant-steps g l = record {
+  laws : GrammarLaws;
+  callers : g.D.Desk.callers l.desk ≡ g.D.Desk.callers l.fn.desk;
+  is_of : g.D.Desk.is_of l.desk l.pass;
+  few : l.count < 1000;
+  so_far : SoFar (record { next = g.D.Kind.Machine.next; answer = g.D.Kind.Machine.answer; number = g.D.Kind.Machine.number; call = g.D.Kind.Served.call; wire = wire_of g.D.Kind.Served.user g.D.Kind.Served.least g.D.Kind.Served.closes })
+      l.users (g.D.Desk.known l.fn.pass) (g.D.Desk.words l.fn.desk) (g.L.Source.told l.fn.link) (g.L.Sink.told l.fn.link)
+      (record { known = g.D.Desk.known l.pass; words = g.D.Desk.words l.desk; count = l.count }) l.buffer.answered l.buffer.bytes (g.L.Source.told l.link) (g.L.Sink.told l.link);
+}
+
+abbrev pub decreases-steps : goal.decreases-steps
+decreases-steps g l = steps_left l.count l.buffer.answered

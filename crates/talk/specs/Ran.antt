@@ -1,0 +1,39 @@
+-- A session with nobody beside it, over an opening.
+use Rattle.std.specs.Prelude.{◌≡◌, List, ℕ, length, Option, IfSome}
+use Rattle.outside.specs.Clocks.{Words}
+use Rattle.outside.specs.Outside.{SourceTold, SinkTold, Gave, Took}
+use Rattle.cm_base.specs.declared.number.Moment.{Moment}
+use Rattle.cm_base.specs.declared.user.User.{User}
+use Rattle.desk_model.specs.declared.entry.Entry.{Entry}
+use Rattle.desk_model.specs.Histories.{own}
+use Rattle.talk.specs.declared.end.End.{End}
+use Rattle.talk.specs.declared.end.End.TheVariants.{Ended, Bad, ReadFault, WriteFault, Starved}
+use Rattle.talk.specs.Served.{Kind}
+use Rattle.talk.specs.Session.{Session}
+use Rattle.talk.specs.Talked.{TakesWords, rose}
+use Rattle.talk.specs.Alone.{Alone, IsFinal, alone_at}
+
+-- By the bytes that were given: a session that ends well or by a fault of its bytes is the session alone on them;
+-- one whose read failed has sent and written what the session alone on them does.
+abbrev pub IsAloneOnGiven : {S C Q : Type 0} → Kind S C Q → S → List User → Words → List ℕ → List ℕ → List (Entry C) → End → Type 0
+IsAloneOnGiven kind opening users words input output h Ended = Alone kind opening users words input output Ended h
+IsAloneOnGiven kind opening users words input output h (Bad fault) = Alone kind opening users words input output (Bad fault) h
+IsAloneOnGiven kind opening users words input output h ReadFault = (end : End) × Alone kind opening users words input output end h
+IsAloneOnGiven kind opening users words input output h WriteFault = Unit {0}
+IsAloneOnGiven kind opening users words input output h Starved = Unit {0}
+
+-- What it tells. All of its history is its own, and it is a session over that.
+-- Where the clock tells its words: it is the session alone on the bytes that were given, and, where the source tells what it had left, on all of it.
+pub record RunAlone {S C Q : Type 0} (kind : Kind S C Q) (opening : S) (users : List User) (words : Option Words) (source : SourceTold) (sink : SinkTold) (source' : SourceTold) (sink' : SinkTold) (end : End) : Type 0 where
+  pub journal : List (Entry C)
+  pub input : List ℕ
+  pub output : List ℕ
+  pub times : List Moment
+  pub after : Option Words
+  pub gave : Gave source source' input
+  pub took : Took sink sink' output
+  pub told : TakesWords end words times after
+  pub all_own : own 0 0 journal ≡ journal
+  pub session : Session kind (alone_at opening users) (length journal) journal input source'.ended output times (rose source.faults source'.faults) (rose sink.faults sink'.faults) end
+  pub on_given : IfSome words (λ w. IsAloneOnGiven kind opening users w input output journal end)
+  pub on_all : IsFinal end → IfSome words (λ w. IfSome source.left (λ left. Alone kind opening users w left output end journal))

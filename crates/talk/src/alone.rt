@@ -1,0 +1,42 @@
+//! A session with nobody beside it.
+ghost use Rattle.std.specs.Prelude.{◌≡◌, IfOk, OnErr};
+ghost use Rattle.talk.specs.Served.{wire_of};
+ghost use Rattle.talk.specs.Ran.{RunAlone};
+
+use crate::end::End;
+use crate::served::Served;
+use crate::session::talk;
+use cm_base::user::Users;
+use desk_model::{OneDesk, Version};
+use http_grammar::{
+    fault_holds_its_head, first_is_kept, held_head_has_bytes, held_head_is_kept, held_head_is_one,
+    request_lies_within, whole_request_holds_its_head,
+};
+use outside::{Clock, Gate, Link};
+use std::alloc::{AllocError, Global};
+
+/// Serves one session over an opening, with nobody beside it. Want of memory before the session begins touches nothing.
+pub fn run_alone<M: Served, C: Clock + Drop, L: Link, G: Gate>(
+    alloc: Global,
+    opening: M::State,
+    clock: C,
+    users: &Users,
+    link: &mut L,
+    gate: &G,
+) -> Result<End, AllocError>
+    ensures ran { IfOk result (RunAlone (record { next = M.next; answer = M.answer; number = M.number; call = M.call; wire = wire_of M.user M.least M.closes }) opening users.now (C.words clock)
+        (L.Source.told link.old) (L.Sink.told link.old) (L.Source.told link.new) (L.Sink.told link.new)) }
+    ensures untouched { OnErr result ((L.Source.told link.new ≡ L.Source.told link.old) × (L.Sink.told link.new ≡ L.Sink.told link.old)) }
+{
+    first_is_kept();
+    request_lies_within();
+    held_head_is_one();
+    held_head_is_kept();
+    held_head_has_bytes();
+    whole_request_holds_its_head();
+    fault_holds_its_head();
+    let version: Version<M> = Version::opening(alloc, opening)?;
+    let mut desk = OneDesk::new(alloc, version, clock)?;
+    let mut pass = desk.pass()?;
+    Ok(talk(alloc, &mut (), &mut desk, &mut pass, users, link, gate))
+}
