@@ -11,6 +11,8 @@ mod reply;
 mod served;
 mod session;
 mod step;
+#[cfg(test)]
+mod tests;
 mod turn;
 
 pub use alone::run_alone;
