@@ -232,3 +232,36 @@ whole_holds bytes r n f = first_says bytes (Whole r n) f
 
 pub waits_holds : (bytes : List ℕ) (h : Head) → First bytes (Waits h) → HoldsHead bytes h × (expects_continue h ≡ true)
 waits_holds bytes h f = first_says bytes (Waits h) f
+
+-- no bytes hold no head
+pub none_held : (h : Head) → HoldsHead [] h → ⊥
+none_held h x = not_empty [] x.text x.rest x.has refl
+
+-- ---- a fault at the front, and more bytes
+
+-- a head of more bytes, where no prefix of the first ones is one
+not_future : (bytes more : List ℕ) (h : RequestHead) (rest : List ℕ) → HasHead (bytes ++ more) h rest → HasNoFuture (take head_limit bytes) → ⊥
+not_future bytes more h rest x f =
+    let (c, e) = take_longer head_limit bytes more in
+    not_hopeless (bytes ++ more) h rest x (subst HasNoFuture (sym e) (HasNoFuture-append (take head_limit bytes) c f))
+
+not_within : (bytes more : List ℕ) (h : RequestHead) (rest : List ℕ) → HasHead (bytes ++ more) h rest → head_limit ≤ length bytes → IsOpen (take head_limit bytes) → ⊥
+not_within bytes more h rest x long o =
+    o.none h (take (head_limit - length (print_request h)) rest)
+    (subst (λ t. ReadsRequest t h (take (head_limit - length (print_request h)) rest)) (take-append-le head_limit bytes more long) (in_part (bytes ++ more) h rest x))
+
+nothing_fault : (f : HttpFault) → Fault f ≡ Nothing → ⊥
+nothing_fault f e = cc
+
+beginning_fault : (f : HttpFault) → Fault f ≡ Beginning → ⊥
+beginning_fault f e = cc
+
+-- the one head that more bytes hold is held already
+pub fault_holds : (bytes more : List ℕ) (fault : HttpFault) (h : Head) → First bytes (Fault fault) → HoldsHead (bytes ++ more) h → HoldsHead bytes h
+fault_holds bytes more fault h (empty e f) x = absurd (nothing_fault fault f)
+fault_holds bytes more fault h (partial a b o f) x = absurd (beginning_fault fault f)
+fault_holds bytes more fault h (hopeless o f) x = absurd (not_future bytes more x.text x.rest x.has o)
+fault_holds bytes more fault h (too_long a o f) x = absurd (not_within bytes more x.text x.rest x.has a o)
+fault_holds bytes more fault h (whole_head k rest z w) x =
+    let same = request_unique (bytes ++ more) x.text k x.rest (rest ++ more) x.has.reads (HasHead-append bytes more k rest z).reads in
+    record { text = k; rest = rest; has = z; head_is = x.head_is ∙ ap head_of same.0; good = x.good }

@@ -1,9 +1,10 @@
 //! The laws of the definitions, as public functions with empty bodies.
-ghost use Rattle.std.specs.Prelude.{◌≡◌, ◌<◌, ◌≤◌, ◌++◌, ℕ, List, length, true};
+ghost use Rattle.std.specs.Prelude.{◌≡◌, ◌<◌, ◌≤◌, ◌++◌, ℕ, List, [], length, true};
 ghost use Rattle.http_grammar.specs.Request.{Head, Request};
 ghost use Rattle.http_grammar.specs.Chunks.{BodyFront, ChunkedBody};
 ghost use Rattle.http_grammar.specs.Fields.{expects_continue};
 ghost use Rattle.http_grammar.specs.First.{First, Front, IsDecided, Whole, Waits, Fault, HoldsHead};
+ghost use Rattle.http_grammar.specs.declared.fault.HttpFault.{HttpFault};
 ghost use Rattle.http_grammar.specs.declared.fault.HttpFault.TheVariants.{Cut};
 
 /// At most one thing stands at the front of the bytes.
@@ -49,4 +50,14 @@ pub fn waiting_head_is_held()
 /// The bytes alone are never cut: whether the input ends is for a reader to say.
 pub fn first_is_never_cut()
     ensures { (bytes : List ℕ) → First bytes (Fault Cut) → ⊥ }
+{}
+
+/// A head that is held has some bytes.
+pub fn held_head_has_bytes()
+    ensures { (h : Head) → HoldsHead [] h → ⊥ }
+{}
+
+/// Where a fault stands at the front, the head that more bytes hold is held already.
+pub fn fault_holds_its_head()
+    ensures { (bytes more : List ℕ) (fault : HttpFault) (h : Head) → First bytes (Fault fault) → HoldsHead (bytes ++ more) h → HoldsHead bytes h }
 {}

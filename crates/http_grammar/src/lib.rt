@@ -9,6 +9,7 @@ mod laws;
 pub use fault::HttpFault;
 pub use framing::Framing;
 pub use laws::{
-    chunked_body_is_one, first_is_kept, first_is_never_cut, first_is_one, held_head_is_kept,
-    held_head_is_one, request_lies_within, waiting_head_is_held, whole_request_holds_its_head,
+    chunked_body_is_one, fault_holds_its_head, first_is_kept, first_is_never_cut, first_is_one,
+    held_head_has_bytes, held_head_is_kept, held_head_is_one, request_lies_within,
+    waiting_head_is_held, whole_request_holds_its_head,
 };
