@@ -1,10 +1,9 @@
 -- The fields of a name, from one place of the head on, and what is read of them.
 use Rattle.std.proofs.Common.{◌≡◌, ℕ, ◌+◌, ◌<◌, ◌≤◌, Bool, true, false, List, [], ◌∷◌, length, drop, get_or, refl, ap, ◌∙◌, add-one, arith, drop-cons}
 use Rattle.std.proofs.lemmas.List.{drop_all}
-use Rattle.std.specs.Prelude.{Some}
 use Rattle.http_grammar.specs.Request.{FieldParts, Head}
 use Rattle.http_grammar.specs.Fields.{same_word, values_named}
-use Rattle.bind_read.specs.Forms.{first_item, content_type, form_by, form_in}
+use Rattle.bind_read.specs.Forms.{content_type, form_by, form_in}
 
 kept : (name : List ℕ) (field : FieldParts) (rest : List FieldParts) → same_word field.0 name ≡ true → values_named name (field ∷ rest) ≡ field.1 ∷ values_named name rest
 unfolding values_named
@@ -27,12 +26,6 @@ named_later name fields i d lt e = ap (λ fs. values_named name fs) (rw (add-one
 pub named_none : (name : List ℕ) (fields : List FieldParts) (i : ℕ) → length fields ≡ i → values_named name (drop i fields) ≡ []
 unfolding values_named
 named_none name fields i e = ap (λ fs. values_named name fs) (drop_all i fields (omega arith))
-
--- the first of one value is that value
-pub one_value : (values : List (List ℕ)) (v : List ℕ) → Some v ≡ first_item values → length values ≡ 1 → v ∷ [] ≡ values
-one_value [] v is one = absurd (omega arith)
-one_value (x ∷ []) v is one = ap (λ y. y ∷ []) cc
-one_value (x ∷ y ∷ ys) v is one = absurd (omega arith)
 
 -- a body that is not empty is read by its media type
 pub form_of_some : (head : Head) (body : List ℕ) → 1 ≤ length body → form_in head body ≡ form_by (content_type head) body

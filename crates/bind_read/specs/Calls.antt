@@ -5,6 +5,7 @@ use Rattle.cm_base.specs.Judged.{Judged, ◌>>=◌}
 use Rattle.cm_call.specs.declared.write.Write.TheVariants as writes
 use Rattle.cm_call.specs.declared.question.Question.TheVariants as questions
 use Rattle.http_grammar.specs.Request.{Request}
+use Rattle.http_caller.specs.Steps.{least_of}
 use Rattle.request_target.specs.declared.target.Target.{Target}
 use Rattle.request_target.specs.declared.target.Target.TheVariants as targets
 use Rattle.request_target.specs.Targets.{target_of, query_of}
@@ -14,7 +15,7 @@ use Rattle.bind_read.specs.declared.asked.Asked.{Asked}
 use Rattle.bind_read.specs.declared.asked.Asked.TheVariants as asks
 use Rattle.bind_read.specs.declared.words.Service.{Service}
 use Rattle.bind_read.specs.declared.words.Service.TheVariants as services
-use Rattle.bind_read.specs.Forms.{method_of, form_of, step_of}
+use Rattle.bind_read.specs.Forms.{method_of, form_of}
 use Rattle.bind_read.specs.Words.{service_of}
 use Rattle.bind_read.specs.CreateFolder.{create_folder_of}
 use Rattle.bind_read.specs.Objects.{object_of, properties_of}
@@ -40,5 +41,5 @@ call_of_request q = do
   target ← target_of q.head.target
   form ← form_of method q
   service ← service_of method target (form ++ form_pairs (query_of q.head.target))
-  step ← step_of q.head
+  step ← least_of q.head
   bound service (names_in target) (form ++ form_pairs (query_of q.head.target))

@@ -4,7 +4,6 @@ use Rattle.cm_base.specs.declared.cause.Cause.TheVariants as causes
 use Rattle.cm_base.specs.Judged.{Judged, ◌>>=◌}
 use Rattle.http_grammar.specs.Request.{Head, Request}
 use Rattle.http_grammar.specs.Fields.{values_named}
-use Rattle.request_target.specs.Steps.{step_by}
 use Rattle.form_args.specs.declared.pairs.Pair.{Pair}
 use Rattle.form_args.specs.Read.{form_pairs}
 use Rattle.bind_read.specs.declared.form.Method.{Method}
@@ -24,10 +23,6 @@ first_item (x ∷ xs) = Some x
 -- the value of the first Content-Type field
 abbrev pub content_type : Head → Option (List ℕ)
 content_type head = first_item (values_named (codes "content-type") head.fields)
-
--- the step that the request wants to see
-abbrev pub step_of : Head → Judged ℕ
-step_of head = step_by (values_named (codes "cmis-step") head.fields)
 
 -- the pairs of a body by its media type; a form in parts is not served yet
 abbrev pub form_by : Option (List ℕ) → List ℕ → Judged (List Pair)

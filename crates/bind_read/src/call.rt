@@ -6,7 +6,6 @@ ghost use Rattle.bind_read.specs.Calls.{names_in, bound, call_of_request};
 use crate::asked::Asked;
 use crate::children::children_of;
 use crate::create_folder::create_folder_of;
-use crate::fields::step_of;
 use crate::form::{form_of, method_of};
 use crate::object::{object_of, properties_of};
 use crate::words::{Service, service_of};
@@ -17,6 +16,7 @@ use cm_call::question::Question;
 use cm_call::write::Write;
 use form_args::pairs::Pairs;
 use form_args::read::with_query;
+use http_caller::least_of;
 use http_wire::Request;
 use request_target::target::{Target, query_of, target_of};
 use std::alloc::Global;
@@ -66,7 +66,7 @@ pub fn call_of(alloc: Global, request: &Request) -> Result<Asked, Fail>
     let form = form_of(alloc, method, request)?;
     let pairs = with_query(alloc, form, query_of(head.target()))?;
     let service = service_of(alloc, method, &target, &pairs)?;
-    let _step = step_of(head)?;
+    let _step = least_of(head)?;
     let names = names_in(alloc, target);
     bound(alloc, service, &names, &pairs)
 }

@@ -3,11 +3,11 @@
 
 mod head;
 mod reply;
-mod send;
+mod sending;
 mod shown;
 #[cfg(test)]
 mod tests;
 
 pub use reply::write_reply;
-pub use send::{send_interim, send_memory};
+pub use sending::{send, send_interim, send_memory};
 pub use shown::{cause_shown, fault_cause, without_body};

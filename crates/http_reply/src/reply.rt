@@ -5,7 +5,7 @@ ghost use Rattle.http_reply.specs.Sent.{TookFront};
 ghost use Rattle.http_reply.specs.Replies.{reply_text};
 
 use crate::head::make_head;
-use crate::send::send;
+use crate::sending::send;
 use cm_base::shown::Shown;
 use outside::{Failed, Sink};
 

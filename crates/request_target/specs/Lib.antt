@@ -1,4 +1,3 @@
 pub mod Form
 pub mod Path
-pub mod Steps
 pub mod Targets

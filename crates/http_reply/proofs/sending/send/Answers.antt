@@ -3,7 +3,7 @@ use Rattle.outside.specs.declared.traits.Failed.{Failed}
 use Rattle.std.proofs.lemmas.List.{take-append-drop, length-drop}
 use Rattle.outside.specs.Outside.{Took, Writes}
 use Rattle.outside.proofs.Known.{wrote_more, wrote_no_more}
-use Rattle.http_reply.proofs.send.send.Goals as goal
+use Rattle.http_reply.proofs.sending.send.Goals as goal
 
 pub returns-in-Err-clause-front : goal.returns-in-Err-clause-front
 returns-in-Err-clause-front g c = (

@@ -1,6 +1,6 @@
 use Rattle.std.proofs.Common.{◌≡◌, ◌≤◌, ◌-◌, length, take}
 use Rattle.outside.specs.Outside.{Took}
-use Rattle.http_reply.proofs.send.send.Given as goal
+use Rattle.http_reply.proofs.sending.send.Given as goal
 
 abbrev pub invariant-loop-done : goal.invariant-loop-done
 invariant-loop-done g l =
