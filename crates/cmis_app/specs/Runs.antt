@@ -1,11 +1,61 @@
--- What a run of the program writes, and the status with which it ends.
-use Rattle.std.specs.Prelude.{◌≡◌, ◌⊎◌, ℕ, List, [], ◌∷◌, ◌++◌, codes, Option, Some, None}
-use Rattle.outside.specs.Outside.{SourceTold, SinkTold, ReadsBytes, Took, Rose}
-use Rattle.cmis_words.specs.declared.words.Words.{Words}
+-- What a run of the program does: what it writes, and the status with which it ends.
+use Rattle.std.specs.Prelude.{◌≡◌, ◌⊎◌, ℕ, true, List, [], ◌∷◌, ◌++◌, codes, Option, Some, None, IfSome}
+use Rattle.outside.specs.Clocks.{Words, first_word, rest_words}
+use Rattle.outside.specs.Outside.{SourceTold, SinkTold, Took, Rose}
+use Rattle.http_reply.specs.Sent.{TookFront}
+use Rattle.cm_base.specs.declared.number.Moment.{Moment}
+use Rattle.cm_base.specs.declared.user.User.{User}
+use Rattle.cm_basetypes.specs.BaseTypes.{base_types}
+use Rattle.cm_call.specs.declared.write.Write.{Write}
+use Rattle.cm_call.specs.declared.question.Question.{Question}
+use Rattle.cmis_spec.specs.Repository.{Repository, opening}
+use Rattle.cm_face.specs.Faces.{shown_step, shown_answer}
+use Rattle.cm_face.specs.Requests.{called, least}
+use Rattle.http_caller.specs.Callers.{caller_of}
+use Rattle.http_wire.specs.Connections.{closes}
+use Rattle.desk_model.specs.Clocks.{moment_of}
+use Rattle.talk.specs.declared.end.End.{End}
+use Rattle.talk.specs.declared.end.End.TheVariants.{Ended, Bad, ReadFault, WriteFault, Starved}
+use Rattle.talk.specs.Served.{Kind, wire_of}
+use Rattle.talk.specs.Ran.{RunAlone}
+use Rattle.talk.specs.Talked.{rose}
+use Rattle.cmis_words.specs.declared.words.Words.{Words as Asked}
+use Rattle.cmis_words.specs.declared.words.Words.TheVariants.{Pipe}
 
--- some front of the text was taken
-abbrev pub TookFront : SinkTold → SinkTold → List ℕ → Type 0
-TookFront old new text = (front : List ℕ) × (rest : List ℕ) × (text ≡ front ++ rest) × Took old new front
+-- the repository as a session serves it: its step and its answers as they are sent, its step number, and how requests are read
+abbrev pub repository : Kind Repository Write Question
+repository = record { next = shown_step; answer = shown_answer; number = λ r. r.step; call = called; wire = wire_of caller_of least closes }
+
+-- the status of a session's end
+abbrev pub status_of : End → ℕ
+status_of Ended = 0
+status_of ReadFault = 3
+status_of WriteFault = 4
+status_of Starved = 7
+status_of (Bad fault) = 8
+
+-- A session over this opening and a clock with these words, with nobody beside it. A session that ends well or by a fault of its
+-- bytes is the session alone on all that the source had left.
+pub record Served (opened : Repository) (users : List User) (words : Option Words) (before : SourceTold) (empty : SinkTold) (after : SourceTold) (full : SinkTold) (status : ℕ) : Type 0 where
+  pub end : End
+  pub status_is : status ≡ status_of end
+  pub ran : RunAlone repository opened users words before empty after full end
+
+-- a clock that always gives this word
+abbrev pub always : ℕ → Words
+always word = record { coming = []; last = word }
+
+-- A moment that the words name is that of the root and of every write; else the first word of the clock is that of the root, and the session takes the next ones.
+abbrev pub Begins : Option Moment → Option Words → Moment → Option Words → Type 0
+Begins (Some at) clock root words = (root ≡ at) × ((word : ℕ) × (at ≡ moment_of word) × (words ≡ Some (always word)))
+Begins None clock root words = IfSome clock (λ w. (root ≡ moment_of (first_word w)) × (words ≡ Some (rest_words w)))
+
+-- a run that serves one session, over the repository with the root alone
+pub record Piped (users : List User) (at : Option Moment) (from : ℕ) (clock : Option Words) (before : SourceTold) (empty : SinkTold) (after : SourceTold) (full : SinkTold) (status : ℕ) : Type 0 where
+  pub root : Moment
+  pub words : Option Words
+  pub begins : Begins at clock root words
+  pub served : Served (opening base_types users root from) users words before empty after full status
 
 -- the text and a line end were written, with this status; or 4: the output failed in this call, and a front of them was written
 abbrev pub Wrote : List ℕ → ℕ → SinkTold → SinkTold → ℕ → Type 0
@@ -13,30 +63,20 @@ Wrote text due empty full status =
     ((status ≡ due) × Took empty full (text ++ 10 ∷ []))
     ⊎ ((status ≡ 4) × Rose empty.faults full.faults × TookFront empty full (text ++ 10 ∷ []))
 
--- 7: there was no memory, and nothing was read or written
-abbrev pub Starved : SourceTold → SourceTold → SinkTold → SinkTold → ℕ → Type 0
-Starved before after empty full status = (status ≡ 7) × (after ≡ before) × (full ≡ empty)
-
--- 0: the input had ended, and nothing was written
-abbrev pub Ended : SourceTold → SourceTold → SinkTold → SinkTold → ℕ → Type 0
-Ended before after empty full status = (status ≡ 0) × ReadsBytes before after [] 0 × (full ≡ empty)
-
--- 3: the input failed in this call, and nothing was written
-abbrev pub Unread : SourceTold → SourceTold → SinkTold → SinkTold → ℕ → Type 0
-Unread before after empty full status = (status ≡ 3) × Rose before.faults after.faults × (full ≡ empty)
-
--- 8: the input gave a byte, and the line that stands in place of replies was written
-abbrev pub Waiting : SourceTold → SourceTold → SinkTold → SinkTold → ℕ → Type 0
-Waiting before after empty full status =
-    ((byte : ℕ) × ReadsBytes before after (byte ∷ []) 1) × Wrote (codes "cmisd: requests are not answered yet") 8 empty full status
+-- 7: there was no memory to begin, and nothing was read or written
+abbrev pub Unbegun : SourceTold → SinkTold → SourceTold → SinkTold → ℕ → Type 0
+Unbegun before empty after full status = (status ≡ 7) × (after ≡ before) × (full ≡ empty)
 
 -- Of a run with these words. Other words than the program's read nothing, write one line and end with 2.
-abbrev pub Ran : Option Words → SourceTold → SourceTold → SinkTold → SinkTold → ℕ → Type 0
-Ran None before after empty full status =
-    Starved before after empty full status
+abbrev pub Ran : Option Asked → Option Words → SourceTold → SinkTold → SourceTold → SinkTold → ℕ → Type 0
+Ran None clock before empty after full status =
+    Unbegun before empty after full status
     ⊎ ((after ≡ before) × Wrote (codes "cmisd: words are not valid") 2 empty full status)
-Ran (Some asked) before after empty full status =
-    Starved before after empty full status
-    ⊎ (Ended before after empty full status
-    ⊎ (Unread before after empty full status
-    ⊎ Waiting before after empty full status))
+Ran (Some (Pipe asked)) clock before empty after full status =
+    Unbegun before empty after full status
+    ⊎ Piped asked.users asked.at asked.from clock before empty after full status
+
+-- 3 and 4 come only where the input, the output failed in this call
+pub record OnlyWhereFailed (before : SourceTold) (empty : SinkTold) (after : SourceTold) (full : SinkTold) (status : ℕ) : Type 0 where
+  pub input : status ≡ 3 → rose before.faults after.faults ≡ true
+  pub output : status ≡ 4 → rose empty.faults full.faults ≡ true

@@ -3,9 +3,10 @@
 
 ghost use Rattle.std.specs.Prelude.{◌≡◌};
 
-pub mod run;
-mod sending;
+mod pair;
+mod run;
 #[cfg(test)]
 mod tests;
 
+pub use pair::Pair;
 pub use run::run_once;

@@ -1,8 +1,7 @@
 //! Runs over sources and sinks in memory.
-use crate::run_once;
+use crate::{Pair, run_once};
 use outside::{FixedClock, MemSink, MemSource};
 use std::alloc::{AllocError, Global};
-use std::test::Fail;
 
 fn strings(alloc: Global, words: &[&str]) -> Result<Vec<String>, AllocError> {
     let mut all = Vec::new(alloc);
@@ -22,11 +21,13 @@ fn ran(
     held: &[u8],
 ) -> Result<bool, AllocError> {
     let words = strings(alloc, words)?;
-    let mut source = MemSource::new(alloc, input, reads)?;
-    let mut sink = MemSink::new(alloc, writes)?;
+    let mut link = Pair {
+        input: MemSource::new(alloc, input, reads)?,
+        output: MemSink::new(alloc, writes)?,
+    };
     let mut clock = FixedClock::new(0);
-    let ended = run_once(alloc, &words, &mut source, &mut sink, &mut clock);
-    Ok(ended == status && sink.held() == held)
+    let ended = run_once(alloc, &words, &mut link, &mut clock);
+    Ok(ended == status && link.output.held() == held)
 }
 
 #[test]
@@ -45,6 +46,10 @@ fn statuses(rt: HostRuntime) {
     assert_eq!(rt; ran(alloc, &[], b"", &[], &[0], 4, b""), Ok(true));
     assert_eq!(rt;
         ran(alloc, &["pipe", "admin:pw"], b"x", &[0], &[], 3, b""),
+        Ok(true)
+    );
+    assert_eq!(rt;
+        ran(alloc, &["pipe", "admin:pw"], b"x", &[], &[], 8, b""),
         Ok(true)
     );
 }
