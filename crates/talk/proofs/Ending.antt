@@ -1,5 +1,5 @@
 -- How a session ends, by its last step.
-use Rattle.std.proofs.Common.{◌≡◌, ◌≢◌, ℕ, ◌+◌, ◌≤◌, ◌⊎◌, Bool, true, false, List, [], ◌∷◌, ◌++◌, Option, Some, None, length, take, drop, refl, ap, sym, ◌∙◌, arith, append_assoc, subst, inl, inr}
+use Rattle.std.proofs.Common.{◌≡◌, ℕ, ◌+◌, ◌≤◌, ◌⊎◌, Bool, true, false, List, [], ◌∷◌, ◌++◌, Option, Some, length, take, drop, refl, ap, sym, ◌∙◌, arith, append_assoc, subst, inl, inr}
 use Rattle.std.specs.Prelude.{◌-◌, ◌^◌, min}
 use Rattle.std.specs.List.{filter}
 use Rattle.std.proofs.lemmas.Bool.{le-leb}
@@ -16,17 +16,16 @@ use Rattle.desk_model.specs.Histories.{own, is_by}
 use Rattle.desk_model.specs.Desks.{Known}
 use Rattle.http_grammar.specs.declared.fault.HttpFault.{HttpFault}
 use Rattle.http_grammar.specs.declared.fault.HttpFault.TheVariants.{BadHead, LongHead, LongBody, BadLength, Coding, Cut}
-use Rattle.http_grammar.specs.Request.{Head, Request}
+use Rattle.http_grammar.specs.Request.{Request}
 use Rattle.http_grammar.specs.First.{First, Whole, Fault, IsPending, HoldsHead}
 use Rattle.http_wire.specs.Answers.{NoneDue, BadAnswer}
 use Rattle.http_wire.specs.Buffers.{BufferTold}
-use Rattle.http_reply.specs.Sent.{TookFront}
 use Rattle.talk.specs.declared.end.End.{End}
 use Rattle.talk.specs.declared.end.End.TheVariants.{Ended, Bad, ReadFault, WriteFault, Starved}
 use Rattle.talk.specs.Wire.{Wire}
 use Rattle.talk.specs.Served.{Kind, ask_of}
 use Rattle.talk.specs.Requests.{rest_after, is_last, AreRequests, interim_of, Due, interim, HasFault, at_front, cut, fault_text, closed, at_border}
-use Rattle.talk.specs.Session.{Setting, Turn, AreTurns, requests, sent, entries, moments, listed, Ends, of_turn, of_fault, of_interim, Session}
+use Rattle.talk.specs.Session.{Turn, AreTurns, requests, sent, entries, moments, listed, Ends, of_turn, of_fault, of_interim}
 use Rattle.talk.specs.Told.{Told, ToldOrOneMore}
 use Rattle.talk.specs.Turned.{Turned, GoesOn, Stays, setting}
 use Rattle.talk.specs.Steps.{Standing, Lost, SentOrLost, ExpectsInterim, SendsReply, StepDoes, Steps}
@@ -240,7 +239,7 @@ lost-interim kind users o w source0 source sink0 sink sink' a b answered bytes f
     stays-talked kind users o w source0 source sink0 sink sink' a b answered bytes f.0 WriteFault fresh mine s same f.2 (λ t. t)
     (of_interim s.still_open e.head e.holds e.expects f.0 f.1 output, rose-by sink0.faults sink.faults sink'.faults s.took.later f.3)
 
-prefix-behind : {A : Type 0} (xs f g : List A) → IsPrefix f g → IsPrefix (xs ++ f) (xs ++ g)
+pub prefix-behind : {A : Type 0} (xs f g : List A) → IsPrefix f g → IsPrefix (xs ++ f) (xs ++ g)
 prefix-behind xs f g p = (p.0, append_assoc xs f p.0 ∙ ap (λ ys. xs ++ ys) p.1)
 
 lost-reply : {S C Q : Type 0} (kind : Kind S C Q) (users : List User) (o : Known S C) (w : Option Words) (source0 source : SourceTold) (sink0 sink sink' : SinkTold) (a b : Standing S C) (answered : Bool) (bytes : List ℕ) (after : BufferTold)

@@ -8,5 +8,6 @@ pub mod SmallRuns
 pub mod Turns
 pub mod SoFar
 pub mod Ending
+pub mod Fronts
 pub mod Running
 pub mod Stepping

@@ -22,11 +22,11 @@ same_arrived r q e =
     let b : r.size ≡ q.size = cc e in
     λ i. record { request = a i; size = b i }
 
-no_front : (a : List Arrived) (n : ℕ) → length a + n ≡ n → a ≡ []
+pub no_front : (a : List Arrived) (n : ℕ) → length a + n ≡ n → a ≡ []
 no_front [] n e = refl
 no_front (x ∷ xs) n e = absurd (omega (arith, e))
 
-le_or_gt : (m n : ℕ) → (m ≤ n) ⊎ (n < m)
+pub le_or_gt : (m n : ℕ) → (m ≤ n) ⊎ (n < m)
 le_or_gt m n = elim (cases_lt n m) [ inl lt ↦ inr lt | inr ge ↦ inl ge ]
 
 -- of two lists of requests at the front of one input, one begins the other
@@ -51,7 +51,7 @@ pub follows : (w : Wire) (input : List ℕ) (x : Arrived) (more rs : List Arrive
 follows w input x [] rs q = (x, q.1, q.2)
 follows w input x (m ∷ more) rs q = follows w input m more rs q.0
 
-open_closed : (w : Wire) (rs : List Arrived) → IsOpen w rs → IsClosed w rs → ⊥
+pub open_closed : (w : Wire) (rs : List Arrived) → IsOpen w rs → IsClosed w rs → ⊥
 open_closed w [] o c = c
 open_closed w (r ∷ rs) o c = cc
 

@@ -1,8 +1,9 @@
 -- A session of the first pass of a desk that begins with an opening is the session alone.
-use Rattle.std.proofs.Common.{IfSome, ◌≡◌, ℕ, ◌≤◌, Bool, true, List, [], ◌∷◌, ◌++◌, Option, Some, None, length, drop, take, refl, ap, sym, ◌∙◌, subst}
+use Rattle.std.proofs.Common.{IfSome, ◌≡◌, ℕ, Bool, true, List, [], ◌∷◌, ◌++◌, Option, Some, None, length, drop, refl, sym, ◌∙◌, subst}
 use Rattle.std.specs.Io.KnownBytes.{prepend_known, IsAtEnd}
+use mathlib.Core.List.{IsPrefix}
 use Rattle.outside.specs.Clocks.{Words, rest_words}
-use Rattle.outside.specs.Outside.{SourceTold, SinkTold, Gave, Took}
+use Rattle.outside.specs.Outside.{SourceTold, SinkTold, Gave}
 use Rattle.cm_base.specs.declared.number.Moment.{Moment}
 use Rattle.cm_base.specs.declared.user.User.{User}
 use Rattle.desk_model.specs.declared.entry.Entry.{Entry}
@@ -18,8 +19,9 @@ use Rattle.talk.specs.Talked.{Talked, TakesWords, rose}
 use Rattle.talk.specs.Alone.{Alone, IsFinal, alone_at}
 use Rattle.talk.specs.Ran.{RunAlone, IsAloneOnGiven}
 use Rattle.talk.proofs.ListFacts.{below-one}
-use Rattle.talk.proofs.WireLaws.{GrammarLaws}
+use Rattle.talk.proofs.WireLaws.{GrammarLaws, FrontLaws}
 use Rattle.talk.proofs.FromSession.{session-given, session-alone, session-cut-off}
+use Rattle.talk.proofs.Fronts.{lost-front}
 
 gives-end : (u : Words) (xs : List Moment) (w : Option Words) → Gives u xs w → (v : Words) × Gives u xs (Some v)
 gives-end u [] w h = (u, refl)
@@ -70,6 +72,16 @@ on-all kind opening users words after h input output left source source' times r
     subst (λ left. Alone kind opening users words left output end h) (sym m.2)
     (session-alone kind opening users (length h) h input m.0 source'.ended output times read_failed write_failed end words v.0 law s mine v.1 (none-left source' m.0 empty m.1) final)
 
+on-lost : {S C Q : Type 0} (kind : Kind S C Q) (opening : S) (users : List User) (words : Words) (after : Option Words) (h g : List (Entry C)) (input output left o : List ℕ) (source source' : SourceTold) (times : List Moment) (read_failed write_failed : Bool) (end stop : End)
+    → FrontLaws → GrammarLaws → Session kind (alone_at opening users) (length h) h input source'.ended output times read_failed write_failed end → own 0 0 h ≡ h → TakesWords end (Some words) times after
+    → Gave source source' input → end ≡ WriteFault → source.left ≡ Some left → Alone kind opening users words left o stop g → IsPrefix output o
+on-lost kind opening users words after h g input output left o source source' times read_failed write_failed end stop front law s mine told gave lost is a =
+    let s' = subst (λ e. Session kind (alone_at opening users) (length h) h input source'.ended output times read_failed write_failed e) lost s in
+    let v = gives-end words times after (subst (λ e. TakesWords e (Some words) times after) lost told) in
+    let m = some-more input left source'.left (sym is ∙ gave.left) in
+    lost-front kind opening users words v.0 (length h) h g input m.0 source'.ended output o times read_failed write_failed stop front law s' mine v.1
+    (subst (λ left. Alone kind opening users words left o stop g) m.2 a)
+
 same-alone : {S C : Type 0} (opening : S) (users : List User) (k : Known S C) → k.opening ≡ opening → k.caller ≡ 0 → k.seen ≡ [] → setting k users ≡ alone_at opening users
 same-alone opening users k o c s = λ i. record { opening = o i; users = users; number = c i; before = length (s i) }
 
@@ -77,11 +89,11 @@ all-own : {C : Type 0} (b c : ℕ) (h : List (Entry C)) → b ≡ 0 → c ≡ 1 
 all-own b c h is one below = below-one h (rw (is, one) at below)
 
 pub run-alone : {S C Q : Type 0} (kind : Kind S C Q) (opening : S) (users : List User) (k l : Known S C) (words after : Option Words) (source source' : SourceTold) (sink sink' : SinkTold) (callers : ℕ) (end : End)
-    → GrammarLaws → (now : Option Words) → Talked kind users k now source sink l after source' sink' end → now ≡ words
+    → FrontLaws → GrammarLaws → (now : Option Words) → Talked kind users k now source sink l after source' sink' end → now ≡ words
     → k.opening ≡ opening → k.base ≡ 0 → k.caller ≡ 0 → k.seen ≡ [] → callers ≡ 1 → CallersBelow callers (drop l.base l.seen)
     → (source'.ended ≡ true → IsAtEnd source'.left)
     → RunAlone kind opening users words source sink source' sink' end
-run-alone {S} {C} {Q} kind opening users k l words after source source' sink sink' callers end law now talked at o b c none one below empty = record {
+run-alone {S} {C} {Q} kind opening users k l words after source source' sink sink' callers end front law now talked at o b c none one below empty = record {
   journal = l.seen;
   input = t.input;
   output = t.output;
@@ -94,6 +106,7 @@ run-alone {S} {C} {Q} kind opening users k l words after source source' sink sin
   session = session;
   on_given = some-is words _ (λ w is. on-given kind opening users w after l.seen t.input t.output source'.ended t.times (rose source.faults source'.faults) (rose sink.faults sink'.faults) end law session mine (told w is));
   on_all = λ final. some-is words _ (λ w is. some-is source.left _ (λ left there. on-all kind opening users w after l.seen t.input t.output left source source' t.times (rose source.faults source'.faults) (rose sink.faults sink'.faults) end law session mine (told w is) t.gave empty final there));
+  on_lost = λ lost. some-is words _ (λ w is. some-is source.left _ (λ left there. λ o stop g a. on-lost kind opening users w after l.seen g t.input t.output left o source source' t.times (rose source.faults source'.faults) (rose sink.faults sink'.faults) end stop front law session mine (told w is) t.gave lost there a));
 }
   where
     t : Talked kind users k words source sink l after source' sink' end

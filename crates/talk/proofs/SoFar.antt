@@ -1,9 +1,8 @@
 -- A session up to one of its steps, and after one step more.
-use Rattle.std.proofs.Common.{◌≡◌, ◌≢◌, ℕ, ◌+◌, ◌≤◌, ◌<◌, ◌==◌, Bool, true, false, List, [], ◌∷◌, ◌++◌, Option, Some, None, length, take, drop, refl, ap, sym, ◌∙◌, arith, append_assoc, length-append, subst, inl, inr}
+use Rattle.std.proofs.Common.{◌≡◌, ◌≢◌, ℕ, ◌+◌, ◌<◌, ◌==◌, Bool, true, false, List, [], ◌∷◌, ◌++◌, Option, Some, None, length, take, drop, refl, ap, sym, ◌∙◌, arith, append_assoc, subst, inl, inr}
 use Rattle.std.specs.Prelude.{◌-◌, ◌*◌, ◌||◌}
 use Rattle.std.proofs.lemmas.Bool.{eqb-false}
 use Rattle.std.proofs.lemmas.List.{append-nil}
-use mathlib.Core.List.{IsPrefix}
 use Rattle.outside.specs.Clocks.{Words, rest_words}
 use Rattle.outside.specs.Outside.{SourceTold, SinkTold, Gave, Took}
 use Rattle.outside.proofs.Known.{Gave-then, Gave-none, Took-then, Took-none}
@@ -19,7 +18,7 @@ use Rattle.http_wire.specs.Buffers.{BufferTold}
 use Rattle.talk.specs.Wire.{Wire}
 use Rattle.talk.specs.Served.{Kind, Ask, faulty, writes, reads, ask_of}
 use Rattle.talk.specs.Requests.{rest_after, is_last, IsOpen, AreRequests, interim_of, Due, interim, no_interim}
-use Rattle.talk.specs.Session.{Setting, Turn, Does, Accepted, Refused, ahead, refused, AreTurns, requests, sent, entries, last_place, moments, listed, timed}
+use Rattle.talk.specs.Session.{Setting, Turn, Does, Accepted, Refused, ahead, refused, AreTurns, requests, sent, entries, last_place, moments, listed}
 use Rattle.talk.specs.Told.{Told}
 use Rattle.talk.specs.Turned.{Turned, GoesOn, setting}
 use Rattle.talk.specs.Steps.{Standing, SendsInterim, SendsReply, StepDoes, Steps}
@@ -128,7 +127,7 @@ pub due-begun : (w : Wire) (answered : Bool) (bytes text : List ℕ) → NoneDue
 due-begun w answered bytes text none (was_sent head is holds expects said) = interim head holds expects said
 due-begun w answered bytes text none (not_sent is said) = no_interim (λ head holds. is_false (expects_continue head) answered is (none head holds)) said
 
-interim-true : (w : Wire) (head : Head) → expects_continue head ≡ true → w.interim_text ≡ interim_of w head
+pub interim-true : (w : Wire) (head : Head) → expects_continue head ≡ true → w.interim_text ≡ interim_of w head
 interim-true w head e = rw e refl
 
 interim-false : (w : Wire) (head : Head) → expects_continue head ≡ false → [] ≡ interim_of w head

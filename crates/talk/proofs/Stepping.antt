@@ -1,26 +1,19 @@
 -- One step, by what was read.
-use Rattle.std.proofs.Common.{◌≡◌, ◌≢◌, ℕ, ◌⊎◌, Bool, true, List, [], ◌++◌, Option, Some, None, Result, Ok, Err, OnOk, OnErr, refl, sym, ap, ◌∙◌, subst, inl, inr}
-use Rattle.outside.specs.Outside.{SourceTold, SinkTold, Gave, Took, Rose, HasCause}
-use Rattle.cm_base.specs.declared.cause.Cause.{Cause}
+use Rattle.std.proofs.Common.{◌≡◌, ◌≢◌, ℕ, Bool, List, ◌++◌, Option, Some, None, Ok, Err, refl, sym, subst, inl, inr}
+use Rattle.outside.specs.Outside.{SourceTold, SinkTold}
 use Rattle.cm_base.specs.declared.user.User.{User}
 use Rattle.http_grammar.specs.declared.fault.HttpFault.{HttpFault}
 use Rattle.http_grammar.specs.declared.fault.HttpFault.TheVariants.{BadHead, LongHead, LongBody, BadLength, Coding, Cut}
 use Rattle.http_grammar.specs.Request.{Head, Request}
 use Rattle.http_grammar.specs.First.{First, Fault}
-use Rattle.http_reply.specs.Replies.{reply_text, cause_shown, fault_cause}
-use Rattle.http_reply.specs.Sent.{TookFront}
 use Rattle.http_wire.specs.Answers.{ReadsRequest, NoneDue, BadAnswer}
 use Rattle.http_wire.specs.Buffers.{BufferTold}
-use Rattle.http_wire.specs.declared.fault.WireStop.{WireStop}
 use Rattle.http_wire.specs.declared.fault.WireStop.TheVariants as stops
-use Rattle.http_wire.specs.declared.incoming.Incoming.{Incoming}
 use Rattle.http_wire.specs.declared.incoming.Incoming.TheVariants as incoming
 use Rattle.talk.specs.declared.end.End.{End}
 use Rattle.talk.specs.declared.end.End.TheVariants.{Ended, Bad, ReadFault, WriteFault, Starved}
-use Rattle.talk.specs.Wire.{Wire}
-use Rattle.talk.specs.Served.{Kind, wire_of}
-use Rattle.talk.specs.Requests.{fault_text}
-use Rattle.talk.specs.Steps.{Standing, Lost, SentOrLost, Refuses, SendsContinue, AnswersRequest, StepDoes, Steps}
+use Rattle.talk.specs.Served.{Kind}
+use Rattle.talk.specs.Steps.{Standing, SentOrLost, Refuses, SendsContinue, AnswersRequest, Steps}
 use Rattle.talk.proofs.Turns.{stays-put}
 
 -- what the last write changed nothing of

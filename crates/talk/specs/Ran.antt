@@ -1,5 +1,6 @@
 -- A session with nobody beside it, over an opening.
 use Rattle.std.specs.Prelude.{◌≡◌, List, ℕ, length, Option, IfSome}
+use mathlib.Core.List.{IsPrefix}
 use Rattle.outside.specs.Clocks.{Words}
 use Rattle.outside.specs.Outside.{SourceTold, SinkTold, Gave, Took}
 use Rattle.cm_base.specs.declared.number.Moment.{Moment}
@@ -22,8 +23,8 @@ IsAloneOnGiven kind opening users words input output h ReadFault = (end : End) �
 IsAloneOnGiven kind opening users words input output h WriteFault = Unit {0}
 IsAloneOnGiven kind opening users words input output h Starved = Unit {0}
 
--- What it tells. All of its history is its own, and it is a session over that.
--- Where the clock tells its words: it is the session alone on the bytes that were given, and, where the source tells what it had left, on all of it.
+-- What it tells. All of its history is its own, and it is a session over that. Where the clock tells its words, it is the session alone on the bytes that were given;
+-- and where the source tells what it had left, also on all of it. Where a write failed, a front was sent of what the session alone on all of it sends.
 pub record RunAlone {S C Q : Type 0} (kind : Kind S C Q) (opening : S) (users : List User) (words : Option Words) (source : SourceTold) (sink : SinkTold) (source' : SourceTold) (sink' : SinkTold) (end : End) : Type 0 where
   pub journal : List (Entry C)
   pub input : List ℕ
@@ -37,3 +38,4 @@ pub record RunAlone {S C Q : Type 0} (kind : Kind S C Q) (opening : S) (users : 
   pub session : Session kind (alone_at opening users) (length journal) journal input source'.ended output times (rose source.faults source'.faults) (rose sink.faults sink'.faults) end
   pub on_given : IfSome words (λ w. IsAloneOnGiven kind opening users w input output journal end)
   pub on_all : IsFinal end → IfSome words (λ w. IfSome source.left (λ left. Alone kind opening users w left output end journal))
+  pub on_lost : end ≡ WriteFault → IfSome words (λ w. IfSome source.left (λ left. (o : List ℕ) (stop : End) (h : List (Entry C)) → Alone kind opening users w left o stop h → IsPrefix output o))

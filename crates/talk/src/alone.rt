@@ -9,8 +9,8 @@ use crate::session::talk;
 use cm_base::user::Users;
 use desk_model::{OneDesk, Version};
 use http_grammar::{
-    fault_holds_its_head, first_is_kept, held_head_has_bytes, held_head_is_kept, held_head_is_one,
-    request_lies_within, whole_request_holds_its_head,
+    fault_holds_its_head, first_is_kept, first_is_one, held_head_has_bytes, held_head_is_kept,
+    held_head_is_one, request_lies_within, whole_request_holds_its_head,
 };
 use outside::{Clock, Gate, Link};
 use std::alloc::{AllocError, Global};
@@ -28,6 +28,7 @@ pub fn run_alone<M: Served, C: Clock + Drop, L: Link, G: Gate>(
         (L.Source.told link.old) (L.Sink.told link.old) (L.Source.told link.new) (L.Sink.told link.new)) }
     ensures untouched { OnErr result ((L.Source.told link.new ≡ L.Source.told link.old) × (L.Sink.told link.new ≡ L.Sink.told link.old)) }
 {
+    first_is_one();
     first_is_kept();
     request_lies_within();
     held_head_is_one();

@@ -1,4 +1,4 @@
-use Rattle.std.proofs.Common.{◌≡◌, ◌∙◌, ◌+◌, ap, length}
+use Rattle.std.proofs.Common.{◌∙◌, ◌+◌, ap, length}
 use Rattle.talk.specs.Served.{wire_of}
 use Rattle.talk.proofs.WireLaws.{GrammarLaws}
 use Rattle.talk.proofs.Running.{run-alone}
@@ -20,7 +20,7 @@ returns-clause-ran g c =
       fault_head = c.fault_holds_its_head.ensures;
     } in
     run-alone (record { next = g.M.Machine.next; answer = g.M.Machine.answer; number = g.M.Machine.number; call = g.M.Served.call; wire = wire_of g.M.Served.user g.M.Served.least g.M.Served.closes })
-    c.args.opening c.args.users.now _ _ _ _ _ _ _ _ _ _ law _ c.talk.ensures.talked
+    c.args.opening c.args.users.now _ _ _ _ _ _ _ _ _ _ (record { one = c.first_is_one.ensures; within = c.request_lies_within.ensures }) law _ c.talk.ensures.talked
     (ap (λ d. d.words) made ∙ ap (λ d. d.words) desk)
     (new.2 ∙ (ap (λ d. d.opening) desk ∙ ap (λ v. v.opening) version))
     (new.1 ∙ (ap (λ d. d.base) desk ∙ ap (λ v. length v.journal) version))

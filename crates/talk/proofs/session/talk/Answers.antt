@@ -1,6 +1,5 @@
-use Rattle.std.proofs.Common.{◌≡◌, ◌∙◌, refl, sym, arith, subst, inl}
-use Rattle.desk_model.specs.Desks.{IsSound}
-use Rattle.talk.specs.Served.{Kind, wire_of}
+use Rattle.std.proofs.Common.{◌∙◌, refl, arith}
+use Rattle.talk.specs.Served.{wire_of}
 use Rattle.talk.proofs.SoFar.{so-far-none, so-far-more, counts}
 use Rattle.talk.proofs.Ending.{talked-at, starved-at-once}
 use Rattle.talk.proofs.session.talk.Goals as goal
