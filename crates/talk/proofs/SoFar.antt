@@ -31,7 +31,8 @@ pub data IsInterim (w : Wire) (answered : Bool) (bytes text : List ℕ) : Type 0
   was_sent : (head : Head) → answered ≡ true → HoldsHead bytes head → expects_continue head ≡ true → text ≡ w.interim_text → IsInterim w answered bytes text
   not_sent : answered ≡ false → text ≡ [] → IsInterim w answered bytes text
 
--- the turns up to now, with what is given and sent since the session began: at the pass that knew o, the words w, and these tales of the link
+-- The turns up to now, and what the link gave and took for them since the session began. Then its pass knew o, its clock had the words w, and its link told source0 and sink0.
+-- Begun is the interim reply that was sent before the next reply, or nothing.
 pub record SoFar {S C Q : Type 0} (kind : Kind S C Q) (users : List User) (o : Known S C) (w : Option Words) (source0 : SourceTold) (sink0 : SinkTold)
     (a : Standing S C) (answered : Bool) (bytes : List ℕ) (source : SourceTold) (sink : SinkTold) : Type 0 where
   pub input : List ℕ
