@@ -1,1 +1,5 @@
+pub mod Asked
+pub mod Causes
+pub mod Distinct
 pub mod Found
+pub mod Named

@@ -1,1 +1,3 @@
 pub mod Rules
+pub mod Firsts
+pub mod Named

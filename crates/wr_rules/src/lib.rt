@@ -1,2 +1,12 @@
 //! What the refusals and effects of writes share.
 #![tactic(auto)]
+
+ghost use Rattle.std.specs.Prelude.{◌≡◌};
+
+pub mod costs;
+pub mod entries;
+pub mod firsts;
+pub mod kinds;
+pub mod policies;
+pub mod properties;
+pub mod storage;

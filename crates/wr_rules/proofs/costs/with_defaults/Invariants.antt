@@ -1,0 +1,6 @@
+use Rattle.std.proofs.Common.{◌≡◌, ◌+◌, take}
+use Rattle.wr_rules.specs.Rules.{bounded, defaults_cost}
+use Rattle.wr_rules.proofs.costs.with_defaults.Given as goal
+
+abbrev pub invariant-loop-def : goal.invariant-loop-def
+invariant-loop-def l = l.total ≡ bounded (l.initial.so_far + defaults_cost (take l.def-index l.defs) l.given)

@@ -1,0 +1,7 @@
+use Rattle.std.proofs.Common.{◌≡◌, ◌+◌, map, take}
+use Rattle.std.specs.Prelude.{sum}
+use Rattle.wr_rules.specs.Rules.{bounded, scalar_cost}
+use Rattle.wr_rules.proofs.costs.with_scalars.Given as goal
+
+abbrev pub invariant-loop-scalar : goal.invariant-loop-scalar
+invariant-loop-scalar l = l.total ≡ bounded (l.initial.so_far + sum (map scalar_cost (take l.scalar-index l.scalars)))
