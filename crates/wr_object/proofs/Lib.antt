@@ -1,1 +1,3 @@
 pub mod CreateFolder
+pub mod Made
+pub mod Parted

@@ -1,1 +1,2 @@
 pub mod CreateFolder
+pub mod Parts

@@ -1,0 +1,7 @@
+//! The repository of one thread: its writes and its questions.
+#![tactic(auto)]
+
+ghost use Rattle.std.specs.Prelude.{◌≡◌};
+
+pub mod calls;
+pub mod plain;

@@ -1,0 +1,266 @@
+//! createFolder (CMIS 1.1, section 2.2.4.3).
+ghost use Rattle.std.specs.Prelude.{◌≡◌, ◌+◌, ◌<◌, ◌^◌, ◌&&◌, not, ℕ, List, [], Some, None, Ok, IfOk, filter, unwrap_or, option_map, is_some, true};
+ghost use Rattle.cm_base.specs.declared.object.Object.{Object};
+ghost use Rattle.cm_base.specs.Judged.{Leaves, Writes};
+ghost use Rattle.cm_types.specs.declared.given.PropertyCall.TheVariants as calls;
+ghost use Rattle.cm_types.specs.Types.{type_in};
+ghost use Rattle.cm_types.specs.Properties.{judge_properties, kept_values, is_set};
+ghost use Rattle.cm_call.specs.declared.question.PropertyFilter.TheVariants as filters;
+ghost use Rattle.cm_call.specs.declared.reply.Reply.TheVariants as replies;
+ghost use Rattle.cm_call.specs.declared.write.Write.TheVariants as writes;
+ghost use Rattle.cm_call.specs.Weight.{weight_of};
+ghost use Rattle.cm_show.specs.Addressed.{addressed};
+ghost use Rattle.cm_show.specs.Shown.{shown_object};
+ghost use Rattle.cmis_spec.specs.Repository.{new_number, object_at};
+ghost use Rattle.cmis_spec.specs.Values.{is_apart, kept_beside};
+ghost use Rattle.cmis_spec.specs.Well.{IsWellFormed};
+ghost use Rattle.wr_object.specs.CreateFolder.{folder_props, cost_create_folder, refusal_create_folder, new_folder, after_create_folder, acknowledgement_create_folder};
+ghost use Rattle.wr_object.specs.Parts.{wanted_in, judge_found, refusal_in_parts, parent_of};
+
+use crate::folder_rules::{judge_kinds, judge_name, judge_place, judge_values};
+use crate::wanted::{Wanted, wanted_by};
+use cm_base::cause::Cause;
+use cm_base::copies::Copies;
+use cm_base::fail::Fail;
+use cm_base::items::Items;
+use cm_base::number::{Moment, Oid};
+use cm_base::object::Object;
+use cm_base::text::Text;
+use cm_base::value::{Slot, Value, Values};
+use cm_call::question::PropertyFilter;
+use cm_call::reply::{ObjectReply, Reply};
+use cm_call::write::CreateFolder;
+use cm_show::address::addressed;
+use cm_show::shown::shown_object;
+use cm_state::state::State;
+use cm_types::definition::TypeDef;
+use std::alloc::{AllocError, Global};
+use wr_rules::costs::with_defaults;
+use wr_rules::entries::new_aces;
+use wr_rules::kinds::judge_types;
+use wr_rules::policies::{judge_read, policies_in};
+use wr_rules::storage::judge_storage;
+
+fn cost_of(state: &State, weight: u64, call: &CreateFolder, wanted: &Wanted) -> u64
+    requires weight { weight ≡ weight_of (writes.CreateFolder call.now) }
+    requires wanted { wanted.now ≡ wanted_in state.now.types call.now.properties }
+    ensures { result ≡ cost_create_folder state.now call.now }
+{
+    match state.types().find(&wanted.kind) {
+        Some(_) => with_defaults(weight, wanted.defs.as_slice(), call.properties.as_slice()),
+        None => weight,
+    }
+}
+
+// All lines of the refusal but those that find the parent and the type.
+#[tactic(auto, using(cm_types::proofs::Exits::fails_then))]
+fn judge_found(
+    alloc: Global,
+    state: &State,
+    user: &Text,
+    call: &CreateFolder,
+    wanted: &Wanted,
+    parent: &Object,
+    kind: &TypeDef,
+) -> Result<Values, Fail>
+    ensures { Leaves result (judge_found state.now user.now call.now wanted.now parent.now kind.now) (kept_values calls.Create wanted.now.defs [] call.now.properties) }
+{
+    judge_kinds(
+        alloc,
+        state,
+        user,
+        call.policies.as_slice(),
+        wanted.secondary.as_slice(),
+        parent,
+        kind,
+    )?;
+    judge_place(state, call, parent, kind)?;
+    let values = judge_values(alloc, &wanted.defs, &call.properties)?;
+    judge_name(state, call, parent.id, &wanted.name)?;
+    Ok(values)
+}
+
+// The number of the parent and the values of the folder, or the cause of the refusal.
+#[tactic(auto, using(cm_types::proofs::Exits::fails_then, cm_types::proofs::Exits::fails_bind))]
+fn judge_parts(
+    alloc: Global,
+    state: &State,
+    user: &Text,
+    cost: u64,
+    call: &CreateFolder,
+    wanted: &Wanted,
+) -> Result<(Oid, Values), Fail>
+    ensures { Writes result (refusal_in_parts state.now user.now cost call.now wanted.now) (parent_of state.now user.now call.now) (kept_values calls.Create wanted.now.defs [] call.now.properties) }
+{
+    judge_storage(state, cost)?;
+    let parent = addressed(state, user, &call.place).ok_or(Cause::NotFound)?;
+    judge_read(state, user, call.policies.as_slice())?;
+    let kind = state.types().find(&wanted.kind).ok_or(Cause::TypeNotFound)?;
+    judge_types(state.types(), wanted.secondary.as_slice())?;
+    let values = judge_found(alloc, state, user, call, wanted, parent, kind)?;
+    Ok((parent.id, values))
+}
+
+fn judge(
+    alloc: Global,
+    state: &State,
+    user: &Text,
+    moment: Moment,
+    cost: u64,
+    call: &CreateFolder,
+    wanted: &Wanted,
+) -> Result<(Oid, Values), Fail>
+    requires { wanted.now ≡ wanted_in state.now.types call.now.properties }
+    ensures { Writes result (refusal_create_folder state.now user.now moment cost call.now) (parent_of state.now user.now call.now) (kept_values calls.Create wanted.now.defs [] call.now.properties) }
+{
+    let _ = moment;
+    judge_parts(alloc, state, user, cost, call, wanted)
+}
+
+fn is_apart(id: &Text) -> bool
+    ensures { result ≡ is_apart id.now }
+{
+    id.is_str("cmis:name")
+        || id.is_str("cmis:objectTypeId")
+        || id.is_str("cmis:secondaryObjectTypeIds")
+}
+
+fn is_set(value: &Value) -> bool
+    ensures { result ≡ is_set value.now }
+{
+    match value {
+        Value::Unset => false,
+        _ => true,
+    }
+}
+
+fn is_beside(slot: &Slot) -> bool
+    ensures { result ≡ (not (is_apart slot.now.id) && is_set slot.now.value) }
+{
+    !is_apart(&slot.id) && is_set(&slot.value)
+}
+
+fn only_beside(slots: Vec<Slot>) -> Vec<Slot>
+    ensures { result.items ≡ filter (λ s. not (is_apart s.id) && is_set s.value) slots.items }
+{
+    let mut slots = slots;
+    slots.retain(|s| is_beside(s));
+    slots
+}
+
+fn kept_beside(values: Values) -> Values
+    ensures { result ≡ kept_beside values }
+{
+    Items::from_vec(only_beside(values.into_vec()))
+}
+
+fn new_folder(
+    alloc: Global,
+    state: &State,
+    user: &Text,
+    moment: Moment,
+    wanted: Wanted,
+    values: Values,
+) -> Result<Object, AllocError>
+    requires room { state.now.step + 1 < 2 ^ 64 }
+    ensures { IfOk result (λ x. x ≡ record { id = new_number state.now; kind = wanted.kind; name = Some wanted.name; secondary = wanted.secondary; values = kept_beside values; maker = user.now; made = moment; changer = user.now; changed = moment; token = state.now.step + 1; series = None }) }
+{
+    Ok(Object {
+        id: Oid(state.next_number()),
+        kind: wanted.kind,
+        name: Some(wanted.name),
+        secondary: wanted.secondary,
+        values: kept_beside(values),
+        maker: user.copied(alloc)?,
+        made: moment,
+        changer: user.copied(alloc)?,
+        changed: moment,
+        token: state.step() + 1,
+        series: None,
+    })
+}
+
+fn with_folder(
+    alloc: Global,
+    state: &State,
+    user: &Text,
+    moment: Moment,
+    cost: u64,
+    call: &CreateFolder,
+    object: Object,
+    parent: Oid,
+) -> Result<State, AllocError>
+    requires allowed { refusal_create_folder state.now user.now moment cost call.now ≡ Ok tt }
+    requires object { object ≡ new_folder state.now user.now moment call.now }
+    requires parent { parent ≡ parent_of state.now user.now call.now }
+    ensures { IfOk result (λ s. s ≡ after_create_folder state.now user.now moment cost call.now) }
+{
+    let _step = state.step();
+    let aces = new_aces(alloc, user, call.remove.as_slice(), call.add.as_slice())?;
+    let policies = policies_in(alloc, state, user, call.policies.as_slice())?;
+    let policies = policies.as_slice();
+    let made = state.with_child(alloc, object, aces, policies, parent, cost, moment)?;
+    Ok(made)
+}
+
+// The reply that shows an object which was just made.
+fn acknowledged(
+    alloc: Global,
+    made: &State,
+    user: &Text,
+    succinct: bool,
+    number: Oid,
+) -> Result<Reply, AllocError>
+    requires there { is_some (object_at made.now number) ≡ true }
+    ensures { IfOk result (λ a. (x : Object) → object_at made.now number ≡ Some x → a ≡ replies.Object (record { object = shown_object made.now user.now filters.All succinct x; created = true })) }
+{
+    let x = made.object(number).unwrap();
+    let object = shown_object(alloc, made, user, &PropertyFilter::All, succinct, x)?;
+    Ok(Reply::Object(ObjectReply {
+        object,
+        created: true,
+    }))
+}
+
+// The state, with the reply that shows what was just made in it.
+fn with_reply(
+    alloc: Global,
+    made: State,
+    user: &Text,
+    succinct: bool,
+    number: Oid,
+) -> Result<(State, Reply), AllocError>
+    requires there { is_some (object_at made number) ≡ true }
+    ensures same { IfOk result (λ a. a.0 ≡ made) }
+    ensures shown { IfOk result (λ a. (x : Object) → object_at made number ≡ Some x → a.1 ≡ replies.Object (record { object = shown_object made user.now filters.All succinct x; created = true })) }
+{
+    let reply = acknowledged(alloc, &made, user, succinct, number)?;
+    Ok((made, reply))
+}
+
+/// Makes a folder. The cost is the weight of the call, which the caller knows, and the default values that the folder takes.
+///
+/// The answer is the first cause that refuses the call, or the repository after it and the new folder as the caller sees it there.
+pub fn create_folder(
+    alloc: Global,
+    state: &State,
+    user: &Text,
+    moment: Moment,
+    weight: u64,
+    call: &CreateFolder,
+) -> Result<(State, Reply), Fail>
+    requires { weight ≡ weight_of (writes.CreateFolder call.now) }
+    ensures written { Writes result (refusal_create_folder state.now user.now moment (cost_create_folder state.now call.now) call.now) (after_create_folder state.now user.now moment (cost_create_folder state.now call.now) call.now) (acknowledgement_create_folder state.now user.now moment (cost_create_folder state.now call.now) call.now) }
+    ensures well { IfOk result (λ x. IsWellFormed x.0) }
+{
+    let _step = state.step();
+    let wanted = wanted_by(alloc, state.types(), call.properties.as_slice())?;
+    let cost = cost_of(state, weight, call, &wanted);
+    let (parent, values) = judge(alloc, state, user, moment, cost, call, &wanted)?;
+    let object = new_folder(alloc, state, user, moment, wanted, values)?;
+    let made = with_folder(alloc, state, user, moment, cost, call, object, parent)?;
+    let number = Oid(state.next_number());
+    let (next, reply) = with_reply(alloc, made, user, call.succinct, number)?;
+    let _next_step = next.step();
+    Ok((next, reply))
+}

@@ -1,0 +1,183 @@
+//! The rules of createFolder, part by part.
+ghost use Rattle.std.specs.Prelude.{◌≡◌, ◌<◌, ◌&&◌, ◌||◌, not, [], IfOk, nat_le, nat_lt, length};
+ghost use Rattle.cm_base.specs.Judged.{Meets, Leaves};
+ghost use Rattle.cm_types.specs.declared.definition.BaseType.TheVariants as bases;
+ghost use Rattle.cm_types.specs.declared.given.PropertyCall.TheVariants as calls;
+ghost use Rattle.cm_types.specs.Types.{same_base};
+ghost use Rattle.cm_types.specs.Properties.{judge_properties, kept_values};
+ghost use Rattle.cmis_spec.specs.Repository.{is_a, most_levels, depth_of};
+ghost use Rattle.wr_rules.specs.Rules.{has_other_policy, has_other_secondary, has_unknown_permission, has_entries};
+ghost use Rattle.wr_object.specs.CreateFolder.{is_uncontrollable};
+ghost use Rattle.wr_object.specs.Parts.{judge_kinds, judge_place, judge_name};
+
+use cm_base::access::Level;
+use cm_base::cause::Cause;
+use cm_base::fail::Fail;
+use cm_base::items::Items;
+use cm_base::name::name_ok;
+use cm_base::number::Oid;
+use cm_base::object::Object;
+use cm_base::text::Text;
+use cm_base::value::Values;
+use cm_call::write::CreateFolder;
+use cm_rules::check::check_new;
+use cm_see::level::lacks;
+use cm_see::tree::depth_of;
+use cm_state::state::State;
+use cm_type_list::types::Types;
+use cm_types::definition::{BaseType, TypeDef};
+use cm_types::given::Givens;
+use cm_types::property::PropDefs;
+use std::alloc::{AllocError, Global};
+use wr_rules::entries::{has_entries, has_unknown_permission};
+use wr_rules::kinds::{bars_child, has_other_secondary};
+use wr_rules::policies::has_other_policy;
+
+fn is_wrong_place(state: &State, user: &Text, parent: &Object, policies: &[Text]) -> bool
+    ensures { result ≡ (not (is_a state.now bases.Folder parent.now) || has_other_policy state.now user.now policies.now) }
+{
+    !state.is_a(BaseType::Folder, parent) || has_other_policy(state, user, policies)
+}
+
+fn is_folder_type(kind: &TypeDef) -> bool
+    ensures { result ≡ same_base bases.Folder kind.now.base }
+{
+    match kind.base {
+        BaseType::Folder => true,
+        _ => false,
+    }
+}
+
+fn is_wrong_type(
+    alloc: Global,
+    types: &Types,
+    kind: &TypeDef,
+    secondary: &[Text],
+) -> Result<bool, AllocError>
+    ensures { IfOk result (λ b. b ≡ (not (same_base bases.Folder kind.now.base) || has_other_secondary types.now secondary.now)) }
+{
+    if !is_folder_type(kind) {
+        return Ok(true);
+    }
+    has_other_secondary(alloc, types, secondary)
+}
+
+/// The caller may write in the parent, and a folder of the type may be made there.
+pub(crate) fn judge_kinds(
+    alloc: Global,
+    state: &State,
+    user: &Text,
+    policies: &[Text],
+    secondary: &[Text],
+    parent: &Object,
+    kind: &TypeDef,
+) -> Result<(), Fail>
+    ensures { Meets (λ x. x) result (judge_kinds state.now user.now policies.now secondary.now parent.now kind.now) }
+{
+    if lacks(state, user, Level::Write, parent) {
+        return Err(Fail::Refused(Cause::Denied));
+    }
+    if is_wrong_place(state, user, parent, policies) {
+        return Err(Fail::Refused(Cause::WrongKind));
+    }
+    let is_wrong = is_wrong_type(alloc, state.types(), kind, secondary)?;
+    if is_wrong {
+        return Err(Fail::Refused(Cause::TypeKind));
+    }
+    if !kind.creatable {
+        return Err(Fail::Refused(Cause::NotCreatable));
+    }
+    Ok(())
+}
+
+#[tactic(auto, unfolding(cmis_spec::specs::Repository::most_levels))]
+fn most_levels() -> u64
+    ensures { result ≡ most_levels }
+{
+    48
+}
+
+fn is_deep(state: &State, parent: Oid) -> bool
+    ensures { result ≡ nat_le most_levels (depth_of state.now parent) }
+{
+    most_levels() <= depth_of(state, parent)
+}
+
+fn bars_policies(kind: &TypeDef, call: &CreateFolder) -> bool
+    ensures { result ≡ (not kind.now.controllable_policy && nat_lt 0 (length call.now.policies)) }
+{
+    !kind.controllable_policy && call.policies.len() > 0
+}
+
+fn asks_entries(call: &CreateFolder) -> bool
+    ensures { result ≡ (has_entries call.now.remove || has_entries call.now.add) }
+{
+    has_entries(call.remove.as_slice()) || has_entries(call.add.as_slice())
+}
+
+fn bars_entries(kind: &TypeDef, call: &CreateFolder) -> bool
+    ensures { result ≡ (not kind.now.controllable_acl && (has_entries call.now.remove || has_entries call.now.add)) }
+{
+    !kind.controllable_acl && asks_entries(call)
+}
+
+fn is_uncontrollable(kind: &TypeDef, call: &CreateFolder) -> bool
+    ensures { result ≡ is_uncontrollable kind.now call.now }
+{
+    bars_policies(kind, call) || bars_entries(kind, call)
+}
+
+/// The parent takes a folder of the type, and the type lets what is asked be applied to it. Takes no memory.
+pub(crate) fn judge_place(
+    state: &State,
+    call: &CreateFolder,
+    parent: &Object,
+    kind: &TypeDef,
+) -> Result<(), Cause>
+    ensures { result ≡ judge_place state.now call.now parent.now kind.now }
+{
+    if bars_child(state, parent, &kind.id) {
+        return Err(Cause::ChildType);
+    }
+    if is_deep(state, parent.id) {
+        return Err(Cause::Deep);
+    }
+    if is_uncontrollable(kind, call) {
+        return Err(Cause::NotControllable);
+    }
+    Ok(())
+}
+
+/// The values of the new object, or the first fault of the given properties.
+pub(crate) fn judge_values(alloc: Global, defs: &PropDefs, given: &Givens) -> Result<Values, Fail>
+    ensures { Leaves result (judge_properties calls.Create defs.now [] given.now) (kept_values calls.Create defs.now [] given.now) }
+{
+    check_new(alloc, defs, &Items::new(alloc), given)
+}
+
+fn has_unknown(call: &CreateFolder) -> bool
+    ensures { result ≡ (has_unknown_permission call.now.remove || has_unknown_permission call.now.add) }
+{
+    has_unknown_permission(call.remove.as_slice()) || has_unknown_permission(call.add.as_slice())
+}
+
+/// The entries that are asked for and the name are right, and no other child of the parent has the name. Takes no memory.
+pub(crate) fn judge_name(
+    state: &State,
+    call: &CreateFolder,
+    parent: Oid,
+    name: &Text,
+) -> Result<(), Cause>
+    ensures { result ≡ judge_name state.now call.now parent name.now }
+{
+    if has_unknown(call) {
+        return Err(Cause::Permission);
+    }
+    if !name_ok(name.bytes()) {
+        return Err(Cause::BadName);
+    }
+    if state.is_taken(parent, Oid(state.next_number()), name) {
+        return Err(Cause::NameTaken);
+    }
+    Ok(())
+}
