@@ -1,0 +1,13 @@
+//! Whole sessions through the top call, in memory: what is sent, and each byte that comes back.
+#![tactic(auto)]
+
+#[cfg(test)]
+mod drip;
+#[cfg(test)]
+mod faults;
+#[cfg(test)]
+mod folders;
+#[cfg(test)]
+mod readings;
+#[cfg(test)]
+mod row;
