@@ -4,4 +4,5 @@
 ghost use Rattle.std.specs.Prelude.{◌≡◌};
 
 pub mod calls;
+pub mod law;
 pub mod plain;
