@@ -15,6 +15,9 @@ use std::test::Fail;
 const BAD_HEAD: &[u8] =
     b"HTTP/1.1 400 Bad Request\r\nContent-Type: application/json\r\nContent-Length: 61\r\nConnection: close\r\n\r\n{\"exception\":\"invalidArgument\",\"message\":\"head is not valid\"}";
 
+const LONG_HEAD: &[u8] =
+    b"HTTP/1.1 431 Request Header Fields Too Large\r\nContent-Type: application/json\r\nContent-Length: 60\r\nConnection: close\r\n\r\n{\"exception\":\"invalidArgument\",\"message\":\"head is too long\"}";
+
 const LONG_BODY: &[u8] =
     b"HTTP/1.1 413 Payload Too Large\r\nContent-Type: application/json\r\nContent-Length: 60\r\nConnection: close\r\n\r\n{\"exception\":\"invalidArgument\",\"message\":\"body is too long\"}";
 
@@ -236,6 +239,63 @@ fn good_requests(rt: HostRuntime) -> Result<(), Fail> {
             assert_eq!(rt; sink.held(), want, "by {most}");
         }
     }
+    Ok(())
+}
+
+#[test]
+fn long_heads(rt: HostRuntime) -> Result<(), Fail> {
+    let alloc = rt.alloc();
+    let open = vec![in alloc; b'a'; 65_535]?;
+    assert_eq!(rt; sent(alloc, &open, 4096)?.held(), b"".as_slice());
+    let long = vec![in alloc; b'a'; 65_536]?;
+    for most in [1, 2, 3, 7, 4096] {
+        assert_eq!(rt; sent(alloc, &long, most)?.held(), LONG_HEAD, "by {most}");
+    }
+    Ok(())
+}
+
+// A head whose Host field has so many bytes.
+fn with_host(alloc: Global, len: usize) -> Result<Vec<u8>, AllocError> {
+    let host = vec![in alloc; b'a'; len]?;
+    let mut head = Vec::from_slice(alloc, b"GET / HTTP/1.1\r\nHost: ")?;
+    head.extend_from_slice(&host)?;
+    head.extend_from_slice(b"\r\nConnection: close\r\n\r\n")?;
+    Ok(head)
+}
+
+#[test]
+fn long_hosts(rt: HostRuntime) -> Result<(), Fail> {
+    let alloc = rt.alloc();
+    let longest = with_host(alloc, 255)?;
+    let longer = with_host(alloc, 256)?;
+    for most in [1, 2, 3, 7, 4096] {
+        assert_eq!(rt;
+            sent(alloc, &longest, most)?.held(),
+            b"HTTP/1.1 200 OK\r\nContent-Type: text/plain\r\nContent-Length: 0\r\nConnection: close\r\n\r\n".as_slice()
+        );
+        assert_eq!(rt; sent(alloc, &longer, most)?.held(), BAD_HEAD);
+    }
+    Ok(())
+}
+
+// A body whose trailers have so many bytes, and no end.
+fn with_trailers(alloc: Global, len: usize) -> Result<Vec<u8>, AllocError> {
+    let trailers = vec![in alloc; b'a'; len]?;
+    let mut bytes = Vec::from_slice(
+        alloc,
+        b"P / HTTP/1.1\r\nHost: x\r\nTransfer-Encoding: chunked\r\n\r\n0\r\n",
+    )?;
+    bytes.extend_from_slice(&trailers)?;
+    Ok(bytes)
+}
+
+#[test]
+fn long_trailers(rt: HostRuntime) -> Result<(), Fail> {
+    let alloc = rt.alloc();
+    let open = with_trailers(alloc, 65_535)?;
+    assert_eq!(rt; sent(alloc, &open, 4096)?.held(), b"".as_slice());
+    let long = with_trailers(alloc, 65_536)?;
+    assert_eq!(rt; sent(alloc, &long, 4096)?.held(), BAD_LENGTH);
     Ok(())
 }
 
