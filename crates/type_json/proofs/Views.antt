@@ -1,6 +1,8 @@
 -- Arrays and objects seen as lists.
-use Rattle.std.proofs.Common.{◌≡◌, ◌∙◌, Bool, ◌&&◌, ◌||◌, List, [], ◌∷◌, map, refl, ap}
+use Rattle.std.proofs.Common.{◌≡◌, ◌∙◌, ◌+◌, ◌<◌, Bool, ◌&&◌, ◌||◌, List, [], ◌∷◌, ◌++◌, map, take, length, get_or, refl, ap}
 use Rattle.std.specs.Prelude.{ℕ, Option, filter_map, string_bytes, String}
+use Rattle.std.proofs.lemmas.List.{take_more, map-append}
+use Rattle.std.proofs.lemmas.List.Elements.{filter_map-append}
 use Rattle.std.specs.List.{list_all, list_any, cons_option}
 use Rattle.std.specs.declared.alloc.Global.{Global}
 use Rattle.serde_json.specs.Data.{Data}
@@ -31,3 +33,11 @@ map_members f (m ∷ ms) = ap (λ l. f (string_bytes m.0, view m.1) ∷ l) (map_
 pub any_members : (p : List ℕ × Data → Bool) (ms : List (String Global × Value)) → list_any p (pairs_of (members_view ms)) ≡ list_any (λ m. p (string_bytes m.0, view m.1)) ms
 any_members p [] = refl
 any_members p (m ∷ ms) = ap (λ b. p (string_bytes m.0, view m.1) || b) (any_members p ms)
+
+-- one more value, where its function gives something
+pub kept_more : {A : Type 0} (f : Data → Option A) (vs : List Value) (i : ℕ) (d : Value) → i < length vs
+    → filter_map f (map view (take (i + 1) vs)) ≡ filter_map f (map view (take i vs)) ++ filter_map f (view (get_or vs i d) ∷ [])
+kept_more f vs i d lt =
+    ap (λ l. filter_map f (map view l)) (take_more vs i d lt)
+    ∙ ap (filter_map f) (map-append view (take i vs) (get_or vs i d ∷ []))
+    ∙ filter_map-append f (map view (take i vs)) (view (get_or vs i d) ∷ [])

@@ -15,7 +15,7 @@ use Rattle.cm_types.specs.declared.property.PropertyKind.TheVariants as kinds
 use Rattle.cm_types.specs.declared.request.PropRequest.{PropRequest}
 use Rattle.cm_types.specs.declared.request.MutabilityRequest.{MutabilityRequest}
 use Rattle.cm_types.specs.declared.request.TypeRequest.{TypeRequest}
-use Rattle.cm_types.specs.Changes.{made_prop, has_wrong_value, gives_many}
+use Rattle.cm_types.specs.Changes.{made_props, has_wrong_value, gives_many}
 use Rattle.type_json.specs.Words.{content_of, kind_of, cardinality_of, updatability_of, is_id, is_query_name}
 use Rattle.type_json.specs.declared.kind.KeyKind.{KeyKind}
 use Rattle.type_json.specs.declared.kind.KeyKind.TheVariants as keys
@@ -301,13 +301,13 @@ abbrev pub has_wrong_names : Data → Bool
 has_wrong_names d = has_wrong_name d || list_any (λ p. has_wrong_name p.1) (props_in d)
 
 -- a default value of several items for a single property; a default value or a choice with a fault of its own
-abbrev pub has_wrong_values : PropRequest → Bool
-has_wrong_values p = gives_many p || has_wrong_value (made_prop p)
+abbrev pub have_wrong_values : List PropRequest → Bool
+have_wrong_values ps = list_any gives_many ps || list_any has_wrong_value (made_props ps)
 
 -- the request, where no property definition has wrong values
 abbrev pub judge_values : Data → Judged TypeRequest
 judge_values d = do
-  refuse causes.BadTypeText (list_any has_wrong_values (prop_requests d))
+  refuse causes.BadTypeText (have_wrong_values (prop_requests d))
   Ok (type_request d)
 
 -- the request of a value, or BadTypeText

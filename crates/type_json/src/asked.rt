@@ -166,6 +166,7 @@ fn push_text(alloc: Global, all: &mut Texts, value: &Value) -> Result<(), AllocE
     }
 }
 
+#[tactic(auto, using(crate::proofs::Views::kept_more))]
 fn texts_of(alloc: Global, values: &[Value]) -> Result<Texts, AllocError>
     ensures { IfOk result (λ all. all ≡ filter_map as_str (map view values.now)) }
 {
@@ -222,6 +223,7 @@ fn push_scalar(
     }
 }
 
+#[tactic(auto, using(crate::proofs::Views::kept_more))]
 fn scalars_of(alloc: Global, kind: PropertyKind, values: &[Value]) -> Result<Scalars, AllocError>
     ensures { IfOk result (λ all. all ≡ filter_map (scalar_of kind) (map view values.now)) }
 {
@@ -288,6 +290,7 @@ fn push_choice(
     }
 }
 
+#[tactic(auto, using(crate::proofs::Views::kept_more))]
 fn choices_of(alloc: Global, kind: PropertyKind, values: &[Value]) -> Result<Choices, AllocError>
     ensures { IfOk result (λ all. all ≡ filter_map (choice_of kind) (map view values.now)) }
 {
@@ -348,10 +351,21 @@ fn content_in(value: &Value) -> Option<ContentAllowed>
     }
 }
 
+fn own_choices(alloc: Global, value: &Value) -> Result<Option<Choices>, AllocError>
+    ensures { IfOk result (λ o. o ≡ choices_in (prop_kind (view value.now)) (codes "choice") (view value.now)) }
+{
+    choices_in(alloc, kind_in(value), value, "choice")
+}
+
+fn own_default(alloc: Global, value: &Value) -> Result<Option<Scalars>, AllocError>
+    ensures { IfOk result (λ o. o ≡ scalars_in (prop_kind (view value.now)) (codes "defaultValue") (view value.now)) }
+{
+    scalars_in(alloc, kind_in(value), value, "defaultValue")
+}
+
 fn prop_request(alloc: Global, value: &Value) -> Result<PropRequest, AllocError>
     ensures { IfOk result (λ p. p ≡ prop_request (view value.now)) }
 {
-    let kind = kind_in(value);
     Ok(PropRequest {
         id: Text::from_str(alloc, id_in(value))?,
         local_name: own_text(alloc, value, "localName")?,
@@ -359,15 +373,15 @@ fn prop_request(alloc: Global, value: &Value) -> Result<PropRequest, AllocError>
         display_name: own_text(alloc, value, "displayName")?,
         query_name: own_text(alloc, value, "queryName")?,
         description: own_text(alloc, value, "description")?,
-        kind,
+        kind: kind_in(value),
         cardinality: cardinality_in(value),
         updatability: updatability_in(value),
         required: flag_in(value, "required"),
         queryable: flag_in(value, "queryable"),
         orderable: flag_in(value, "orderable"),
         open_choice: flag_in(value, "openChoice"),
-        choices: choices_in(alloc, kind, value, "choice")?,
-        default: scalars_in(alloc, kind, value, "defaultValue")?,
+        choices: own_choices(alloc, value)?,
+        default: own_default(alloc, value)?,
         max_length: whole_in(value, "maxLength"),
         min_value: whole_in(value, "minValue"),
         max_value: whole_in(value, "maxValue"),

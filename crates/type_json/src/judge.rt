@@ -1,9 +1,10 @@
 //! Why a value asks for no type.
-ghost use Rattle.std.specs.Prelude.{◌≡◌, ◌||◌, ◌&&◌, not, List, ℕ, IfOk, map, option_map, unwrap_or, bytes_eq, codes};
+ghost use Rattle.std.specs.Prelude.{◌≡◌, ◌||◌, ◌&&◌, not, List, ℕ, IfOk, map, option_map, unwrap_or, bytes_eq, string_bytes, codes};
 ghost use Rattle.std.specs.List.{list_any};
 ghost use Rattle.serde_json.specs.View.{view, members_view};
 ghost use Rattle.cm_base.specs.Judged.{Meets};
-ghost use Rattle.type_json.specs.Reading.{pairs_of, text_in, id_in, base_in, props_in, type_keys, prop_keys, has_wrong_key, lacks, lacks_prop_key, lacks_parent, lacks_key, has_other_key, has_wrong_kind, has_wrong_name, has_wrong_names, has_wrong_values, judge_values, judge_type, judge_type_text};
+ghost use Rattle.cm_types.specs.Changes.{gives_many, has_wrong_value, made_props};
+ghost use Rattle.type_json.specs.Reading.{pairs_of, text_in, id_in, base_in, props_in, type_keys, prop_keys, has_wrong_key, lacks, lacks_prop_key, lacks_parent, lacks_key, has_other_key, has_wrong_kind, has_wrong_name, has_wrong_names, have_wrong_values, judge_values, judge_type, judge_type_text};
 ghost use Rattle.type_json.specs.Words.{is_query_name};
 
 use crate::asked::{base_in, id_in, props_of, text_in, type_request};
@@ -11,8 +12,10 @@ use crate::shape::{has_wrong_prop_key, has_wrong_type_key, is_object, value_at};
 use crate::word::{is_id, is_query_name};
 use cm_base::cause::Cause;
 use cm_base::fail::Fail;
+use cm_base::items::Items;
 use cm_type_list::made::made_prop;
 use cm_type_list::rules::{gives_many, has_wrong_value};
+use cm_types::property::{PropDef, PropDefs};
 use cm_types::request::{PropRequest, TypeRequest};
 use json_text::read::{ReadStop, read_value};
 use serde_json::{Map, Value};
@@ -39,18 +42,24 @@ fn lacks_parent(value: &Value) -> bool
     lacks(value, "parentId") && !(id_in(value).as_bytes() == base_in(value).as_bytes())
 }
 
-#[tactic(auto, using(crate::proofs::Views::any_members))]
 fn each_lacks(members: &Map<String, Value>) -> bool
-    ensures { result ≡ list_any (λ p. lacks_prop_key p.1) (pairs_of (members_view members.now.entries)) }
+    ensures { result ≡ list_any (λ m. lacks_prop_key (view m.1)) members.now.entries }
 {
     members.iter().any(|m| lacks_prop_key(m.1))
+}
+
+#[tactic(auto, using(crate::proofs::Views::any_members))]
+fn some_lacks(members: &Map<String, Value>) -> bool
+    ensures { result ≡ list_any (λ p. lacks_prop_key p.1) (pairs_of (members_view members.now.entries)) }
+{
+    each_lacks(members)
 }
 
 fn prop_lacks(value: &Value) -> bool
     ensures { result ≡ list_any (λ p. lacks_prop_key p.1) (props_in (view value.now)) }
 {
     match props_of(value) {
-        Some(members) => each_lacks(members),
+        Some(members) => some_lacks(members),
         None => false,
     }
 }
@@ -67,34 +76,46 @@ fn is_other_id(value: &Value, key: &str) -> bool
     !(id_in(value).as_bytes() == key.as_bytes())
 }
 
-#[tactic(auto, using(crate::proofs::Views::any_members))]
 fn each_other_key(members: &Map<String, Value>) -> bool
-    ensures { result ≡ list_any (λ p. not (bytes_eq (id_in p.1) p.0)) (pairs_of (members_view members.now.entries)) }
+    ensures { result ≡ list_any (λ m. not (bytes_eq (id_in (view m.1)) (string_bytes m.0))) members.now.entries }
 {
     members.iter().any(|m| is_other_id(m.1, m.0.as_str()))
+}
+
+#[tactic(auto, using(crate::proofs::Views::any_members))]
+fn some_other_key(members: &Map<String, Value>) -> bool
+    ensures { result ≡ list_any (λ p. not (bytes_eq (id_in p.1) p.0)) (pairs_of (members_view members.now.entries)) }
+{
+    each_other_key(members)
 }
 
 fn has_other_key(value: &Value) -> bool
     ensures { result ≡ has_other_key (view value.now) }
 {
     match props_of(value) {
-        Some(members) => each_other_key(members),
+        Some(members) => some_other_key(members),
         None => false,
     }
 }
 
-#[tactic(auto, using(crate::proofs::Views::any_members))]
 fn each_wrong_kind(members: &Map<String, Value>) -> bool
-    ensures { result ≡ list_any (λ p. has_wrong_key prop_keys p.1) (pairs_of (members_view members.now.entries)) }
+    ensures { result ≡ list_any (λ m. has_wrong_key prop_keys (view m.1)) members.now.entries }
 {
     members.iter().any(|m| has_wrong_prop_key(m.1))
+}
+
+#[tactic(auto, using(crate::proofs::Views::any_members))]
+fn some_wrong_kind(members: &Map<String, Value>) -> bool
+    ensures { result ≡ list_any (λ p. has_wrong_key prop_keys p.1) (pairs_of (members_view members.now.entries)) }
+{
+    each_wrong_kind(members)
 }
 
 fn prop_has_wrong_kind(value: &Value) -> bool
     ensures { result ≡ list_any (λ p. has_wrong_key prop_keys p.1) (props_in (view value.now)) }
 {
     match props_of(value) {
-        Some(members) => each_wrong_kind(members),
+        Some(members) => some_wrong_kind(members),
         None => false,
     }
 }
@@ -120,18 +141,24 @@ fn has_wrong_name(value: &Value) -> bool
     !is_id(id_in(value)) || !is_query_name(query_name_in(value))
 }
 
-#[tactic(auto, using(crate::proofs::Views::any_members))]
 fn each_wrong_name(members: &Map<String, Value>) -> bool
-    ensures { result ≡ list_any (λ p. has_wrong_name p.1) (pairs_of (members_view members.now.entries)) }
+    ensures { result ≡ list_any (λ m. has_wrong_name (view m.1)) members.now.entries }
 {
     members.iter().any(|m| has_wrong_name(m.1))
+}
+
+#[tactic(auto, using(crate::proofs::Views::any_members))]
+fn some_wrong_name(members: &Map<String, Value>) -> bool
+    ensures { result ≡ list_any (λ p. has_wrong_name p.1) (pairs_of (members_view members.now.entries)) }
+{
+    each_wrong_name(members)
 }
 
 fn prop_has_wrong_name(value: &Value) -> bool
     ensures { result ≡ list_any (λ p. has_wrong_name p.1) (props_in (view value.now)) }
 {
     match props_of(value) {
-        Some(members) => each_wrong_name(members),
+        Some(members) => some_wrong_name(members),
         None => false,
     }
 }
@@ -142,28 +169,44 @@ fn has_wrong_names(value: &Value) -> bool
     has_wrong_name(value) || prop_has_wrong_name(value)
 }
 
-fn either(a: bool, b: bool) -> bool
-    ensures { result ≡ (a || b) }
+fn give_many(requests: &[PropRequest]) -> bool
+    ensures { result ≡ list_any gives_many requests.now }
 {
-    a || b
+    requests.iter().any(|r| gives_many(r))
 }
 
-fn has_wrong_values(alloc: Global, request: &PropRequest) -> Result<bool, AllocError>
-    ensures { IfOk result (λ b. b ≡ has_wrong_values request.now) }
+fn are_wrong(defs: &[PropDef]) -> bool
+    ensures { result ≡ list_any has_wrong_value defs.now }
 {
-    let made = made_prop(alloc, request)?;
-    Ok(gives_many(request) || has_wrong_value(&made))
+    defs.iter().any(|d| has_wrong_value(d))
+}
+
+fn made_all(alloc: Global, requests: &[PropRequest]) -> Result<PropDefs, AllocError>
+    ensures { IfOk result (λ all. all ≡ made_props requests.now) }
+{
+    let mut all = Items::new(alloc);
+    for request in requests {
+        let def = made_prop(alloc, request)?;
+        all.push(def)?;
+    }
+    Ok(all)
+}
+
+fn made_wrong(alloc: Global, requests: &[PropRequest]) -> Result<bool, AllocError>
+    ensures { IfOk result (λ b. b ≡ list_any has_wrong_value (made_props requests.now)) }
+{
+    let made = made_all(alloc, requests)?;
+    let wrong = are_wrong(made.as_slice());
+    Ok(wrong)
 }
 
 fn have_wrong_values(alloc: Global, requests: &[PropRequest]) -> Result<bool, AllocError>
-    ensures { IfOk result (λ b. b ≡ list_any has_wrong_values requests.now) }
+    ensures { IfOk result (λ b. b ≡ have_wrong_values requests.now) }
 {
-    let mut found = false;
-    for request in requests {
-        let here = has_wrong_values(alloc, request)?;
-        found = either(found, here);
+    if give_many(requests) {
+        return Ok(true);
     }
-    Ok(found)
+    made_wrong(alloc, requests)
 }
 
 // What is asked, where the values of the properties have no fault.
