@@ -3,10 +3,9 @@
 
 ghost use Rattle.std.specs.Prelude.{◌≡◌};
 
-mod pair;
+mod lent;
 mod run;
 #[cfg(test)]
 mod tests;
 
-pub use pair::Pair;
 pub use run::run_once;

@@ -10,6 +10,7 @@ ghost use Rattle.cmis_words.specs.Bounds.{IsMoment};
 ghost use Rattle.http_reply.specs.Sent.{TookFront};
 ghost use Rattle.cmis_app.specs.Runs.{status_of, Begins, OnlyWhereFailed, always, Wrote, Unbegun, Served, Piped, Ran};
 
+use crate::lent::Lent;
 use cm_base::number::Moment;
 use cm_base::user::Users;
 use cm_face::face::Face;
@@ -19,7 +20,7 @@ use cmis_words::laws::words_are_bounded;
 use cmis_words::words::{Pipe, Words, WordsStop, read_words};
 use desk_model::moment_of_word;
 use http_reply::send;
-use outside::{Clock, FixedClock, Link, OpenGate};
+use outside::{Clock, FixedClock, Link, OpenGate, Sink, Source};
 use std::alloc::Global;
 use talk::{End, run_alone};
 
@@ -33,6 +34,7 @@ const WANTS_MEMORY: u8 = 7;
 fn refused<L: Link>(link: &mut L) -> u8
     ensures line { Wrote (codes "cmisd: words are not valid") 2 (L.Sink.told link.old) (L.Sink.told link.new) result }
     ensures unread { L.Source.told link.new ≡ L.Source.told link.old }
+    ensures stands_for { L.stands_for link.new ≡ L.stands_for link.old }
 {
     match send(link, NOT_VALID.as_bytes()) {
         Ok(()) => 2,
@@ -60,8 +62,9 @@ fn serve<L: Link, C: Clock + Drop>(
     users: &Users,
     link: &mut L,
 ) -> u8
-    ensures { Unbegun (L.Source.told link.old) (L.Sink.told link.old) (L.Source.told link.new) (L.Sink.told link.new) result
+    ensures ran { Unbegun (L.Source.told link.old) (L.Sink.told link.old) (L.Source.told link.new) (L.Sink.told link.new) result
         ⊎ Served opening users.now (C.words clock) (L.Source.told link.old) (L.Sink.told link.old) (L.Source.told link.new) (L.Sink.told link.new) result }
+    ensures stands_for { L.stands_for link.new ≡ L.stands_for link.old }
 {
     match run_alone::<Face, C, L, OpenGate>(alloc, opening, clock, users, link, &OpenGate) {
         Ok(end) => status_of(end),
@@ -83,8 +86,9 @@ fn word_of(moment: Moment) -> u64
 fn at_moment<L: Link>(alloc: Global, users: &Users, moment: Moment, from: u64, link: &mut L) -> u8
     requires moment { IsMoment moment }
     requires from { from ≤ 1048576 }
-    ensures { Unbegun (L.Source.told link.old) (L.Sink.told link.old) (L.Source.told link.new) (L.Sink.told link.new) result
+    ensures ran { Unbegun (L.Source.told link.old) (L.Sink.told link.old) (L.Source.told link.new) (L.Sink.told link.new) result
         ⊎ ((word : ℕ) × (moment ≡ moment_of word) × Served (opening base_types users.now moment from) users.now (Some (always word)) (L.Source.told link.old) (L.Sink.told link.old) (L.Source.told link.new) (L.Sink.told link.new) result) }
+    ensures stands_for { L.stands_for link.new ≡ L.stands_for link.old }
 {
     let word = word_of(moment);
     match open(alloc, users, moment, from) {
@@ -103,8 +107,9 @@ fn by_clock<L: Link, C: Clock>(
     clock: &mut C,
 ) -> u8
     requires from { from ≤ 1048576 }
-    ensures { Unbegun (L.Source.told link.old) (L.Sink.told link.old) (L.Source.told link.new) (L.Sink.told link.new) result
+    ensures ran { Unbegun (L.Source.told link.old) (L.Sink.told link.old) (L.Source.told link.new) (L.Sink.told link.new) result
         ⊎ Piped users.now None from (C.words clock.old) (L.Source.told link.old) (L.Sink.told link.old) (L.Source.told link.new) (L.Sink.told link.new) result }
+    ensures stands_for { L.stands_for link.new ≡ L.stands_for link.old }
 {
     let root = moment_of_word(clock.now());
     match open(alloc, users, root, from) {
@@ -117,8 +122,9 @@ fn by_clock<L: Link, C: Clock>(
 fn piped<L: Link, C: Clock>(alloc: Global, asked: &Pipe, link: &mut L, clock: &mut C) -> u8
     requires at { IfSome asked.now.at IsMoment }
     requires from { asked.now.from ≤ 1048576 }
-    ensures { Unbegun (L.Source.told link.old) (L.Sink.told link.old) (L.Source.told link.new) (L.Sink.told link.new) result
+    ensures ran { Unbegun (L.Source.told link.old) (L.Sink.told link.old) (L.Source.told link.new) (L.Sink.told link.new) result
         ⊎ Piped asked.now.users asked.now.at asked.now.from (C.words clock.old) (L.Source.told link.old) (L.Sink.told link.old) (L.Source.told link.new) (L.Sink.told link.new) result }
+    ensures stands_for { L.stands_for link.new ≡ L.stands_for link.old }
 {
     match asked.at {
         Some(moment) => at_moment(alloc, &asked.users, moment, asked.from, link),
@@ -129,6 +135,7 @@ fn piped<L: Link, C: Clock>(alloc: Global, asked: &Pipe, link: &mut L, clock: &m
 // Runs the program with these words.
 fn run_words<L: Link, C: Clock>(alloc: Global, words: &[String], link: &mut L, clock: &mut C) -> u8
     ensures ran { Ran (words_of (map string_bytes words.now)) (C.words clock.old) (L.Source.told link.old) (L.Sink.told link.old) (L.Source.told link.new) (L.Sink.told link.new) result }
+    ensures stands_for { L.stands_for link.new ≡ L.stands_for link.old }
 {
     words_are_bounded();
     match read_words(alloc, words) {
@@ -138,19 +145,29 @@ fn run_words<L: Link, C: Clock>(alloc: Global, words: &[String], link: &mut L, c
     }
 }
 
+// The same, and what the statuses of the sides that failed say.
+fn run_link<L: Link, C: Clock>(alloc: Global, words: &[String], link: &mut L, clock: &mut C) -> u8
+    ensures ran { Ran (words_of (map string_bytes words.now)) (C.words clock.old) (L.Source.told link.old) (L.Sink.told link.old) (L.Source.told link.new) (L.Sink.told link.new) result }
+    ensures failed { OnlyWhereFailed (L.Source.told link.old) (L.Sink.told link.old) (L.Source.told link.new) (L.Sink.told link.new) result }
+    ensures stands_for { L.stands_for link.new ≡ L.stands_for link.old }
+{
+    run_words(alloc, words, link, clock)
+}
+
 /// Runs the program with these words, and answers its status.
 ///
 /// 0: the session ended well. 2: the words are not valid. 3, 4: the input, the output failed. 7: memory was wanted.
 /// 8: the bytes of a request have a fault.
-
-pub fn run_once<L: Link, C: Clock>(
+pub fn run_once<I: Source, O: Sink, C: Clock>(
     alloc: Global,
     words: &[String],
-    link: &mut L,
+    input: &mut I,
+    output: &mut O,
     clock: &mut C,
 ) -> u8
-    ensures ran { Ran (words_of (map string_bytes words.now)) (C.words clock.old) (L.Source.told link.old) (L.Sink.told link.old) (L.Source.told link.new) (L.Sink.told link.new) result }
-    ensures failed { OnlyWhereFailed (L.Source.told link.old) (L.Sink.told link.old) (L.Source.told link.new) (L.Sink.told link.new) result }
+    ensures ran { Ran (words_of (map string_bytes words.now)) (C.words clock.old) (I.told input.old) (O.told output.old) (I.told input.new) (O.told output.new) result }
+    ensures failed { OnlyWhereFailed (I.told input.old) (O.told output.old) (I.told input.new) (O.told output.new) result }
 {
-    run_words(alloc, words, link, clock)
+    let mut link = Lent { input, output };
+    run_link(alloc, words, &mut link, clock)
 }

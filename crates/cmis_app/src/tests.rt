@@ -1,5 +1,5 @@
 //! Runs over sources and sinks in memory.
-use crate::{Pair, run_once};
+use crate::run_once;
 use outside::{FixedClock, MemSink, MemSource};
 use std::alloc::{AllocError, Global};
 
@@ -21,13 +21,11 @@ fn ran(
     held: &[u8],
 ) -> Result<bool, AllocError> {
     let words = strings(alloc, words)?;
-    let mut link = Pair {
-        input: MemSource::new(alloc, input, reads)?,
-        output: MemSink::new(alloc, writes)?,
-    };
+    let mut source = MemSource::new(alloc, input, reads)?;
+    let mut sink = MemSink::new(alloc, writes)?;
     let mut clock = FixedClock::new(0);
-    let ended = run_once(alloc, &words, &mut link, &mut clock);
-    Ok(ended == status && link.output.held() == held)
+    let ended = run_once(alloc, &words, &mut source, &mut sink, &mut clock);
+    Ok(ended == status && sink.held() == held)
 }
 
 #[test]

@@ -1,7 +1,7 @@
 //! The program: it makes the real objects, calls the top call and ends with its status.
 #![tactic(auto)]
 
-use cmis_app::{Pair, run_once};
+use cmis_app::run_once;
 use real_edge::{StdSink, StdSource, SystemClock};
 use std::alloc::{AllocError, Global};
 use std::env;
@@ -24,12 +24,16 @@ fn main(rt: HostRuntime) -> ExitCode {
     };
     match words {
         Ok(words) => {
-            let mut link = Pair {
-                input: StdSource::new(rt.stdin()),
-                output: StdSink::new(rt.stdout()),
-            };
+            let mut input = StdSource::new(rt.stdin());
+            let mut output = StdSink::new(rt.stdout());
             let mut clock = SystemClock::new(&rt);
-            ExitCode::from(run_once(alloc, &words, &mut link, &mut clock))
+            ExitCode::from(run_once(
+                alloc,
+                &words,
+                &mut input,
+                &mut output,
+                &mut clock,
+            ))
         }
         Err(_) => ExitCode::from(7),
     }

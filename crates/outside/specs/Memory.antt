@@ -13,6 +13,11 @@ pub record MemSourceTold : Type 0 where
   pub failing : List ℕ
   pub calls : ℕ
 
+-- a source in memory of which a read gives so many bytes at most
+pub record DripTold : Type 0 where
+  pub source : MemSourceTold
+  pub most : ℕ
+
 -- a sink in memory: the bytes that it holds, how many it has room for before it must grow, its count of faults,
 -- the numbers of the writes that are to fail, and how many writes there were
 pub record MemSinkTold : Type 0 where

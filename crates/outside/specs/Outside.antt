@@ -1,5 +1,5 @@
--- What a source has left and has given, and what a sink holds, where those are told; and the counts of faults.
-use Rattle.std.specs.Prelude.{◌≡◌, ℕ, ◌+◌, ◌-◌, ◌^◌, ◌<◌, ◌≤◌, min, Bool, true, false, List, length, take, Ok, Err, Result, OnErr}
+-- What a source has left and has given, and what a sink holds, where those are told; the counts of faults; and what a call leaves alone.
+use Rattle.std.specs.Prelude.{◌≡◌, ℕ, ◌+◌, ◌-◌, ◌^◌, ◌<◌, ◌≤◌, min, Bool, true, false, List, [], length, take, Some, Ok, Err, Result, OnErr}
 use Rattle.std.specs.Io.KnownBytes.{prepend_known, append_known, IsAtEnd}
 use Rattle.std.specs.declared.option.Option.{Option}
 
@@ -23,6 +23,24 @@ pub record SourceTold : Type 0 where
   pub given : Option (List ℕ)
   pub ended : Bool
   pub faults : ℕ
+
+-- what no read changes: what the sink of a link tells, and the references that the value holds, by their ghost names
+pub record KeptByReads : Type 0 where
+  pub sink : SinkTold
+  pub stands_for : List ℕ
+
+-- what no write changes: what the source of a link tells, and the references that the value holds, by their ghost names
+pub record KeptByWrites : Type 0 where
+  pub source : SourceTold
+  pub stands_for : List ℕ
+
+-- what no read changes at a source alone that holds no reference
+abbrev pub nothing_beside_source : KeptByReads
+nothing_beside_source = record { sink = record { held = Some []; faults = 0 }; stands_for = [] }
+
+-- what no write changes at a sink alone that holds no reference
+abbrev pub nothing_beside_sink : KeptByWrites
+nothing_beside_sink = record { source = record { left = Some []; given = Some []; ended = false; faults = 0 }; stands_for = [] }
 
 -- the bytes of a read that gave n
 pub record ReadsBytes (old new : SourceTold) (bytes : List ℕ) (n : ℕ) : Type 0 where

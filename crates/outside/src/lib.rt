@@ -3,6 +3,7 @@
 #![tactic(auto)]
 
 mod clock;
+mod drip;
 mod gate;
 mod mem_link;
 mod mem_sink;
@@ -12,6 +13,7 @@ mod tests;
 mod traits;
 
 pub use clock::{Clock, FixedClock, ListClock};
+pub use drip::Drip;
 pub use gate::{Gate, OpenGate};
 pub use mem_link::MemLink;
 pub use mem_sink::MemSink;

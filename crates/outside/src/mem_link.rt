@@ -58,7 +58,7 @@ impl MemLink {
 impl Source for MemLink {
     ghost told = { λ l. source_told l.source };
 
-    ghost aside = { λ l. sink_told l.sink };
+    ghost aside = { λ l. record { sink = sink_told l.sink; stands_for = [] } };
 
     ghost end_is_empty = { λ l e. rw e refl };
 
@@ -80,7 +80,7 @@ impl Source for MemLink {
 impl Sink for MemLink {
     ghost told = { λ l. sink_told l.sink };
 
-    ghost aside = { λ l. source_told l.source };
+    ghost aside = { λ l. record { source = source_told l.source; stands_for = [] } };
 
     fn write(&mut self, piece: &[u8]) -> Result<usize, Failed>
         requires { 0 < length piece.now }
@@ -98,6 +98,8 @@ impl Sink for MemLink {
 }
 
 impl Link for MemLink {
+    ghost stands_for = { λ _. [] };
+
     ghost reads_keep = { λ _. refl };
 
     ghost writes_keep = { λ _. refl };

@@ -1,7 +1,7 @@
 //! A sink in memory.
 ghost use Rattle.std.specs.Prelude.{◌≡◌, ◌+◌, ◌-◌, ◌≤◌, ◌<◌, ◌⊎◌, ℕ, List, [], length, Some, IfOk, OnErr, is_err, true, false, if◌then◌else◌};
 ghost use Rattle.outside.specs.Memory.{MemSinkTold, sink_told, is_listed, counted};
-ghost use Rattle.outside.specs.Outside.{Writes, HasCause};
+ghost use Rattle.outside.specs.Outside.{Writes, HasCause, nothing_beside_sink};
 
 use crate::traits::{Failed, Sink};
 use std::alloc::{AllocError, Global};
@@ -59,7 +59,7 @@ impl MemSink {
 impl Sink for MemSink {
     ghost told = { sink_told };
 
-    ghost aside = { λ _. record { left = Some []; given = Some []; ended = false; faults = 0 } };
+    ghost aside = { λ _. nothing_beside_sink };
 
     fn write(&mut self, piece: &[u8]) -> Result<usize, Failed>
         requires { 0 < length piece.now }

@@ -1,7 +1,7 @@
 //! A source over bytes in memory.
-ghost use Rattle.std.specs.Prelude.{◌≡◌, ◌+◌, ◌-◌, ◌≤◌, ◌<◌, ℕ, List, [], length, Some, IfOk, is_err, true, false, take, drop, min, refl, if◌then◌else◌};
+ghost use Rattle.std.specs.Prelude.{◌≡◌, ◌+◌, ◌-◌, ◌≤◌, ◌<◌, ℕ, List, [], length, IfOk, is_err, true, false, take, drop, min, refl, if◌then◌else◌};
 ghost use Rattle.outside.specs.Memory.{MemSourceTold, source_told, is_listed, counted};
-ghost use Rattle.outside.specs.Outside.{Reads, HasCause};
+ghost use Rattle.outside.specs.Outside.{Reads, HasCause, nothing_beside_source};
 
 use crate::traits::{Failed, Source};
 use std::alloc::{AllocError, Global};
@@ -76,7 +76,7 @@ fn fill(room: &mut [u8], bytes: &Vec<u8>, at: usize) -> usize
 impl Source for MemSource {
     ghost told = { source_told };
 
-    ghost aside = { λ _. record { held = Some []; faults = 0 } };
+    ghost aside = { λ _. nothing_beside_source };
 
     ghost end_is_empty = { λ s e. rw e refl };
 

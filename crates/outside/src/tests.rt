@@ -1,7 +1,7 @@
 //! Each maker with ample memory, each call that fails by its list, and that the two sides of a link are apart.
 use crate::{
-    Clock, Failed, FixedClock, Gate, Link, ListClock, MemLink, MemSink, MemSource, OpenGate, Sink,
-    Source,
+    Clock, Drip, Failed, FixedClock, Gate, Link, ListClock, MemLink, MemSink, MemSource, OpenGate,
+    Sink, Source,
 };
 use std::test::Fail;
 
@@ -20,6 +20,15 @@ fn reads_fail_by_the_list(rt: HostRuntime) -> Result<(), Fail> {
     assert_eq!(rt; read_two(&mut source), Err(Failed));
     assert_eq!(rt; source.left(), b"c".as_slice());
     assert_eq!(rt; read_two(&mut source), Ok(*b"c\0"));
+    assert_eq!(rt; read_two(&mut source), Ok(*b"\0\0"));
+    Ok(())
+}
+
+#[test]
+fn drips_give_so_many_at_most(rt: HostRuntime) -> Result<(), Fail> {
+    let mut source = Drip::new(rt.alloc(), b"ab", 1)?;
+    assert_eq!(rt; read_two(&mut source), Ok(*b"a\0"));
+    assert_eq!(rt; read_two(&mut source), Ok(*b"b\0"));
     assert_eq!(rt; read_two(&mut source), Ok(*b"\0\0"));
     Ok(())
 }

@@ -1,5 +1,6 @@
 //! A sink over a writer of the system.
-ghost use Rattle.std.specs.Prelude.{◌≡◌, None, false};
+ghost use Rattle.std.specs.Prelude.{◌≡◌, None};
+ghost use Rattle.outside.specs.Outside.{nothing_beside_sink};
 
 use outside::{Failed, Sink};
 use std::io::Write;
@@ -30,7 +31,7 @@ impl<W: Write> StdSink<W> {
 impl<W: Write> Sink for StdSink<W> {
     ghost told = { λ s. record { held = None; faults = s.faults } };
 
-    ghost aside = { λ _. record { left = None; given = None; ended = false; faults = 0 } };
+    ghost aside = { λ _. nothing_beside_sink };
 
     fn write(&mut self, piece: &[u8]) -> Result<usize, Failed> {
         match self.writer.write(piece) {

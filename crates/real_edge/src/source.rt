@@ -1,5 +1,6 @@
 //! A source over a reader of the system.
 ghost use Rattle.std.specs.Prelude.{◌≡◌, None, false};
+ghost use Rattle.outside.specs.Outside.{nothing_beside_source};
 
 use outside::{Failed, Source};
 use std::io::Read;
@@ -35,7 +36,7 @@ impl<R: Read> StdSource<R> {
 impl<R: Read> Source for StdSource<R> {
     ghost told = { λ s. record { left = None; given = None; ended = s.ended; faults = s.faults } };
 
-    ghost aside = { λ _. record { held = None; faults = 0 } };
+    ghost aside = { λ _. nothing_beside_source };
 
     ghost end_is_empty = { λ _ _. tt };
 

@@ -26,6 +26,7 @@ pub fn run_alone<M: Served, C: Clock + Drop, L: Link, G: Gate>(
 ) -> Result<End, AllocError>
     ensures ran { IfOk result (RunAlone (record { next = M.next; answer = M.answer; number = M.number; call = M.call; wire = wire_of M.user M.least M.closes }) opening users.now (C.words clock)
         (L.Source.told link.old) (L.Sink.told link.old) (L.Source.told link.new) (L.Sink.told link.new)) }
+    ensures stands_for { L.stands_for link.new ≡ L.stands_for link.old }
     ensures untouched { OnErr result ((L.Source.told link.new ≡ L.Source.told link.old) × (L.Sink.told link.new ≡ L.Sink.told link.old)) }
 {
     first_is_one();

@@ -1,4 +1,4 @@
-//! Reading from a link and writing to it: what one side does changes nothing that the other tells.
+//! Reading from a link and writing to it: what one side does changes nothing that the other tells, nor what the link stands for.
 ghost use Rattle.std.specs.Prelude.{◌≡◌, ◌⊎◌, OnOk, OnErr};
 ghost use Rattle.outside.specs.Outside.{Took};
 ghost use Rattle.http_reply.specs.Replies.{reply_text, interim_text, runtime_text};
@@ -23,6 +23,7 @@ pub fn read_next<L: Link>(
 ) -> Result<Incoming, WireStop>
     ensures reads { ReadsRequest buffer.old buffer.new (L.Source.told link.old) (L.Source.told link.new) result }
     ensures sink { L.Sink.told link.new ≡ L.Sink.told link.old }
+    ensures stands_for { L.stands_for link.new ≡ L.stands_for link.old }
 {
     read_request(alloc, link, buffer)
 }
@@ -32,6 +33,7 @@ pub fn send_reply<L: Link>(link: &mut L, shown: &Shown, last: bool) -> Result<()
     ensures ok { OnOk result (Took (L.Sink.told link.old) (L.Sink.told link.new) (reply_text shown.now last)) }
     ensures lost { OnErr result (Lost (L.Sink.told link.old) (L.Sink.told link.new) (reply_text shown.now last)) }
     ensures source { L.Source.told link.new ≡ L.Source.told link.old }
+    ensures stands_for { L.stands_for link.new ≡ L.stands_for link.old }
 {
     write_reply(link, shown, last)
 }
@@ -41,6 +43,7 @@ pub fn send_continue<L: Link>(link: &mut L) -> Result<(), Failed>
     ensures ok { OnOk result (Took (L.Sink.told link.old) (L.Sink.told link.new) interim_text) }
     ensures lost { OnErr result (Lost (L.Sink.told link.old) (L.Sink.told link.new) interim_text) }
     ensures source { L.Source.told link.new ≡ L.Source.told link.old }
+    ensures stands_for { L.stands_for link.new ≡ L.stands_for link.old }
 {
     send_interim(link)
 }
@@ -49,6 +52,7 @@ pub fn send_continue<L: Link>(link: &mut L) -> Result<(), Failed>
 pub fn starve<L: Link>(link: &mut L)
     ensures sent { SentOrLost (L.Sink.told link.old) (L.Sink.told link.new) runtime_text }
     ensures source { L.Source.told link.new ≡ L.Source.told link.old }
+    ensures stands_for { L.stands_for link.new ≡ L.stands_for link.old }
 {
     let _ = send_memory(link);
 }
@@ -57,6 +61,7 @@ pub fn starve<L: Link>(link: &mut L)
 pub fn refuse<K: Served, L: Link>(alloc: Global, link: &mut L, fault: HttpFault) -> End
     ensures refuses { Refuses (wire_of K.user K.least K.closes) fault (L.Sink.told link.old) (L.Sink.told link.new) result }
     ensures source { L.Source.told link.new ≡ L.Source.told link.old }
+    ensures stands_for { L.stands_for link.new ≡ L.stands_for link.old }
 {
     let Some(cause) = fault_cause(fault) else {
         return End::Bad(fault);

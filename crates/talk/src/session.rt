@@ -38,6 +38,7 @@ where
     ensures callers { D.callers desk.new ≡ D.callers desk.old }
     ensures talked { Talked (record { next = D.Kind.next; answer = D.Kind.answer; number = D.Kind.number; call = D.Kind.call; wire = wire_of D.Kind.user D.Kind.least D.Kind.closes }) users.now
         (D.known pass.old) (D.words desk.old) (L.Source.told link.old) (L.Sink.told link.old) (D.known pass.new) (D.words desk.new) (L.Source.told link.new) (L.Sink.told link.new) result }
+    ensures stands_for { L.stands_for link.new ≡ L.stands_for link.old }
 {
     first_is_kept();
     request_lies_within();

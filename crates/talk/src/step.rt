@@ -47,6 +47,7 @@ where
     ensures answers { AnswersRequest (record { next = D.Kind.next; answer = D.Kind.answer; number = D.Kind.number; call = D.Kind.call; wire = wire_of D.Kind.user D.Kind.least D.Kind.closes }) users.now request.now
         (record { known = D.known pass.old; words = D.words desk.old; count = count.old }) (L.Sink.told link.old) (record { known = D.known pass.new; words = D.words desk.new; count = count.new }) (L.Sink.told link.new) result }
     ensures source { L.Source.told link.new ≡ L.Source.told link.old }
+    ensures stands_for { L.stands_for link.new ≡ L.stands_for link.old }
 {
     let last = is_last::<D::Kind>(*count, request.head());
     let Ok(shown) = reply_to(alloc, leave, desk, pass, users, gate, calls, request) else {
@@ -67,6 +68,7 @@ where
 fn go_on<L: Link>(link: &mut L) -> Option<End>
     ensures goes { SendsContinue interim_text (L.Sink.told link.old) (L.Sink.told link.new) result }
     ensures source { L.Source.told link.new ≡ L.Source.told link.old }
+    ensures stands_for { L.stands_for link.new ≡ L.stands_for link.old }
 {
     match send_continue(link) {
         Ok(()) => None,
@@ -96,6 +98,7 @@ where
     ensures steps { Steps (record { next = D.Kind.next; answer = D.Kind.answer; number = D.Kind.number; call = D.Kind.call; wire = wire_of D.Kind.user D.Kind.least D.Kind.closes }) users.now
         buffer.old (L.Source.told link.old) (record { known = D.known pass.old; words = D.words desk.old; count = count.old }) (L.Sink.told link.old)
         buffer.new (L.Source.told link.new) (record { known = D.known pass.new; words = D.words desk.new; count = count.new }) (L.Sink.told link.new) result }
+    ensures stands_for { L.stands_for link.new ≡ L.stands_for link.old }
 {
     match read_next(alloc, link, buffer) {
         Ok(Incoming::Head(_)) => go_on(link),

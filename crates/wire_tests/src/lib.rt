@@ -2,8 +2,6 @@
 #![tactic(auto)]
 
 #[cfg(test)]
-mod drip;
-#[cfg(test)]
 mod reading;
 #[cfg(test)]
 mod replies;

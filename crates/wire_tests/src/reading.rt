@@ -1,9 +1,8 @@
 //! What is read of good inputs, and of inputs that end too early.
-use crate::drip::Drip;
 use crate::samples::{CHUNKS, EXPECT, FORM};
 use http_grammar::HttpFault::{self, Cut};
 use http_wire::{Buffer, Incoming, Named, Request, WireStop, read_request};
-use outside::MemSource;
+use outside::{Drip, MemSource};
 use std::alloc::{AllocError, Global};
 use std::test::Fail;
 

@@ -1,5 +1,4 @@
 //! The bytes that are sent for the bytes of a connection: for a request its own body, for a fault its cause.
-use crate::drip::Drip;
 use crate::samples::{CHUNKS, EXPECT, FORM};
 use bytes::Bytes;
 use cm_base::media::MediaType;
@@ -8,7 +7,7 @@ use cm_base::text::Text;
 use http_grammar::HttpFault;
 use http_reply::{cause_shown, fault_cause, send_interim, write_reply};
 use http_wire::{Buffer, Incoming, Request, WireStop, read_request};
-use outside::{Failed, MemSink};
+use outside::{Drip, Failed, MemSink};
 use std::alloc::{AllocError, Global};
 use std::test::Fail;
 

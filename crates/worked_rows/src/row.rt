@@ -1,7 +1,6 @@
 //! A session: what is sent, and what comes back.
-use crate::drip::Drip;
-use cmis_app::{Pair, run_once};
-use outside::{FixedClock, MemSink, MemSource};
+use cmis_app::run_once;
+use outside::{Drip, FixedClock, MemSink, MemSource};
 use std::alloc::{AllocError, Global};
 
 /// `admin:pw`, `ann:a`, `bob:b` and `admin:no` in the form of RFC 7617.
@@ -124,29 +123,20 @@ impl Row {
 
     /// What is sent gives what comes back, and the status.
     fn in_whole(&self, alloc: Global, words: &[String], status: u8) -> Result<bool, AllocError> {
-        let mut link = Pair {
-            input: MemSource::new(alloc, self.input.as_bytes(), &[])?,
-            output: MemSink::new(alloc, &[])?,
-        };
+        let mut input = MemSource::new(alloc, self.input.as_bytes(), &[])?;
+        let mut output = MemSink::new(alloc, &[])?;
         let mut clock = FixedClock::new(0);
-        let ended = run_once(alloc, words, &mut link, &mut clock);
-        Ok(ended == status && link.output.held() == self.output.as_bytes())
+        let ended = run_once(alloc, words, &mut input, &mut output, &mut clock);
+        Ok(ended == status && output.held() == self.output.as_bytes())
     }
 
     /// The same in reads of one byte.
     fn in_bytes(&self, alloc: Global, words: &[String], status: u8) -> Result<bool, AllocError> {
-        let mut link = Pair {
-            input: Drip {
-                bytes: Vec::from_slice(alloc, self.input.as_bytes())?,
-                at: 0,
-                most: 1,
-                ended: false,
-            },
-            output: MemSink::new(alloc, &[])?,
-        };
+        let mut input = Drip::new(alloc, self.input.as_bytes(), 1)?;
+        let mut output = MemSink::new(alloc, &[])?;
         let mut clock = FixedClock::new(0);
-        let ended = run_once(alloc, words, &mut link, &mut clock);
-        Ok(ended == status && link.output.held() == self.output.as_bytes())
+        let ended = run_once(alloc, words, &mut input, &mut output, &mut clock);
+        Ok(ended == status && output.held() == self.output.as_bytes())
     }
 }
 

@@ -24,6 +24,7 @@ steps-init g c = record {
   callers = refl;
   is_of = c.requires.is_of;
   few = omega arith;
+  stands_for = refl;
   so_far = rw c.in-Ok.ensures (so-far-none _ _ _ _ _ _);
 }
 
@@ -42,5 +43,6 @@ steps-preserved g c =
       callers = c.step.ensures.callers ∙ c.steps.invariant.callers;
       is_of = c.step.ensures.is_of;
       few = on.0;
+      stands_for = c.step.ensures.stands_for ∙ c.steps.invariant.stands_for;
       so_far = so-far-more _ _ _ _ _ _ _ _ _ _ _ _ _ _ c.steps.invariant.laws c.requires.none_made c.steps.invariant.so_far c.in-None.ensures.steps;
     }
