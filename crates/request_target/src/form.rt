@@ -3,34 +3,14 @@ ghost use Rattle.std.specs.Prelude.{◌≡◌, ◌+◌, ◌==◌, take, drop, op
 ghost use Rattle.std.specs.List.{position_or_len};
 ghost use Rattle.request_target.specs.Form.{is_origin, is_absolute, ends_authority, behind_authority, locator, path_in, query_in};
 
+use http_grammar::{behind, front};
+
 fn is_origin(target: &[u8]) -> bool
     ensures { result ≡ is_origin target.now }
 {
     match target {
         [] => false,
         [b, ..] => *b == b'/',
-    }
-}
-
-/// The first bytes, so many at most.
-pub fn front(text: &[u8], count: usize) -> &[u8]
-    ensures { result.now ≡ take count text.now }
-{
-    if text.len() > count {
-        &text[..count]
-    } else {
-        text
-    }
-}
-
-/// What stands behind so many bytes.
-pub fn behind(text: &[u8], count: usize) -> &[u8]
-    ensures { result.now ≡ drop count text.now }
-{
-    if text.len() > count {
-        &text[count..]
-    } else {
-        &[]
     }
 }
 
