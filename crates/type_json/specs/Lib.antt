@@ -1,0 +1,4 @@
+pub mod ReadBack
+pub mod Reading
+pub mod Showing
+pub mod Words
