@@ -1,12 +1,12 @@
 //! Questions: one variant a reading, which holds its arguments (CMIS 1.1, section 2.2).
+use crate::names::Names;
 use crate::place::Place;
-use cm_base::text::Texts;
 
 /// Which properties a reply shows: all, or those of these query names (section 2.2.1.2.1). cmis:objectId is always shown.
 #[derive(Drop)]
 pub enum PropertyFilter {
     All,
-    QueryNames(Texts),
+    QueryNames(Names),
 }
 
 /// The object (section 2.2.4.8).

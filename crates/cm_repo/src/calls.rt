@@ -11,7 +11,6 @@ use cm_base::number::Moment;
 use cm_base::text::Text;
 use cm_call::question::Question;
 use cm_call::reply::Reply;
-use cm_call::weight::weight;
 use cm_call::write::Write;
 use cm_state::state::State;
 use desk_model::{Entry, Halt};
@@ -30,9 +29,7 @@ fn write(
     ensures { Writes result (refusal_of state.now user.now moment call.now) (after state.now user.now moment call.now) (acknowledgement state.now user.now moment call.now) }
 {
     match call {
-        Write::CreateFolder(folder) => {
-            create_folder(alloc, state, user, moment, weight(call), folder)
-        }
+        Write::CreateFolder(folder) => create_folder(alloc, state, user, moment, folder),
     }
 }
 

@@ -18,19 +18,13 @@ use cm_types::definition::TypeDef;
 use cm_types::property::PropDef;
 use std::alloc::{AllocError, Global};
 
-fn is_among(names: &[Text], name: &Text) -> bool
-    ensures { result ≡ list_any (bytes_eq name.now) names.now }
-{
-    names.iter().any(|n| name.is(n))
-}
-
 fn passes(filter: &PropertyFilter, def: &PropDef) -> bool
     ensures { result ≡ passes filter.now def.now }
 {
     match filter {
         PropertyFilter::All => true,
         PropertyFilter::QueryNames(names) => {
-            def.id.is_str("cmis:objectId") || is_among(names.as_slice(), &def.query_name)
+            def.id.is_str("cmis:objectId") || names.has(&def.query_name)
         }
     }
 }

@@ -1,12 +1,12 @@
 -- What one more place of a list control adds.
 use Rattle.std.proofs.Common.{◌≡◌, ℕ, ◌+◌, ◌-◌, ◌<◌, zero, suc, List, [], ◌∷◌, ◌++◌, length, take, get_or, refl, sym, ap, ◌∙◌, append_assoc, append-nil, arith}
-use Rattle.std.specs.Prelude.{Option, Some, None}
+use Rattle.std.specs.Prelude.{Some, None}
 use Rattle.cm_base.specs.declared.argument.Argument.{Argument}
 use Rattle.std.proofs.lemmas.List.{take_more, length-take}
 use Rattle.cm_types.specs.declared.given.Given.{Given}
 use Rattle.cm_call.specs.declared.write.AceRequest.{AceRequest}
 use Rattle.form_args.specs.declared.pairs.Pair.{Pair}
-use Rattle.form_args.specs.Pairs.{first_of, indexed, before, texts_from}
+use Rattle.form_args.specs.Pairs.{first_of, indexed, texts_from}
 use Rattle.form_args.specs.Properties.{given_at, givens_from}
 use Rattle.form_args.specs.Entries.{ace_at, aces_from}
 

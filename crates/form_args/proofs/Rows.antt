@@ -1,6 +1,6 @@
 -- Worked rows: what small forms are read as.
-use Rattle.std.proofs.Common.{◌≡◌, ℕ, List, [], ◌∷◌, true, false, refl}
-use Rattle.std.specs.Prelude.{codes, Ok, Err, Some, None}
+use Rattle.std.proofs.Common.{◌≡◌, List, [], ◌∷◌, true, false, refl}
+use Rattle.std.specs.Prelude.{codes, Ok, Err, Some}
 use Rattle.std.specs.Fmt.{digits}
 use Rattle.cm_base.specs.declared.argument.Argument.TheVariants as args
 use Rattle.cm_base.specs.declared.cause.Cause.TheVariants as causes

@@ -11,6 +11,7 @@ use cm_base::cause::Cause;
 use cm_base::fail::Fail;
 use cm_base::items::Items;
 use cm_base::text::{Text, Texts};
+use cm_call::names::Names;
 use cm_call::question::PropertyFilter;
 use std::alloc::{AllocError, Global};
 
@@ -126,6 +127,7 @@ fn read_filter(alloc: Global, text: &str) -> Result<PropertyFilter, Fail>
     }
     let pieces = commas(alloc, text)?;
     let names = names_in(alloc, &pieces)?;
+    let names = Names::from_texts(alloc, names)?;
     Ok(PropertyFilter::QueryNames(names))
 }
 

@@ -7,8 +7,6 @@ ghost use Rattle.cm_types.specs.Types.{type_in};
 ghost use Rattle.cm_types.specs.Properties.{judge_properties, kept_values, is_set};
 ghost use Rattle.cm_call.specs.declared.question.PropertyFilter.TheVariants as filters;
 ghost use Rattle.cm_call.specs.declared.reply.Reply.TheVariants as replies;
-ghost use Rattle.cm_call.specs.declared.write.Write.TheVariants as writes;
-ghost use Rattle.cm_call.specs.Weight.{weight_of};
 ghost use Rattle.cm_show.specs.Addressed.{addressed};
 ghost use Rattle.cm_show.specs.Shown.{shown_object};
 ghost use Rattle.cmis_spec.specs.Repository.{new_number, object_at};
@@ -29,6 +27,7 @@ use cm_base::text::Text;
 use cm_base::value::{Slot, Value, Values};
 use cm_call::question::PropertyFilter;
 use cm_call::reply::{ObjectReply, Reply};
+use cm_call::weight::weight_of_create_folder;
 use cm_call::write::CreateFolder;
 use cm_show::address::addressed;
 use cm_show::shown::shown_object;
@@ -41,11 +40,11 @@ use wr_rules::kinds::judge_types;
 use wr_rules::policies::{judge_read, policies_in};
 use wr_rules::storage::judge_storage;
 
-fn cost_of(state: &State, weight: u64, call: &CreateFolder, wanted: &Wanted) -> u64
-    requires weight { weight ≡ weight_of (writes.CreateFolder call.now) }
+fn cost_of(state: &State, call: &CreateFolder, wanted: &Wanted) -> u64
     requires wanted { wanted.now ≡ wanted_in state.now.types call.now.properties }
     ensures { result ≡ cost_create_folder state.now call.now }
 {
+    let weight = weight_of_create_folder(call);
     match state.types().find(&wanted.kind) {
         Some(_) => with_defaults(weight, wanted.defs.as_slice(), call.properties.as_slice()),
         None => weight,
@@ -238,7 +237,7 @@ fn with_reply(
     Ok((made, reply))
 }
 
-/// Makes a folder. The cost is the weight of the call, which the caller knows, and the default values that the folder takes.
+/// Makes a folder. The cost is the weight of the call and the default values that the folder takes.
 ///
 /// The answer is the first cause that refuses the call, or the repository after it and the new folder as the caller sees it there.
 pub fn create_folder(
@@ -246,16 +245,14 @@ pub fn create_folder(
     state: &State,
     user: &Text,
     moment: Moment,
-    weight: u64,
     call: &CreateFolder,
 ) -> Result<(State, Reply), Fail>
-    requires { weight ≡ weight_of (writes.CreateFolder call.now) }
     ensures written { Writes result (refusal_create_folder state.now user.now moment (cost_create_folder state.now call.now) call.now) (after_create_folder state.now user.now moment (cost_create_folder state.now call.now) call.now) (acknowledgement_create_folder state.now user.now moment (cost_create_folder state.now call.now) call.now) }
     ensures well { IfOk result (λ x. IsWellFormed x.0) }
 {
     let _step = state.step();
     let wanted = wanted_by(alloc, state.types(), call.properties.as_slice())?;
-    let cost = cost_of(state, weight, call, &wanted);
+    let cost = cost_of(state, call, &wanted);
     let (parent, values) = judge(alloc, state, user, moment, cost, call, &wanted)?;
     let object = new_folder(alloc, state, user, moment, wanted, values)?;
     let made = with_folder(alloc, state, user, moment, cost, call, object, parent)?;

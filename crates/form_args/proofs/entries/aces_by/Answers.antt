@@ -1,4 +1,4 @@
-use Rattle.std.proofs.Common.{◌≡◌, arith, rules}
+use Rattle.std.proofs.Common.{arith, rules}
 use Rattle.form_args.proofs.Listing.{aces_next}
 use Rattle.form_args.proofs.entries.aces_by.Goals as goal
 

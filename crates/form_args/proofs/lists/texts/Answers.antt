@@ -1,4 +1,4 @@
-use Rattle.std.proofs.Common.{◌≡◌, ◌++◌, arith, rules}
+use Rattle.std.proofs.Common.{◌≡◌, arith, rules}
 use Rattle.std.specs.Prelude.{Some}
 use Rattle.form_args.specs.Pairs.{first_of, indexed}
 use Rattle.form_args.proofs.Listing.{texts_next}

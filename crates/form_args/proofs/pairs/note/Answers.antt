@@ -1,7 +1,6 @@
 use Rattle.std.proofs.Common.{◌≡◌, string_bytes, is_some, true, false, rules}
 use Rattle.std.specs.BTreeMap.{get_by_text}
 use Rattle.std.proofs.lemmas.Map.Text.{btree_map_updates_text}
-use Rattle.std.proofs.lemmas.Result.{IfOk-at_ok}
 use Rattle.form_args.proofs.Finds.{FindsFirst-known, FindsFirst-new}
 use Rattle.form_args.proofs.pairs.note.Goals as goal
 

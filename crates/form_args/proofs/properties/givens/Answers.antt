@@ -1,4 +1,4 @@
-use Rattle.std.proofs.Common.{◌≡◌, arith, rules}
+use Rattle.std.proofs.Common.{arith, rules}
 use Rattle.form_args.proofs.Listing.{givens_next}
 use Rattle.form_args.proofs.properties.givens.Goals as goal
 
