@@ -1,5 +1,5 @@
 //! What the bytes say of the head at their front.
-ghost use Rattle.std.specs.Prelude.{◌≡◌, ◌≤◌, ◌<◌, ℕ, length, take, drop};
+ghost use Rattle.std.specs.Prelude.{◌≡◌, ◌≤◌, ◌<◌, ℕ, length};
 ghost use Rattle.http_grammar.specs.Limits.{head_limit};
 ghost use Rattle.http_grammar.specs.Judged.{is_judged, has_line_feed};
 ghost use Rattle.http_wire.specs.Seen.{SeesPart, SeesHead, WholeHeadAt};

@@ -1,5 +1,5 @@
 //! The forms of a target, and its path and query.
-ghost use Rattle.std.specs.Prelude.{◌≡◌, ◌+◌, ◌==◌, take, drop, option_map};
+ghost use Rattle.std.specs.Prelude.{◌≡◌, ◌+◌, ◌==◌, option_map};
 ghost use Rattle.std.specs.List.{position_or_len};
 ghost use Rattle.request_target.specs.Form.{is_origin, is_absolute, ends_authority, behind_authority, locator, path_in, query_in};
 
