@@ -45,7 +45,7 @@ room_behind limit n size text r h =
     omega (arith, length-drop (blanks text) text, e)
 
 -- Tokens are the same for two limits that no byte reaches.
-relimited : (limit other n : ℕ) (text : List ℕ) (ts : List Token) → Room limit n text → Room other n text → Lexes limit n text ts → Lexes other n text ts
+pub relimited : (limit other n : ℕ) (text : List ℕ) (ts : List Token) → Room limit n text → Room other n text → Lexes limit n text ts → Lexes other n text ts
 relimited limit other n text [] r s (inl h) = inl h
 relimited limit other n text [] r s (inr h) = inl (nothing_behind limit n text r h)
 relimited limit other n text (t ∷ ts) r s h =
