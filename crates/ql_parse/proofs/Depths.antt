@@ -1,5 +1,5 @@
 -- Conditions of a depth by cases: one level is opened, or none.
-use Rattle.std.proofs.Common.{◌≡◌, ℕ, zero, suc, List, inl, inr, ◌⊎◌, refl, subst}
+use Rattle.std.proofs.Common.{◌≡◌, ℕ, zero, suc, List, inl, inr, ◌⊎◌, subst}
 use Rattle.grammar_rules.specs.Rules.{Rule, Starts, Stops}
 use Rattle.grammar_rules.proofs.Lists.{starts_left, starts_right, stops_both}
 use Rattle.grammar_rules.proofs.Within.{Within, whole_within, choice_left, choice_right, standing_in}

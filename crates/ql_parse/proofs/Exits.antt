@@ -1,5 +1,5 @@
 -- The laws, as the readers use them.
-use Rattle.std.proofs.Common.{◌≡◌, ℕ, Bool, true, false, List, [], ◌∷◌, ◌++◌, Option, Some, None, is_some, Result, Ok, Err, refl, sym, ◌∙◌, ap, subst}
+use Rattle.std.proofs.Common.{◌≡◌, Bool, true, false, List, [], ◌∷◌, Option, Some, None, is_some, Result, Ok, Err, refl, sym, ap, subst}
 use Rattle.std.specs.Result.{IsErrAnd}
 use Rattle.std.proofs.lemmas.Result.{err_from_is_err_and}
 use Rattle.grammar_rules.specs.Rules.{Rule, Starts, Stops, Took, Stuck, Fault, one, both, chain, perhaps, mapped}
@@ -14,7 +14,6 @@ use Rattle.ql_parse.specs.Grammar as g
 use Rattle.ql_parse.specs.Reads.{Reads, Stopped, IsNoBeginning, IsWhole}
 use Rattle.ql_parse.specs.declared.stop.Stop.{Stop}
 use Rattle.ql_parse.specs.declared.stop.Stop.TheVariants as stops
-use Rattle.ql_parse.proofs.Facts.{keyword_sane}
 
 -- a part that is stuck leaves the whole stuck
 pub stopped : {A B : Type 0} {part : Rule Token B} {whole : Rule Token A} {r ts : List Token} → ((l : Bool) (left : List Token) → Stuck l part r left → Stuck l whole ts left)

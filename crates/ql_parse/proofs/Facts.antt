@@ -1,7 +1,7 @@
 -- What the laws of grammars ask of each rule: it has a text, its texts begin as it says, and its parts are told apart by the next token.
-use Rattle.std.proofs.Common.{◌≡◌, ℕ, Bool, true, false, ◌||◌, List, [], ◌∷◌, Option, Some, None, refl, if◌then◌else◌}
+use Rattle.std.proofs.Common.{◌≡◌, ℕ, Bool, true, false, ◌||◌, List, [], Some, refl}
 use Rattle.std.proofs.Common.{is_some}
-use Rattle.grammar_rules.specs.Rules.{Rule, mapped, perhaps, either}
+use Rattle.grammar_rules.specs.Rules.{Rule, mapped}
 use Rattle.grammar_rules.proofs.Lists.{Apart}
 use Rattle.grammar_rules.proofs.Laws.{Sane, one_sane, mapped_sane}
 use Rattle.grammar_rules.proofs.Within.{Joint, Optional, Choice, Standing, Listing, joint_sane, optional_sane, choice_sane, standing_sane, listing_sane}

@@ -1,13 +1,10 @@
 -- The same for conditions of each depth.
-use Rattle.std.proofs.Common.{◌≡◌, ℕ, zero, suc, Bool, true, false, ◌||◌, List, [], ◌∷◌, refl, sym, ◌∙◌, ap, if◌then◌else◌}
-use Rattle.grammar_rules.specs.Rules.{Rule, both, chain, either, mapped, stands}
+use Rattle.std.proofs.Common.{◌≡◌, ℕ, zero, suc, Bool, true, false, ◌||◌, refl}
+use Rattle.grammar_rules.specs.Rules.{Rule}
 use Rattle.grammar_rules.proofs.Lists.{Apart}
 use Rattle.grammar_rules.proofs.Laws.{Sane}
 use Rattle.grammar_rules.proofs.Within.{Joint, Optional, Choice, Standing, Listing, joint_sane, optional_sane, choice_sane, standing_sane, listing_sane}
-use Rattle.ql_lex.specs.Words.{is_left_out}
-use Rattle.ql_lex.specs.declared.word.Word.{Word}
 use Rattle.ql_lex.specs.declared.word.Word.TheVariants as words
-use Rattle.ql_lex.specs.declared.token.Kind.TheVariants as kinds
 use Rattle.ql_lex.specs.declared.token.Token.{Token}
 use Rattle.ql_tree.specs.declared.tree.Cond.{Cond}
 use Rattle.ql_tree.specs.declared.tree.Cond.TheVariants as conds

@@ -1,12 +1,11 @@
 -- A text with its offset is read where a text is.
-use Rattle.std.proofs.Common.{◌≡◌, ℕ, Bool, true, false, List, [], ◌∷◌, Option, Some, None, is_some, refl, sym, ◌∙◌, ap, subst}
-use Rattle.grammar_rules.specs.Rules.{Rule, Took, Stuck, Stops}
+use Rattle.std.proofs.Common.{◌≡◌, ℕ, false, List, [], ◌∷◌, Some, None, is_some, refl, sym, ap, subst}
+use Rattle.grammar_rules.specs.Rules.{Took, Stuck}
 use Rattle.grammar_rules.proofs.Laws.{stuck_at}
 use Rattle.ql_lex.specs.declared.token.Kind.{Kind}
 use Rattle.ql_lex.specs.declared.token.Kind.TheVariants as kinds
 use Rattle.ql_lex.specs.declared.token.Token.{Token}
 use Rattle.ql_tree.specs.Texts.{unescaped}
-use Rattle.ql_tree.specs.declared.tree.Timestamp.{Timestamp}
 use Rattle.ql_parse.specs.Grammar as g
 use Rattle.ql_parse.proofs.Exits.{took_token, stops_token, stops_end}
 use Rattle.ql_parse.proofs.Facts.{moment_sane}

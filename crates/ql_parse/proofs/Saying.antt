@@ -1,5 +1,5 @@
 -- What a text says, by what its tokens are.
-use Rattle.std.proofs.Common.{◌≡◌, ℕ, ◌+◌, ◌-◌, ◌<◌, ◌≤◌, Bool, true, false, min, List, [], ◌∷◌, length, drop, Option, Some, None, Result, Ok, Err, ◌⊎◌, inl, inr, refl, sym, ◌∙◌, ap, subst, arith}
+use Rattle.std.proofs.Common.{◌≡◌, ℕ, ◌+◌, ◌-◌, ◌<◌, ◌≤◌, Bool, true, false, min, List, [], ◌∷◌, length, drop, Option, Some, None, Ok, Err, inl, inr, refl, sym, ◌∙◌, ap, subst, arith}
 use Rattle.std.proofs.lemmas.List.{length-drop}
 use Rattle.grammar_rules.specs.Rules.{Fault}
 use Rattle.grammar_rules.proofs.Wholes.{fault_refuses, fault_is_one}
@@ -15,7 +15,7 @@ use Rattle.ql_parse.specs.Grammar as g
 use Rattle.ql_parse.specs.Reads.{IsLeftWord, IsWhole, IsRefusal}
 use Rattle.ql_parse.specs.declared.stop.Stop.{Stop}
 use Rattle.ql_parse.specs.declared.stop.Stop.TheVariants as stops
-use Rattle.ql_parse.specs.Texts.{longest, deepest, Spells, GoesWrong, RunsOver, FaultPlace, LeftOut, Says, Refuses, offset, left_word}
+use Rattle.ql_parse.specs.Texts.{longest, deepest, Spells, GoesWrong, RunsOver, LeftOut, Says, Refuses, offset, left_word}
 use Rattle.ql_parse.proofs.Levels.{query_sane}
 
 -- no byte of the text stands at the limit or behind it
@@ -45,7 +45,7 @@ room_behind limit n size text r h =
     omega (arith, length-drop (blanks text) text, e)
 
 -- Tokens are the same for two limits that no byte reaches.
-relimited : (limit other n : ℕ) (text : List ℕ) (ts : List Token) → Room limit n text → Room other n text → Lexes limit n text ts → Lexes other n text ts
+pub relimited : (limit other n : ℕ) (text : List ℕ) (ts : List Token) → Room limit n text → Room other n text → Lexes limit n text ts → Lexes other n text ts
 relimited limit other n text [] r s (inl h) = inl h
 relimited limit other n text [] r s (inr h) = inl (nothing_behind limit n text r h)
 relimited limit other n text (t ∷ ts) r s h =

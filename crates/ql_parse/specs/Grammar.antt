@@ -1,6 +1,6 @@
 -- The grammar of queries, rule by rule (CMIS 1.1, section 2.1.14.2.1). Above each rule stands what it says in EBNF. Alternatives that begin with
 -- the same part are written as that part and the alternatives behind it.
-use Rattle.std.specs.Prelude.{◌≡◌, ℕ, zero, suc, Bool, true, false, ◌==◌, not, List, [], ◌∷◌, ◌++◌, Option, Some, None, if◌then◌else◌}
+use Rattle.std.specs.Prelude.{ℕ, zero, suc, Bool, true, false, ◌==◌, List, [], ◌∷◌, ◌++◌, Option, Some, None, if◌then◌else◌}
 use Rattle.grammar_rules.specs.Rules.{Rule, one, both, chain, perhaps, either, mapped, stands}
 use Rattle.ql_lex.specs.Words.{is_left_out}
 use Rattle.ql_lex.specs.declared.word.Word.{Word}

@@ -1,8 +1,7 @@
 -- What the text of a query says: its tree, or where and why it says none (CMIS 1.1, section 2.1.14.2.1).
-use Rattle.std.specs.Prelude.{◌≡◌, ◌⊎◌, ℕ, min, ◌<◌, ◌≤◌, Bool, true, false, List, [], ◌∷◌, length, Result, Ok, Err}
+use Rattle.std.specs.Prelude.{◌≡◌, ◌⊎◌, ℕ, min, ◌<◌, ◌≤◌, Bool, true, false, List, [], ◌∷◌, length, Ok, Err}
 use Rattle.grammar_rules.specs.Rules.{Fault}
 use Rattle.cm_base.specs.Judged.{Judged}
-use Rattle.cm_base.specs.declared.cause.Cause.{Cause}
 use Rattle.cm_base.specs.declared.cause.Cause.TheVariants as causes
 use Rattle.cm_base.specs.declared.fail.Fail.{Fail}
 use Rattle.cm_base.specs.declared.fail.Fail.TheVariants as fails

@@ -1,4 +1,4 @@
-use Rattle.grammar_rules.proofs.Within.{second, optional_there, optional_none}
+use Rattle.grammar_rules.proofs.Within.{second, optional_there}
 use Rattle.ql_parse.specs.Grammar as g
 use Rattle.ql_parse.proofs.Exits.{exit, start, out, out_optional, of_mapped, out_mapped}
 use Rattle.ql_parse.proofs.Facts.{column_optional, dot_name_joint}

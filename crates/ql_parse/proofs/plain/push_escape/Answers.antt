@@ -1,4 +1,4 @@
-use Rattle.std.proofs.Common.{◌≡◌, sym, ◌∙◌, arith}
+use Rattle.std.proofs.Common.{sym, ◌∙◌, arith}
 use Rattle.ql_parse.proofs.Unescapes.{cut_first}
 use Rattle.ql_parse.proofs.plain.push_escape.Goals as goal
 

@@ -1,4 +1,4 @@
-use Rattle.std.proofs.Common.{◌≡◌, sym, ◌∙◌}
+use Rattle.std.proofs.Common.{sym, ◌∙◌}
 use Rattle.ql_parse.specs.Grammar as g
 use Rattle.ql_parse.proofs.Exits.{starts_token, took_word}
 use Rattle.ql_parse.proofs.reader.past.Goals as goal

@@ -1,7 +1,7 @@
 use Rattle.ql_tree.specs.Texts.{unescaped}
 use Rattle.std.proofs.Common.{false}
 use Rattle.ql_parse.specs.Grammar as g
-use Rattle.ql_parse.proofs.Exits.{exit, out_mapped, of_mapped}
+use Rattle.ql_parse.proofs.Exits.{exit, out_mapped}
 use Rattle.ql_parse.proofs.reader.quoted.Goals as goal
 
 pub returns-in_err-text : goal.returns-in_err-text

@@ -10,3 +10,4 @@ pub mod Queries
 pub mod Tellings
 pub mod Sources
 pub mod Again
+pub mod Said

@@ -14,11 +14,11 @@ use Rattle.ql_parse.specs.declared.parts.TestRest.{TestRest}
 use Rattle.ql_parse.specs.declared.parts.TestRest.TheVariants as test_rests
 use Rattle.ql_parse.specs.declared.parts.Among.{Among}
 use Rattle.ql_parse.specs.Grammar as g
-use Rattle.ql_printed.proofs.Reprints as again
-use Rattle.ql_printed.proofs.Written.{IsServed, IsWritten}
-use Rattle.ql_printed.proofs.Shapes as shapes
-use Rattle.ql_printed.proofs.Parts.{kind, Same, Alike, two, stripped_rest, stripped_among, rest_tokens, among_tokens, placed_tokens, Reprint, Prints, printed_word, word_sound, after_word}
-use Rattle.ql_printed.proofs.Rules.{column_prints, test_column_prints, served_literal_prints, test_rest_prints, among_list_prints, placed_prints}
+use Rattle.ql_laws.proofs.Reprints as again
+use Rattle.ql_laws.proofs.Written.{IsServed, IsWritten}
+use Rattle.ql_laws.proofs.Shapes as shapes
+use Rattle.ql_laws.proofs.Parts.{kind, Same, Alike, two, stripped_rest, stripped_among, rest_tokens, among_tokens, placed_tokens, Reprint, Prints, printed_word, word_sound, after_word}
+use Rattle.ql_laws.proofs.Rules.{column_prints, test_column_prints, served_literal_prints, test_rest_prints, among_list_prints, placed_prints}
 
 -- the tokens of a condition without parentheses
 abbrev pub tokens : Cond → List Kind

@@ -22,9 +22,9 @@ use Rattle.ql_parse.specs.declared.parts.Among.{Among}
 use Rattle.ql_parse.specs.declared.parts.Placed.{Placed}
 use Rattle.ql_parse.specs.Grammar as g
 use Rattle.ql_parse.proofs.Facts.{keyword_of}
-use Rattle.ql_printed.proofs.Reprints as again
-use Rattle.ql_printed.proofs.Escaping.{unescaped_escaped}
-use Rattle.ql_printed.proofs.Written.{IsServed, IsWritten, word_written, escaped_written}
+use Rattle.ql_laws.proofs.Reprints as again
+use Rattle.ql_laws.proofs.Escaping.{unescaped_escaped}
+use Rattle.ql_laws.proofs.Written.{IsServed, IsWritten, word_written, escaped_written}
 
 abbrev pub kind : Token → Kind
 kind t = t.kind

@@ -13,7 +13,7 @@ use Rattle.ql_lex.specs.declared.word.Word.TheVariants as words
 use Rattle.ql_lex.specs.declared.token.Kind.{Kind}
 use Rattle.ql_lex.specs.declared.token.Kind.TheVariants as kinds
 use Rattle.ql_lex.specs.declared.token.Token.{Token}
-use Rattle.ql_printed.proofs.Written.{IsServed, IsWritten, Ends, by_end, word_written, quoted_written}
+use Rattle.ql_laws.proofs.Written.{IsServed, IsWritten, Ends, by_end, word_written, quoted_written}
 
 one_more : (n : ℕ) → 1 + n ≡ suc n
 one_more n = omega arith

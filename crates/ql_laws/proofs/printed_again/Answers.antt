@@ -1,5 +1,5 @@
-use Rattle.ql_printed.proofs.Again.{spelled_again, spelled_alone}
-use Rattle.ql_printed.proofs.printed_again.Goals as goal
+use Rattle.ql_laws.proofs.Again.{spelled_again, spelled_alone}
+use Rattle.ql_laws.proofs.printed_again.Goals as goal
 
 pub returns-clause-again : goal.returns-clause-again
 returns-clause-again c = λ text q w. spelled_again text q w

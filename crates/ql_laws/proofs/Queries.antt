@@ -17,11 +17,11 @@ use Rattle.ql_tree.specs.declared.tree.Query.{Query}
 use Rattle.ql_parse.specs.declared.parts.ItemRest.{ItemRest}
 use Rattle.ql_parse.specs.declared.parts.ItemRest.TheVariants as item_rests
 use Rattle.ql_parse.specs.Grammar as g
-use Rattle.ql_printed.proofs.Reprints as again
-use Rattle.ql_printed.proofs.Written.{IsServed, IsWritten}
-use Rattle.ql_printed.proofs.Parts.{kind, Same, Alike, two, item_rest_tokens, Printed, Reprint, Prints, Writable, Sound, printed_word, word_sound, meaning_prints, name_prints, plain_prints, after_word, list_prints}
-use Rattle.ql_printed.proofs.Rules.{column_prints}
-use Rattle.ql_printed.proofs.Conditions.{condition_prints}
+use Rattle.ql_laws.proofs.Reprints as again
+use Rattle.ql_laws.proofs.Written.{IsServed, IsWritten}
+use Rattle.ql_laws.proofs.Parts.{kind, Same, Alike, two, item_rest_tokens, Printed, Reprint, Prints, Writable, Sound, printed_word, word_sound, meaning_prints, name_prints, plain_prints, after_word, list_prints}
+use Rattle.ql_laws.proofs.Rules.{column_prints}
+use Rattle.ql_laws.proofs.Conditions.{condition_prints}
 
 -- an alias is printed with AS
 abbrev as_tokens : List ℕ → List Kind

@@ -15,11 +15,11 @@ use Rattle.ql_tree.specs.Printed.{kind_text, spaced, printed, rest_tokens, query
 use Rattle.ql_tree.specs.declared.tree.Query.{Query}
 use Rattle.ql_parse.specs.Grammar as g
 use Rattle.ql_parse.specs.Texts.{Spells, deepest}
-use Rattle.ql_printed.proofs.Written.{IsWritten, Ends, word_written}
-use Rattle.ql_printed.proofs.Sources.{tokens_written}
-use Rattle.ql_printed.proofs.Parts.{kind, Alike, Printed, Reprint}
-use Rattle.ql_printed.proofs.Queries.{query_prints}
-use Rattle.ql_printed.proofs.Tellings.{one_query}
+use Rattle.ql_laws.proofs.Written.{IsWritten, Ends, word_written}
+use Rattle.ql_laws.proofs.Sources.{tokens_written}
+use Rattle.ql_laws.proofs.Parts.{kind, Alike, Printed, Reprint}
+use Rattle.ql_laws.proofs.Queries.{query_prints}
+use Rattle.ql_laws.proofs.Tellings.{one_query}
 
 -- no blank stands before a token
 no_blanks : (k : Kind) (rest : List ℕ) → IsWritten k → blanks (kind_text k ++ rest) ≡ 0
