@@ -1,0 +1,21 @@
+//! Tests of types: texts that are read, definitions that are shown, and the list of types.
+#![tactic(auto)]
+
+#[cfg(test)]
+mod base;
+#[cfg(test)]
+mod chains;
+#[cfg(test)]
+mod changes;
+#[cfg(test)]
+mod document;
+#[cfg(test)]
+mod made;
+#[cfg(test)]
+mod reading;
+#[cfg(test)]
+mod right;
+#[cfg(test)]
+mod wrong_keys;
+#[cfg(test)]
+mod wrong_values;
