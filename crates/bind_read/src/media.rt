@@ -2,7 +2,7 @@
 ghost use Rattle.std.specs.Prelude.{◌≡◌};
 ghost use Rattle.bind_read.specs.Media.{is_blank, ends_type, is_of_type};
 
-use request_target::form::{behind, front};
+use http_grammar::{behind, front};
 
 fn is_blank(b: u8) -> bool
     ensures { result ≡ is_blank b }

@@ -4,3 +4,5 @@
 ghost use Rattle.std.specs.Prelude.{◌≡◌};
 
 pub mod open;
+#[cfg(test)]
+mod tests;

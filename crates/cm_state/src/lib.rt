@@ -4,6 +4,7 @@
 ghost use Rattle.std.specs.Prelude.{◌≡◌};
 
 pub mod change;
+pub mod copy;
 pub mod filing;
 pub mod look;
 pub mod open;

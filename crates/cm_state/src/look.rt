@@ -1,5 +1,5 @@
 //! Look-ups. None takes memory but `children`.
-ghost use Rattle.std.specs.Prelude.{◌≡◌, Bool, if◌then◌else◌, option_and_then, ℕ, ◌<◌, ◌≤◌, ◌^◌, ◌&&◌, not, Option, Some, None, IfOk, unwrap_or, option_map, find, filter, map, bytes_eq, length};
+ghost use Rattle.std.specs.Prelude.{◌≡◌, Bool, if◌then◌else◌, option_and_then, ℕ, ◌+◌, ◌<◌, ◌≤◌, ◌^◌, ◌&&◌, not, Option, Some, None, IfOk, unwrap_or, option_map, find, filter, map, bytes_eq, length};
 ghost use Rattle.std.specs.Option.{option_copied};
 ghost use Rattle.std.specs.List.{list_any};
 ghost use Rattle.cm_base.specs.declared.object.Object.{Object};
@@ -15,10 +15,12 @@ use cm_base::content::Content;
 use cm_base::number::{Oid, Oids};
 use cm_base::object::Object;
 use cm_base::series::Series;
+use cm_base::steps::Steps;
 use cm_base::text::{Text, Texts};
 use cm_type_list::types::Types;
 use cm_types::definition::{BaseType, TypeDef};
 use std::alloc::{AllocError, Global};
+use std::sync::ledger::Ledger;
 
 fn is_last(series: &Series, n: Oid) -> bool
     ensures { result ≡ is_latest series.now n }
@@ -56,6 +58,15 @@ impl State {
         ensures { option_copied result ≡ object_at self.now n }
     {
         self.objects.get(n.0)
+    }
+
+    /// The object of this number, and one step more on the counter of fetches.
+    pub fn fetch<L: Ledger>(&self, n: Oid, steps: &mut Steps<L>) -> Option<&Object>
+        ensures found { option_copied result ≡ object_at self.now n }
+        ensures ticked { steps.new ≡ steps.old + 1 }
+    {
+        steps.tick();
+        self.object(n)
     }
 
     /// How many objects there are.

@@ -1,4 +1,5 @@
 pub mod Added
+pub mod Edited
 pub mod Entries
 pub mod Kept
 pub mod Lists

@@ -80,7 +80,7 @@ parent_moved n s t (p ∷ ps) one h = by_test (same p.child n)
     rest true b h = h
     rest false b h = h
 
-count_moved : (n s t h : Oid) (ps : List Filed) → count_by (λ p. same p.child h) (map (refiled n s t) ps) ≡ count_by (λ p. same p.child h) ps
+pub count_moved : (n s t h : Oid) (ps : List Filed) → count_by (λ p. same p.child h) (map (refiled n s t) ps) ≡ count_by (λ p. same p.child h) ps
 count_moved n s t h [] = refl
 count_moved n s t h (p ∷ ps) = count_cons (λ q. same q.child h) (refiled n s t p) (map (refiled n s t) ps)
     ∙ (ap (λ m. cond (same m h) 1 0 + count_by (λ q. same q.child h) (map (refiled n s t) ps)) (refiled_child n s t p)

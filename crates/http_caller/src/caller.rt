@@ -1,5 +1,5 @@
 //! Who calls.
-ghost use Rattle.std.specs.Prelude.{◌≡◌, ◌+◌, ℕ, take, drop, codes, IfOk, option_map, find};
+ghost use Rattle.std.specs.Prelude.{◌≡◌, ◌+◌, ℕ, codes, IfOk, option_map, find};
 ghost use Rattle.std.specs.Option.{option_copied};
 ghost use Rattle.std.specs.List.{list_any, position_or_len};
 ghost use Rattle.cm_base.specs.Judged.{Meets};
@@ -13,36 +13,9 @@ use cm_base::copies::Copies;
 use cm_base::fail::Fail;
 use cm_base::text::Text;
 use cm_base::user::{User, Users};
+use http_grammar::{behind, front, same_word};
 use http_wire::{Head, Named};
 use std::alloc::Global;
-
-// The first bytes, so many at most.
-pub fn front(bytes: &[u8], count: usize) -> &[u8]
-    ensures { result.now ≡ take count bytes.now }
-{
-    if count < bytes.len() {
-        &bytes[..count]
-    } else {
-        bytes
-    }
-}
-
-// The bytes behind so many.
-pub fn behind(bytes: &[u8], count: usize) -> &[u8]
-    ensures { result.now ≡ drop count bytes.now }
-{
-    if count < bytes.len() {
-        &bytes[count..]
-    } else {
-        &[]
-    }
-}
-
-pub fn same_word(a: &[u8], b: &[u8]) -> bool
-    ensures { result ≡ same_word a.now b.now }
-{
-    a.eq_ignore_ascii_case(b)
-}
 
 fn after_blank(value: &[u8]) -> Option<&[u8]>
     ensures { option_copied result ≡ after_blank value.now }

@@ -8,7 +8,7 @@ ghost use Rattle.http_grammar.specs.Request.{Head};
 ghost use Rattle.http_grammar.specs.Fields.{same_word, values_named, is_visible, is_host, has_good_host, is_decimal, length_of_value, sized, by_length, by_coding, framing, head_framing, promises_body, expects_continue};
 ghost use Rattle.http_wire.specs.Found.{Finds, fields_at, value_named, decimal_below, below_half};
 
-use http_grammar::{Framing, HttpFault};
+use http_grammar::{Framing, HttpFault, same_word};
 use httparse::spans::{HeaderSpan, Span};
 use std::str;
 
@@ -22,13 +22,6 @@ pub enum Found {
     /// One field, with the place of its value.
     One(Span),
     Several,
-}
-
-/// Whether two texts are one in any case.
-pub fn same_word(a: &[u8], b: &[u8]) -> bool
-    ensures { result ≡ same_word a.now b.now }
-{
-    a.eq_ignore_ascii_case(b)
 }
 
 fn is_named(text: &[u8], field: &HeaderSpan, name: &[u8]) -> bool

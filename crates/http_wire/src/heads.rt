@@ -1,11 +1,11 @@
 //! What the bytes say of the head at their front.
-ghost use Rattle.std.specs.Prelude.{◌≡◌, ◌≤◌, ◌<◌, ℕ, length, take, drop};
+ghost use Rattle.std.specs.Prelude.{◌≡◌, ◌≤◌, ◌<◌, ℕ, length};
 ghost use Rattle.http_grammar.specs.Limits.{head_limit};
 ghost use Rattle.http_grammar.specs.Judged.{is_judged, has_line_feed};
 ghost use Rattle.http_wire.specs.Seen.{SeesPart, SeesHead, WholeHeadAt};
 
 use crate::fields::{expects_continue, framing_of};
-use http_grammar::{Framing, HttpFault};
+use http_grammar::{Framing, HttpFault, front};
 use httparse::Status;
 use httparse::spans::{HeaderSpan, RequestSpans, parse_request};
 
@@ -71,17 +71,6 @@ fn judged(bytes: &[u8]) -> bool
         rest = after;
     }
     false
-}
-
-/// The first bytes, so many at most.
-pub fn front(bytes: &[u8], limit: usize) -> &[u8]
-    ensures { result.now ≡ take limit bytes.now }
-{
-    if bytes.len() > limit {
-        &bytes[..limit]
-    } else {
-        bytes
-    }
 }
 
 // What the bytes within the limit say.

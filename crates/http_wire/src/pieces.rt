@@ -4,11 +4,10 @@ ghost use Rattle.http_wire.specs.Windows.{held};
 ghost use Rattle.http_wire.specs.Pieces.{SeesInner, SeesPiece, LooksPiece, PieceAnswer, ReadsPiece};
 
 use crate::fault::WireStop;
-use crate::heads::front;
 use crate::pace::Pace;
 use crate::piece::{Piece, PieceEnd, PieceSeen};
 use crate::window::Window;
-use http_grammar::HttpFault;
+use http_grammar::{HttpFault, front};
 use httparse::spans::{HeaderSpan, parse_headers};
 use httparse::{Status, parse_chunk_size};
 use outside::Source;

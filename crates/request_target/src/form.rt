@@ -1,7 +1,9 @@
 //! The forms of a target, and its path and query.
-ghost use Rattle.std.specs.Prelude.{◌≡◌, ◌+◌, ◌==◌, take, drop, option_map};
+ghost use Rattle.std.specs.Prelude.{◌≡◌, ◌+◌, ◌==◌, option_map};
 ghost use Rattle.std.specs.List.{position_or_len};
 ghost use Rattle.request_target.specs.Form.{is_origin, is_absolute, ends_authority, behind_authority, locator, path_in, query_in};
+
+use http_grammar::{behind, front};
 
 fn is_origin(target: &[u8]) -> bool
     ensures { result ≡ is_origin target.now }
@@ -9,28 +11,6 @@ fn is_origin(target: &[u8]) -> bool
     match target {
         [] => false,
         [b, ..] => *b == b'/',
-    }
-}
-
-/// The first bytes, so many at most.
-pub fn front(text: &[u8], count: usize) -> &[u8]
-    ensures { result.now ≡ take count text.now }
-{
-    if text.len() > count {
-        &text[..count]
-    } else {
-        text
-    }
-}
-
-/// What stands behind so many bytes.
-pub fn behind(text: &[u8], count: usize) -> &[u8]
-    ensures { result.now ≡ drop count text.now }
-{
-    if text.len() > count {
-        &text[count..]
-    } else {
-        &[]
     }
 }
 

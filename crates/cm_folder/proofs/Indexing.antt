@@ -1,0 +1,123 @@
+-- The indexes after an entry more, one less, and the change of a child's entries.
+use Rattle.std.proofs.Common.{◌≡◌, ℕ, ◌+◌, ◌≤◌, ◌==◌, ◌||◌, not, Bool, true, false, cond, List, [], ◌∷◌, ◌++◌, map, filter_map, Option, None, Some, is_some, option_and_then, unwrap_or, sym, ap, subst, refl, ◌∙◌, arith, T}
+use Rattle.std.specs.List.{list_any}
+use Rattle.core.specs.Ordering.{nat_cmp, eq_by_cmp}
+use Rattle.core.specs.Cmp.{nat_cmp_total, unsigned_tied}
+use Rattle.core.specs.FinMap.Entries.{put, find, is_sorted, is_sorted-put, is_sorted-where_key}
+use Rattle.std.proofs.lemmas.Bool.{eqb-true}
+use Rattle.map_keys.specs.Parts.{without_key}
+use Rattle.cm_base.specs.declared.number.Oid.{Oid}
+use Rattle.cmis_spec.specs.Repository.{same}
+use Rattle.cm_folder.specs.declared.entry.FilingEntry.{FilingEntry}
+use Rattle.cm_folder.specs.declared.edit.Edit.{Edit}
+use Rattle.cm_folder.specs.Filings.{edit_of, edit_child}
+use Rattle.cm_folder.specs.Places.{bucket_by, value_at, name_order, name_key, child_key, IsIndexed}
+use Rattle.cm_folder.proofs.Placing.{by_test, find-put_at, find-without_at, tells_with, tells_without, changed_is, values_changed}
+
+-- an entry more keeps the indexes
+pub indexed_with : (es fs : List (ℕ × FilingEntry)) (n : ℕ) (e : FilingEntry) (children more : List (ℕ × List (ℕ × Oid))) (names others : List ((ℕ × List ℕ) × List (ℕ × Oid)))
+    → IsIndexed es children names → find nat_cmp n es ≡ None → fs ≡ put nat_cmp n e es
+    → ((q : ℕ) → bucket_by nat_cmp more q ≡ cond (eq_by_cmp nat_cmp q e.child.0) (put nat_cmp n e.folder (bucket_by nat_cmp children q)) (bucket_by nat_cmp children q))
+    → ((q : ℕ × List ℕ) → bucket_by name_order others q ≡ cond (eq_by_cmp name_order q (e.folder.0, e.name)) (put nat_cmp n e.child (bucket_by name_order names q)) (bucket_by name_order names q))
+    → IsIndexed fs more others
+indexed_with es fs n e children more names others w free at c k =
+    let found : (p : ℕ) → find nat_cmp p fs ≡ cond (p == n) (Some e) (find nat_cmp p es) = λ p. ap (find nat_cmp p) at ∙ find-put_at p n e es in
+    record {
+      sorted = subst (λ l. T (is_sorted nat_cmp l)) (sym at) (is_sorted-put nat_cmp nat_cmp_total n e es w.sorted);
+      children = tells_with nat_cmp child_key (λ d. d.folder) es fs n e children more w.children free found c;
+      names = tells_with name_order name_key (λ d. d.child) es fs n e names others w.names free found k;
+    }
+
+-- and one less
+pub indexed_without : (es fs : List (ℕ × FilingEntry)) (n : ℕ) (e : FilingEntry) (children less : List (ℕ × List (ℕ × Oid))) (names others : List ((ℕ × List ℕ) × List (ℕ × Oid)))
+    → IsIndexed es children names → find nat_cmp n es ≡ Some e → fs ≡ without_key nat_cmp n es
+    → ((q : ℕ) → bucket_by nat_cmp less q ≡ cond (eq_by_cmp nat_cmp q e.child.0) (without_key nat_cmp n (bucket_by nat_cmp children q)) (bucket_by nat_cmp children q))
+    → ((q : ℕ × List ℕ) → bucket_by name_order others q ≡ cond (eq_by_cmp name_order q (e.folder.0, e.name)) (without_key nat_cmp n (bucket_by name_order names q)) (bucket_by name_order names q))
+    → IsIndexed fs less others
+indexed_without es fs n e children less names others w there at c k =
+    let found : (p : ℕ) → find nat_cmp p fs ≡ cond (p == n) None (find nat_cmp p es) = λ p. ap (find nat_cmp p) at ∙ find-without_at p n es in
+    record {
+      sorted = subst (λ l. T (is_sorted nat_cmp l)) (sym at) (is_sorted-where_key nat_cmp (λ x. not (eq_by_cmp nat_cmp n x)) es w.sorted);
+      children = tells_without nat_cmp child_key (λ d. d.folder) es fs n e children less w.children there found c;
+      names = tells_without name_order name_key (λ d. d.child) es fs n e names others w.names there found k;
+    }
+
+self_test : (n : ℕ) → (n == n) ≡ true
+self_test n = grind arith
+
+-- where nothing is in a place, nothing goes
+pub nothing_there : {X : Type 0} (n : ℕ) (es : List (ℕ × X)) → find nat_cmp n es ≡ None → (p : ℕ) → find nat_cmp p es ≡ cond (p == n) None (find nat_cmp p es)
+nothing_there n es none p = by_test (p == n)
+    (λ t. rw t (subst (λ m. find nat_cmp m es ≡ None) (sym (eqb-true p n t)) none))
+    (λ t. rw t refl)
+
+-- a place that was cleared is free
+pub cleared_free : {X : Type 0} (n : ℕ) (es cs : List (ℕ × X)) → ((p : ℕ) → find nat_cmp p cs ≡ cond (p == n) None (find nat_cmp p es)) → find nat_cmp n cs ≡ None
+cleared_free n es cs found = found n ∙ ap (λ b. cond b None (find nat_cmp n es)) (self_test n)
+
+-- an entry in a place that was cleared
+pub put_after : {X : Type 0} (n : ℕ) (e : X) (es cs fs : List (ℕ × X)) → ((p : ℕ) → find nat_cmp p cs ≡ cond (p == n) None (find nat_cmp p es)) → fs ≡ put nat_cmp n e cs
+    → (p : ℕ) → find nat_cmp p fs ≡ cond (p == n) (Some e) (find nat_cmp p es)
+put_after n e es cs fs found at p =
+    ap (find nat_cmp p) at ∙ (find-put_at p n e cs ∙ by_test (p == n)
+    (λ t. rw t refl)
+    (λ t. rw t (found p ∙ rw t refl)))
+
+any_last : {A : Type 0} (t : A → Bool) (xs : List A) (x : A) → list_any t (xs ++ x ∷ []) ≡ (t x || list_any t xs)
+any_last t [] x = refl
+any_last t (y ∷ ys) x = ap (λ b. t y || b) (any_last t ys x) ∙ turned (t y) (t x) (list_any t ys)
+  where
+    turned : (a b c : Bool) → (a || (b || c)) ≡ (b || (a || c))
+    turned true true c = refl
+    turned true false c = refl
+    turned false b c = refl
+
+-- one place more is changed
+pub changed_more : {X Y : Type 0} (f : X → Option X) (es now fs : List (ℕ × X)) (ys : List (ℕ × Y)) (y : ℕ × Y) (new : Option X)
+    → ((p : ℕ) → find nat_cmp p now ≡ cond (list_any (λ e. p == e.0) ys) (option_and_then f (find nat_cmp p es)) (find nat_cmp p es))
+    → new ≡ option_and_then f (find nat_cmp y.0 es)
+    → ((p : ℕ) → find nat_cmp p fs ≡ cond (p == y.0) new (find nat_cmp p now))
+    → (p : ℕ) → find nat_cmp p fs ≡ cond (list_any (λ e. p == e.0) (ys ++ y ∷ [])) (option_and_then f (find nat_cmp p es)) (find nat_cmp p es)
+changed_more f es now fs ys y new before is found p =
+    found p ∙ (by_test (p == y.0)
+    (λ t. rw t (is ∙ (ap (λ m. option_and_then f (find nat_cmp m es)) (sym (eqb-true p y.0 t))
+    ∙ ap (λ b. cond b (option_and_then f (find nat_cmp p es)) (find nat_cmp p es)) (sym (any_last (λ e. p == e.0) ys y ∙ ap (λ b. b || list_any (λ e. p == e.0) ys) t)))))
+    (λ t. rw t (before p
+    ∙ ap (λ b. cond b (option_and_then f (find nat_cmp p es)) (find nat_cmp p es)) (sym (any_last (λ e. p == e.0) ys y ∙ ap (λ b. b || list_any (λ e. p == e.0) ys) t)))))
+
+has_place : {X : Type 0} (p : ℕ) (b : List (ℕ × X)) → list_any (λ e. p == e.0) b ≡ is_some (find nat_cmp p b)
+has_place p [] = refl
+has_place p (e ∷ b) = by_test (eq_by_cmp nat_cmp p e.0)
+    (λ t. rw (t, sym (unsigned_tied p e.0) ∙ t) refl)
+    (λ t. rw (t, sym (unsigned_tied p e.0) ∙ t) (has_place p b))
+
+-- the places of a child are those of its entries
+pub changed_child : (edit : Edit) (c : Oid) (es : List (ℕ × FilingEntry)) (children : List (ℕ × List (ℕ × Oid))) (names : List ((ℕ × List ℕ) × List (ℕ × Oid))) → IsIndexed es children names
+    → (o : Option (List (ℕ × Oid))) → o ≡ find nat_cmp c.0 children
+    → (p : ℕ) → cond (list_any (λ e. p == e.0) (unwrap_or o [])) (option_and_then (edit_of edit) (find nat_cmp p es)) (find nat_cmp p es) ≡ option_and_then (edit_child edit c) (find nat_cmp p es)
+changed_child edit c es children names w o at p =
+    ap (λ b. cond b (option_and_then (edit_of edit) (find nat_cmp p es)) (find nat_cmp p es))
+    (has_place p (unwrap_or o []) ∙ ap (λ m. is_some (find nat_cmp p (unwrap_or m []))) at ∙ ap is_some (w.children c.0 p))
+    ∙ by (find nat_cmp p es)
+  where
+    flip : (a b : ℕ) → (b == a) ≡ (a == b)
+    flip a b = grind arith
+
+    by : (o : Option FilingEntry) → cond (is_some (value_at nat_cmp child_key (λ e. e.folder) c.0 o)) (option_and_then (edit_of edit) o) o ≡ option_and_then (edit_child edit c) o
+    by None = refl
+    by (Some e) =
+        let at : eq_by_cmp nat_cmp c.0 e.child.0 ≡ same e.child c = unsigned_tied c.0 e.child.0 ∙ flip e.child.0 c.0 in
+        by_test (same e.child c)
+        (λ t. rw (at, t) refl)
+        (λ t. rw (at, t) refl)
+
+-- the list of the entries after a change
+pub list_changed : (f : FilingEntry → Option FilingEntry) (es fs : List (ℕ × FilingEntry)) → T (is_sorted nat_cmp es) → T (is_sorted nat_cmp fs)
+    → ((p : ℕ) → find nat_cmp p fs ≡ option_and_then f (find nat_cmp p es)) → map (λ e. e.1) fs ≡ filter_map f (map (λ e. e.1) es)
+list_changed f es fs sorted rising found = ap (map (λ e. e.1)) (changed_is f es fs sorted rising found) ∙ values_changed f es
+
+-- the places stay below the next one
+pub below_put : {X : Type 0} (n : ℕ) (e : X) (es fs : List (ℕ × X)) → ((p : ℕ) → n ≤ p → find nat_cmp p es ≡ None) → fs ≡ put nat_cmp n e es → (p : ℕ) → n + 1 ≤ p → find nat_cmp p fs ≡ None
+below_put n e es fs below at p le =
+    let other : (p == n) ≡ false = by_test (p == n) (λ t. let k : p ≡ n = eqb-true p n t in absurd (omega (arith, k, le))) (λ t. t) in
+    ap (find nat_cmp p) at ∙ (find-put_at p n e es ∙ (ap (λ b. cond b (Some e) (find nat_cmp p es)) other ∙ below p (omega (arith, le))))

@@ -1,0 +1,16 @@
+use Rattle.std.proofs.Common.{cond, ◌∙◌}
+use Rattle.core.specs.Ordering.{nat_cmp, eq_by_cmp}
+use Rattle.core.specs.FinMap.Entries.{put}
+use Rattle.cm_folder.specs.Places.{bucket_by, name_order}
+use Rattle.cm_folder.proofs.Indexing.{indexed_with}
+use Rattle.cm_folder.proofs.parts.Parts.with_entry.Goals as goal
+
+pub returns : goal.returns
+returns c =
+    let old = c.args.self.now in
+    let e = c.args.entry in
+    record {
+      indexed = indexed_with old.entries c.in_ok-entries.entries c.args.place e old.by_child c.in_ok-by_child.by_child old.by_name c.in_ok-by_name.by_name c.requires.indexed c.requires.free c.in_ok-entries.ensures c.in_ok-by_child.ensures
+          (λ q. c.in_ok-by_name.ensures q ∙ (λ i. cond (eq_by_cmp name_order q (e.folder.0, c.in_ok-name.ensures i)) (put nat_cmp c.args.place e.child (bucket_by name_order old.by_name q)) (bucket_by name_order old.by_name q)));
+      entries = c.in_ok-entries.ensures;
+    }

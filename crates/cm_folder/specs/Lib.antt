@@ -1,0 +1,3 @@
+pub mod Filings
+pub mod Places
+pub mod Trees

@@ -1,0 +1,43 @@
+-- Entries by their places, and their indexes.
+use Rattle.std.specs.Prelude.{◌≡◌, ℕ, ◌≤◌, List, [], Option, None, Some, map, filter, unwrap_or, option_and_then, if◌then◌else◌, T}
+use Rattle.core.specs.Ordering.{nat_cmp, eq_by_cmp, ordering_then}
+use Rattle.core.specs.Cmp.Lexicographic.{slice_cmp}
+use Rattle.core.specs.declared.cmp.Ordering.{Ordering}
+use Rattle.core.specs.FinMap.Entries.{find, is_sorted}
+use Rattle.cm_base.specs.declared.number.Oid.{Oid}
+use Rattle.cm_folder.specs.declared.entry.FilingEntry.{FilingEntry}
+
+-- the map under a key; where there is none, the empty one
+abbrev pub bucket_by : {K X : Type 0} → (K → K → Ordering) → List (K × List (ℕ × X)) → K → List (ℕ × X)
+bucket_by R buckets q = unwrap_or (find R q buckets) []
+
+-- the values of the entries that have the key, by their places
+abbrev pub placed : {K E X : Type 0} → (K → K → Ordering) → (E → K) → (E → X) → K → List (ℕ × E) → List (ℕ × X)
+placed R key value q entries = map (λ e. (e.0, value e.1)) (filter (λ e. eq_by_cmp R q (key e.1)) entries)
+
+-- the value of an entry, where it has the key
+abbrev pub value_at : {K E X : Type 0} → (K → K → Ordering) → (E → K) → (E → X) → K → Option E → Option X
+value_at R key value q entry = option_and_then (λ e. if eq_by_cmp R q (key e) then Some (value e) else None) entry
+
+-- a folder and a name: by the folder's number, then by the name's bytes
+abbrev pub name_order : ℕ × List ℕ → ℕ × List ℕ → Ordering
+name_order x y = ordering_then (nat_cmp x.0 y.0) (slice_cmp nat_cmp x.1 y.1)
+
+abbrev pub child_key : FilingEntry → ℕ
+child_key e = e.child.0
+
+abbrev pub name_key : FilingEntry → ℕ × List ℕ
+name_key e = (e.folder.0, e.name)
+
+-- the indexes tell what the entries are
+pub record IsIndexed (entries : List (ℕ × FilingEntry)) (by_child : List (ℕ × List (ℕ × Oid))) (by_name : List ((ℕ × List ℕ) × List (ℕ × Oid))) : Type 0 where
+  pub sorted : T (is_sorted nat_cmp entries)
+  -- by child: its folders
+  pub children : (c p : ℕ) → find nat_cmp p (bucket_by nat_cmp by_child c) ≡ value_at nat_cmp child_key (λ e. e.folder) c (find nat_cmp p entries)
+  -- by folder and name: the children
+  pub names : (k : ℕ × List ℕ) (p : ℕ) → find nat_cmp p (bucket_by name_order by_name k) ≡ value_at name_order name_key (λ e. e.child) k (find nat_cmp p entries)
+
+pub record IsFiling (entries : List (ℕ × FilingEntry)) (next : ℕ) (by_child : List (ℕ × List (ℕ × Oid))) (by_name : List ((ℕ × List ℕ) × List (ℕ × Oid))) : Type 0 where
+  -- places are below the next one
+  pub below : (p : ℕ) → next ≤ p → find nat_cmp p entries ≡ None
+  pub indexed : IsIndexed entries by_child by_name

@@ -1,0 +1,58 @@
+//! The state of a repository that has just begun.
+ghost use Rattle.std.specs.Prelude.{◌≡◌, ◌<◌};
+
+use crate::open::open;
+use cm_base::number::{Moment, Oid};
+use cm_base::steps::Steps;
+use cm_base::users::read_users;
+use cm_state::state::State;
+use std::alloc::Global;
+use std::marker::Brand;
+use std::sync::ledger::{Blank, Ledger};
+
+fn begun(alloc: Global) -> Option<State> {
+    let users = read_users(alloc, "admin:pw,ann:a").ok()?;
+    open(alloc, &users, Moment(7), 3).ok()
+}
+
+fn has_the_root_alone(state: &State) -> bool {
+    state.step() == 3 && state.object(Oid(1)).is_some() && state.object(Oid(2)).is_none()
+}
+
+#[test]
+fn begins_with_the_root(rt: HostRuntime) {
+    match begun(rt.alloc()) {
+        Some(state) => assert!(rt; has_the_root_alone(&state)),
+        None => assert!(rt; false),
+    }
+}
+
+fn copied(alloc: Global) -> Option<State> {
+    let state = begun(alloc)?;
+    state.copy(alloc).ok()
+}
+
+#[test]
+fn a_copy_is_the_same(rt: HostRuntime) {
+    match copied(rt.alloc()) {
+        Some(state) => assert!(rt; has_the_root_alone(&state)),
+        None => assert!(rt; false),
+    }
+}
+
+fn fetches<L: Ledger>(state: &State, blank: Blank) -> bool
+    requires name { blank.name ≡ L.name }
+    requires parts { blank.parts ≡ L.parts }
+    requires cut { 0 < blank.parts }
+{
+    let mut steps = Steps::<L>::new(blank);
+    state.fetch(Oid(1), &mut steps).is_some()
+}
+
+#[test]
+fn the_root_is_fetched(rt: HostRuntime) {
+    match begun(rt.alloc()) {
+        Some(state) => assert!(rt; fetches::<Brand>(&state, Blank::new(1))),
+        None => assert!(rt; false),
+    }
+}

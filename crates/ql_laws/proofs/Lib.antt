@@ -1,0 +1,13 @@
+pub mod Reprints
+pub mod Escaping
+pub mod Written
+pub mod Parts
+pub mod Rules
+pub mod Shapes
+pub mod Tests
+pub mod Conditions
+pub mod Queries
+pub mod Tellings
+pub mod Sources
+pub mod Again
+pub mod Said

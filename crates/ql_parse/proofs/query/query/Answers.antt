@@ -1,0 +1,19 @@
+use Rattle.grammar_rules.proofs.Within.{optional_there, optional_none}
+use Rattle.ql_parse.specs.Grammar as g
+use Rattle.ql_parse.proofs.Exits.{exit, start, out, out_optional}
+use Rattle.ql_parse.proofs.Levels.{query_optional}
+use Rattle.ql_parse.proofs.query.query.Goals as goal
+
+pub returns-in_err-found : goal.returns-in_err-found
+returns-in_err-found c = exit (g.query c.args.depth) (λ x. (x.0, x.1.now)) c.args.tokens.now _ _ c.from_residual.ensures.1
+    (out_optional (query_optional c.args.depth) (start (g.query c.args.depth) c.args.tokens.now) _ c.in_err-found.ensures)
+
+pub returns-in_err-keys : goal.returns-in_err-keys
+returns-in_err-keys c = exit (g.query c.args.depth) (λ x. (x.0, x.1.now)) c.args.tokens.now _ _ c.from_residual-in_err-keys.ensures.1
+    (out (optional_there (query_optional c.args.depth) (start (g.query c.args.depth) c.args.tokens.now) c.in_ok-found.ensures c.if-at.ensures) _ c.in_err-keys.ensures)
+
+pub returns-then-at : goal.returns-then-at
+returns-then-at c = rw c.sorted.ensures ((optional_there (query_optional c.args.depth) (start (g.query c.args.depth) c.args.tokens.now) c.in_ok-found.ensures c.if-at.ensures).took _ _ c.in_ok-keys.ensures)
+
+pub returns : goal.returns
+returns c = optional_none (query_optional c.args.depth) (start (g.query c.args.depth) c.args.tokens.now) c.in_ok-found.ensures c.if-at.ensures

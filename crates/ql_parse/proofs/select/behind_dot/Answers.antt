@@ -1,0 +1,9 @@
+use Rattle.std.proofs.Common.{refl}
+use Rattle.grammar_rules.proofs.Within.{choice_right}
+use Rattle.ql_parse.specs.Grammar as g
+use Rattle.ql_parse.proofs.Exits.{start, last}
+use Rattle.ql_parse.proofs.Facts.{behind_dot_choice}
+use Rattle.ql_parse.proofs.select.behind_dot.Goals as goal
+
+pub returns-in-None : goal.returns-in-None
+returns-in-None c = last (choice_right behind_dot_choice (start g.behind_dot c.args.tokens.now) c.in-None.ensures) (λ x. (x.0, x.1.now)) (λ x. (x.0, x.1.now)) (λ x. refl) c.dotted.result c.dotted.ensures
