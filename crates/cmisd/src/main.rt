@@ -27,13 +27,7 @@ fn main(rt: HostRuntime) -> ExitCode {
             let mut input = StdSource::new(rt.stdin());
             let mut output = StdSink::new(rt.stdout());
             let mut clock = SystemClock::new(&rt);
-            ExitCode::from(run_once(
-                alloc,
-                &words,
-                &mut input,
-                &mut output,
-                &mut clock,
-            ))
+            ExitCode::from(run_once(alloc, &words, &mut input, &mut output, &mut clock))
         }
         Err(_) => ExitCode::from(7),
     }
