@@ -1,0 +1,5 @@
+//! Tests of the folder tree.
+#![tactic(auto)]
+
+#[cfg(test)]
+mod tests;
