@@ -15,7 +15,7 @@ use Rattle.ql_laws.proofs.Reprints as again
 use Rattle.ql_laws.proofs.Written.{IsServed, IsWritten}
 use Rattle.ql_laws.proofs.Shapes as shapes
 use Rattle.ql_laws.proofs.Parts.{kind, Same, Alike, two, Printed, Prints, Writable, Sound, printed_word, word_sound, printed_group, group_keeps}
-use Rattle.ql_laws.proofs.Tests.{tokens, rank, simple_prints, simple_rank}
+use Rattle.ql_laws.proofs.TestRules.{tokens, rank, simple_prints, simple_rank}
 
 abbrev conj : ℕ → Rule Token Cond
 conj d = g.conjunction (g.level d).negated

@@ -4,7 +4,7 @@ pub mod Written
 pub mod Parts
 pub mod Rules
 pub mod Shapes
-pub mod Tests
+pub mod TestRules
 pub mod Conditions
 pub mod Queries
 pub mod Tellings
