@@ -66,7 +66,7 @@ asked_type t = record {
 
 -- ---- definitions that a request can make
 
--- an integer that a reader of JSON takes as one of 64 bits: each negative one, and the others below 2^63
+-- an integer of 64 bits
 abbrev pub fits : ℤ → Bool
 fits n = is_some (as_i64 (of_integer n))
 
@@ -84,7 +84,7 @@ abbrev pub is_no_empty_list : Value → Bool
 is_no_empty_list (Many []) = false
 is_no_empty_list v = true
 
--- names of their forms, integers that are so taken, limits of the kind alone, and a default value and choices without a fault
+-- names of their forms, integers of 64 bits, limits of the kind alone, and a default value and choices without a fault
 pub record IsSoundProp (d : PropDef) : Type 0 where
   pub id : is_id d.id ≡ true
   pub query_name : is_query_name d.query_name ≡ true
