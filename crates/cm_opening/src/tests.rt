@@ -10,6 +10,7 @@ use std::alloc::Global;
 use std::marker::Brand;
 use std::sync::ledger::{Blank, Ledger};
 
+#[tactic(auto, unfolding(cmis_spec::specs::Repository::most_steps))]
 fn begun(alloc: Global) -> Option<State> {
     let users = read_users(alloc, "admin:pw,ann:a").ok()?;
     open(alloc, &users, Moment(7), 3).ok()
@@ -49,10 +50,14 @@ fn fetches<L: Ledger>(state: &State, blank: Blank) -> bool
     state.fetch(Oid(1), &mut steps).is_some()
 }
 
+fn counted(state: &State) -> bool {
+    fetches::<Brand>(state, Blank::new(1))
+}
+
 #[test]
 fn the_root_is_fetched(rt: HostRuntime) {
     match begun(rt.alloc()) {
-        Some(state) => assert!(rt; fetches::<Brand>(&state, Blank::new(1))),
+        Some(state) => assert!(rt; counted(&state)),
         None => assert!(rt; false),
     }
 }
