@@ -3,9 +3,11 @@ ghost use Rattle.std.specs.Prelude.{◌≡◌, ◌<◌};
 
 use crate::open::open;
 use cm_base::number::{Moment, Oid};
+use cm_base::object::Object;
 use cm_base::steps::Steps;
 use cm_base::users::read_users;
 use cm_state::state::State;
+use cm_types::definition::BaseType;
 use std::alloc::Global;
 use std::marker::Brand;
 use std::sync::ledger::{Blank, Ledger};
@@ -16,8 +18,15 @@ fn begun(alloc: Global) -> Option<State> {
     open(alloc, &users, Moment(7), 3).ok()
 }
 
+fn is_root(state: &State, root: &Object) -> bool {
+    state.is_a(BaseType::Folder, root) && root.maker.is_str("admin") && root.made == Moment(7)
+}
+
 fn has_the_root_alone(state: &State) -> bool {
-    state.step() == 3 && state.object(Oid(1)).is_some() && state.object(Oid(2)).is_none()
+    match state.object(Oid(1)) {
+        Some(root) => state.len() == 1 && state.step() == 3 && is_root(state, root),
+        None => false,
+    }
 }
 
 #[test]
