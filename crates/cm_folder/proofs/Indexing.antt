@@ -11,34 +11,38 @@ use Rattle.cmis_spec.specs.Repository.{same}
 use Rattle.cm_folder.specs.declared.entry.FilingEntry.{FilingEntry}
 use Rattle.cm_folder.specs.declared.edit.Edit.{Edit}
 use Rattle.cm_folder.specs.Filings.{edit_of, edit_child}
-use Rattle.cm_folder.specs.Places.{bucket_by, value_at, name_order, name_key, child_key, IsIndexed}
+use Rattle.cm_folder.specs.Places.{bucket_by, value_at, name_order, name_key, child_key, folder_key, IsIndexed}
 use Rattle.cm_folder.proofs.Placing.{by_test, find-put_at, find-without_at, tells_with, tells_without, changed_is, values_changed}
 
 -- an entry more keeps the indexes
-pub indexed_with : (es fs : List (ℕ × FilingEntry)) (n : ℕ) (e : FilingEntry) (children more : List (ℕ × List (ℕ × Oid))) (names others : List ((ℕ × List ℕ) × List (ℕ × Oid)))
-    → IsIndexed es children names → find nat_cmp n es ≡ None → fs ≡ put nat_cmp n e es
+pub indexed_with : (es fs : List (ℕ × FilingEntry)) (n : ℕ) (e : FilingEntry) (children more inside inner : List (ℕ × List (ℕ × Oid))) (names others : List ((ℕ × List ℕ) × List (ℕ × Oid)))
+    → IsIndexed es children inside names → find nat_cmp n es ≡ None → fs ≡ put nat_cmp n e es
     → ((q : ℕ) → bucket_by nat_cmp more q ≡ cond (eq_by_cmp nat_cmp q e.child.0) (put nat_cmp n e.folder (bucket_by nat_cmp children q)) (bucket_by nat_cmp children q))
+    → ((q : ℕ) → bucket_by nat_cmp inner q ≡ cond (eq_by_cmp nat_cmp q e.folder.0) (put nat_cmp n e.child (bucket_by nat_cmp inside q)) (bucket_by nat_cmp inside q))
     → ((q : ℕ × List ℕ) → bucket_by name_order others q ≡ cond (eq_by_cmp name_order q (e.folder.0, e.name)) (put nat_cmp n e.child (bucket_by name_order names q)) (bucket_by name_order names q))
-    → IsIndexed fs more others
-indexed_with es fs n e children more names others w free at c k =
+    → IsIndexed fs more inner others
+indexed_with es fs n e children more inside inner names others w free at c i k =
     let found : (p : ℕ) → find nat_cmp p fs ≡ cond (p == n) (Some e) (find nat_cmp p es) = λ p. ap (find nat_cmp p) at ∙ find-put_at p n e es in
     record {
       sorted = subst (λ l. T (is_sorted nat_cmp l)) (sym at) (is_sorted-put nat_cmp nat_cmp_total n e es w.sorted);
       children = tells_with nat_cmp child_key (λ d. d.folder) es fs n e children more w.children free found c;
+      folders = tells_with nat_cmp folder_key (λ d. d.child) es fs n e inside inner w.folders free found i;
       names = tells_with name_order name_key (λ d. d.child) es fs n e names others w.names free found k;
     }
 
 -- and one less
-pub indexed_without : (es fs : List (ℕ × FilingEntry)) (n : ℕ) (e : FilingEntry) (children less : List (ℕ × List (ℕ × Oid))) (names others : List ((ℕ × List ℕ) × List (ℕ × Oid)))
-    → IsIndexed es children names → find nat_cmp n es ≡ Some e → fs ≡ without_key nat_cmp n es
+pub indexed_without : (es fs : List (ℕ × FilingEntry)) (n : ℕ) (e : FilingEntry) (children less inside inner : List (ℕ × List (ℕ × Oid))) (names others : List ((ℕ × List ℕ) × List (ℕ × Oid)))
+    → IsIndexed es children inside names → find nat_cmp n es ≡ Some e → fs ≡ without_key nat_cmp n es
     → ((q : ℕ) → bucket_by nat_cmp less q ≡ cond (eq_by_cmp nat_cmp q e.child.0) (without_key nat_cmp n (bucket_by nat_cmp children q)) (bucket_by nat_cmp children q))
+    → ((q : ℕ) → bucket_by nat_cmp inner q ≡ cond (eq_by_cmp nat_cmp q e.folder.0) (without_key nat_cmp n (bucket_by nat_cmp inside q)) (bucket_by nat_cmp inside q))
     → ((q : ℕ × List ℕ) → bucket_by name_order others q ≡ cond (eq_by_cmp name_order q (e.folder.0, e.name)) (without_key nat_cmp n (bucket_by name_order names q)) (bucket_by name_order names q))
-    → IsIndexed fs less others
-indexed_without es fs n e children less names others w there at c k =
+    → IsIndexed fs less inner others
+indexed_without es fs n e children less inside inner names others w there at c i k =
     let found : (p : ℕ) → find nat_cmp p fs ≡ cond (p == n) None (find nat_cmp p es) = λ p. ap (find nat_cmp p) at ∙ find-without_at p n es in
     record {
       sorted = subst (λ l. T (is_sorted nat_cmp l)) (sym at) (is_sorted-where_key nat_cmp (λ x. not (eq_by_cmp nat_cmp n x)) es w.sorted);
       children = tells_without nat_cmp child_key (λ d. d.folder) es fs n e children less w.children there found c;
+      folders = tells_without nat_cmp folder_key (λ d. d.child) es fs n e inside inner w.folders there found i;
       names = tells_without name_order name_key (λ d. d.child) es fs n e names others w.names there found k;
     }
 
@@ -92,10 +96,10 @@ has_place p (e ∷ b) = by_test (eq_by_cmp nat_cmp p e.0)
     (λ t. rw (t, sym (unsigned_tied p e.0) ∙ t) (has_place p b))
 
 -- the places of a child are those of its entries
-pub changed_child : (edit : Edit) (c : Oid) (es : List (ℕ × FilingEntry)) (children : List (ℕ × List (ℕ × Oid))) (names : List ((ℕ × List ℕ) × List (ℕ × Oid))) → IsIndexed es children names
+pub changed_child : (edit : Edit) (c : Oid) (es : List (ℕ × FilingEntry)) (children inside : List (ℕ × List (ℕ × Oid))) (names : List ((ℕ × List ℕ) × List (ℕ × Oid))) → IsIndexed es children inside names
     → (o : Option (List (ℕ × Oid))) → o ≡ find nat_cmp c.0 children
     → (p : ℕ) → cond (list_any (λ e. p == e.0) (unwrap_or o [])) (option_and_then (edit_of edit) (find nat_cmp p es)) (find nat_cmp p es) ≡ option_and_then (edit_child edit c) (find nat_cmp p es)
-changed_child edit c es children names w o at p =
+changed_child edit c es children inside names w o at p =
     ap (λ b. cond b (option_and_then (edit_of edit) (find nat_cmp p es)) (find nat_cmp p es))
     (has_place p (unwrap_or o []) ∙ ap (λ m. is_some (find nat_cmp p (unwrap_or m []))) at ∙ ap is_some (w.children c.0 p))
     ∙ by (find nat_cmp p es)

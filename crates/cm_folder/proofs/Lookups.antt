@@ -12,8 +12,9 @@ use Rattle.cm_base.specs.declared.filing.Filed.{Filed}
 use Rattle.cmis_spec.specs.Repository.{same, root, path_by}
 use Rattle.cm_folder.specs.declared.entry.FilingEntry.{FilingEntry}
 use Rattle.cm_folder.specs.Filings.{pair_of, is_entry, is_filed_in, is_name_taken, folder_of, folders_up_in}
-use Rattle.cm_folder.specs.Places.{bucket_by, placed, name_order, name_key, child_key, IsIndexed}
-use Rattle.cm_folder.proofs.Placing.{any_placed, placed_at, bucket_is}
+use Rattle.cm_folder.specs.Places.{bucket_by, placed, name_order, name_key, child_key, folder_key, is_folder_at, IsIndexed}
+use Rattle.cm_folder.specs.Trees.{is_folder_in}
+use Rattle.cm_folder.proofs.Placing.{any_placed, any_at, placed_at, bucket_is}
 
 flip : (a b : ℕ) → (b == a) ≡ (a == b)
 flip a b = grind arith
@@ -24,7 +25,7 @@ and_turned true false = refl
 and_turned false true = refl
 and_turned false false = refl
 
-any_by : {A : Type 0} (p q : A → Bool) → ((a : A) → p a ≡ q a) → (xs : List A) → list_any p xs ≡ list_any q xs
+pub any_by : {A : Type 0} (p q : A → Bool) → ((a : A) → p a ≡ q a) → (xs : List A) → list_any p xs ≡ list_any q xs
 any_by p q e [] = refl
 any_by p q e (x ∷ xs) = λ i. e x i || any_by p q e xs i
 
@@ -60,16 +61,35 @@ taken_same f c name es =
     (map (λ e. e.1) es)
 
 -- the folders of a child, by their places
-pub bucket_of : (es : List (ℕ × FilingEntry)) (children : List (ℕ × List (ℕ × Oid))) (names : List ((ℕ × List ℕ) × List (ℕ × Oid))) → IsIndexed es children names
+pub bucket_of : (es : List (ℕ × FilingEntry)) (children inside : List (ℕ × List (ℕ × Oid))) (names : List ((ℕ × List ℕ) × List (ℕ × Oid))) → IsIndexed es children inside names
     → (c : ℕ) (o : Option (List (ℕ × Oid))) → o ≡ find nat_cmp c children → T (is_sorted nat_cmp (unwrap_or o [])) → unwrap_or o [] ≡ placed nat_cmp child_key (λ e. e.folder) c es
-bucket_of es children names w c o e rising =
+bucket_of es children inside names w c o e rising =
     ap (λ m. unwrap_or m []) e
     ∙ bucket_is nat_cmp child_key (λ e. e.folder) c es (bucket_by nat_cmp children c) w.sorted (subst (λ m. T (is_sorted nat_cmp (unwrap_or m []))) e rising) (w.children c)
 
 -- the children of a folder under a name, by their places
-pub names_of : (es : List (ℕ × FilingEntry)) (children : List (ℕ × List (ℕ × Oid))) (names : List ((ℕ × List ℕ) × List (ℕ × Oid))) → IsIndexed es children names
+pub names_of : (es : List (ℕ × FilingEntry)) (children inside : List (ℕ × List (ℕ × Oid))) (names : List ((ℕ × List ℕ) × List (ℕ × Oid))) → IsIndexed es children inside names
     → (k : ℕ × List ℕ) → T (is_sorted nat_cmp (bucket_by name_order names k)) → bucket_by name_order names k ≡ placed name_order name_key (λ e. e.child) k es
-names_of es children names w k rising = bucket_is name_order name_key (λ e. e.child) k es (bucket_by name_order names k) w.sorted rising (w.names k)
+names_of es children inside names w k rising = bucket_is name_order name_key (λ e. e.child) k es (bucket_by name_order names k) w.sorted rising (w.names k)
+
+-- the children of a folder, by their places
+pub children_of : (es : List (ℕ × FilingEntry)) (children inside : List (ℕ × List (ℕ × Oid))) (names : List ((ℕ × List ℕ) × List (ℕ × Oid))) → IsIndexed es children inside names
+    → (f : ℕ) (o : Option (List (ℕ × Oid))) → o ≡ find nat_cmp f inside → T (is_sorted nat_cmp (unwrap_or o [])) → unwrap_or o [] ≡ placed nat_cmp folder_key (λ e. e.child) f es
+children_of es children inside names w f o e rising =
+    ap (λ m. unwrap_or m []) e
+    ∙ bucket_is nat_cmp folder_key (λ e. e.child) f es (bucket_by nat_cmp inside f) w.sorted (subst (λ m. T (is_sorted nat_cmp (unwrap_or m []))) e rising) (w.folders f)
+
+-- a test of the children of a folder
+pub any_inside : (f : Oid) (t : Oid → Bool) (es : List (ℕ × FilingEntry)) → list_any (λ e. t e.1) (placed nat_cmp folder_key (λ e. e.child) f.0 es) ≡ list_any (λ e. same e.folder f && t e.child) (map (λ e. e.1) es)
+any_inside f t es =
+    any_placed nat_cmp folder_key (λ e. e.child) t f.0 es
+    ∙ any_by (λ (e : FilingEntry). eq_by_cmp nat_cmp f.0 e.folder.0 && t e.child) (λ e. same e.folder f && t e.child) (λ e. ap (λ b. b && t e.child) (unsigned_tied f.0 e.folder.0 ∙ flip e.folder.0 f.0)) (map (λ e. e.1) es)
+
+-- the child is filed as a folder
+pub folder_same : (c : Oid) (es : List (ℕ × FilingEntry)) → T (is_sorted nat_cmp es) → list_any (λ d. is_folder_at es d.0) (placed nat_cmp child_key (λ e. e.folder) c.0 es) ≡ is_folder_in (map (λ e. e.1) es) c
+folder_same c es h =
+    any_at nat_cmp child_key (λ e. e.folder) (λ e. e.is_folder) c.0 es h
+    ∙ any_by (λ (e : FilingEntry). eq_by_cmp nat_cmp c.0 e.child.0 && e.is_folder) (λ e. e.is_folder && same e.child c) (λ e. and_turned (eq_by_cmp nat_cmp c.0 e.child.0) e.is_folder ∙ ap (λ b. e.is_folder && b) (unsigned_tied c.0 e.child.0 ∙ flip e.child.0 c.0)) (map (λ e. e.1) es)
 
 find_by_test : {A : Type 0} (p q : A → Bool) → ((a : A) → p a ≡ q a) → (xs : List A) → find_by p xs ≡ find_by q xs
 find_by_test p q e [] = refl

@@ -188,6 +188,17 @@ module _ {E X : Type 0} (f : E → Option X) where
     | Some x ↦ ap (λ l. x ∷ l) (values_changed es)
   ]
 
+less_not : (r : Ordering) → T (is_lt r) → is_eq r ≡ false
+less_not Less h = refl
+less_not Equal h = absurd h
+less_not Greater h = absurd h
+
+above_not : (x p : ℕ) → T (is_lt (nat_cmp x p)) → eq_by_cmp nat_cmp p x ≡ false
+above_not x p h = ties p x ∙ (turn x p ∙ (sym (ties x p) ∙ less_not (nat_cmp x p) h))
+  where
+    turn : (a b : ℕ) → (b == a) ≡ (a == b)
+    turn a b = grind arith
+
 module _ {K E X : Type 0} (R : K → K → Ordering) (key : E → K) (value : E → X) where
   placed_changed : (q : K) (es : List (ℕ × E)) → placed R key value q es ≡ changed (λ e. if eq_by_cmp R q (key e) then Some (value e) else None) es
   placed_changed q [] = refl
@@ -263,6 +274,9 @@ module _ {K E X : Type 0} (R : K → K → Ordering) (key : E → K) (value : E 
         | false ↦ any_placed t q es
       ]
 
+  below_placed : (x : ℕ) (q : K) (es : List (ℕ × E)) → T (below_all nat_cmp x es) → T (below_all nat_cmp x (placed R key value q es))
+  below_placed x q es h = subst (λ l. T (below_all nat_cmp x l)) (sym (placed_changed q es)) (below_changed (λ e. if eq_by_cmp R q (key e) then Some (value e) else None) x es h)
+
   -- the entry in the first place of those whose value passes
   pub placed_at : (g : X → Bool) (q : K) (es : List (ℕ × E)) → T (is_sorted nat_cmp es)
       → option_and_then (λ p. find nat_cmp p es) (option_map (λ d. d.0) (find_by (λ d. g d.1) (placed R key value q es))) ≡ find_by (λ e. eq_by_cmp R q (key e) && g (value e)) (map (λ e. e.1) es)
@@ -276,23 +290,25 @@ module _ {K E X : Type 0} (R : K → K → Ordering) (key : E → K) (value : E 
       (λ t. rw (k, t) more))
       (λ k. rw k more)
     where
-      below_placed : (x : ℕ) (q : K) (es : List (ℕ × E)) → T (below_all nat_cmp x es) → T (below_all nat_cmp x (placed R key value q es))
-      below_placed x q es h = subst (λ l. T (below_all nat_cmp x l)) (sym (placed_changed q es)) (below_changed (λ e. if eq_by_cmp R q (key e) then Some (value e) else None) x es h)
-
-      less_not : (r : Ordering) → T (is_lt r) → is_eq r ≡ false
-      less_not Less h = refl
-      less_not Equal h = absurd h
-      less_not Greater h = absurd h
-
-      above_not : (x p : ℕ) → T (is_lt (nat_cmp x p)) → eq_by_cmp nat_cmp p x ≡ false
-      above_not x p h = ties p x ∙ (turn x p ∙ (sym (ties x p) ∙ less_not (nat_cmp x p) h))
-        where
-          turn : (a b : ℕ) → (b == a) ≡ (a == b)
-          turn a b = grind arith
-
       later : (g : X → Bool) (x : ℕ) (v : E) (es : List (ℕ × E)) (ds : List (ℕ × X)) → T (below_all nat_cmp x ds)
           → option_and_then (λ p. find nat_cmp p ((x, v) ∷ es)) (option_map (λ d. d.0) (find_by (λ d. g d.1) ds)) ≡ option_and_then (λ p. find nat_cmp p es) (option_map (λ d. d.0) (find_by (λ d. g d.1) ds))
       later g x v es [] h = refl
       later g x v es (d ∷ ds) h = by_test (g d.1)
           (λ t. rw t (ap (λ b. cond b (Some v) (find nat_cmp d.0 es)) (above_not x d.0 (first _ _ h))))
           (λ t. rw t (later g x v es ds (second _ _ h)))
+
+  -- a test of the entries that have the key, by their places
+  pub any_at : (t : E → Bool) (q : K) (es : List (ℕ × E)) → T (is_sorted nat_cmp es)
+      → list_any (λ d. unwrap_or (option_map t (find nat_cmp d.0 es)) false) (placed R key value q es) ≡ list_any (λ e. eq_by_cmp R q (key e) && t e) (map (λ e. e.1) es)
+  any_at t q [] h = refl
+  any_at t q (e ∷ es) h =
+      let more : list_any (λ d. unwrap_or (option_map t (find nat_cmp d.0 (e ∷ es))) false) (placed R key value q es) ≡ list_any (λ e. eq_by_cmp R q (key e) && t e) (map (λ e. e.1) es) =
+      later t e.0 e.1 es (placed R key value q es) (below_placed e.0 q es (first _ _ h)) ∙ any_at t q es (second _ _ h) in
+      by_test (eq_by_cmp R q (key e.1))
+      (λ k. rw k (λ i. unwrap_or (option_map t (cond (tied_here e.0 i) (Some e.1) (find nat_cmp e.0 es))) false || more i))
+      (λ k. rw k more)
+    where
+      later : (t : E → Bool) (x : ℕ) (v : E) (es : List (ℕ × E)) (ds : List (ℕ × X)) → T (below_all nat_cmp x ds)
+          → list_any (λ d. unwrap_or (option_map t (find nat_cmp d.0 ((x, v) ∷ es))) false) ds ≡ list_any (λ d. unwrap_or (option_map t (find nat_cmp d.0 es)) false) ds
+      later t x v es [] h = refl
+      later t x v es (d ∷ ds) h = λ i. unwrap_or (option_map t (cond (above_not x d.0 (first _ _ h) i) (Some v) (find nat_cmp d.0 es))) false || later t x v es ds (second _ _ h) i

@@ -1,3 +1,4 @@
+pub mod Depths
 pub mod Filings
 pub mod Places
 pub mod Trees

@@ -1,5 +1,5 @@
 -- Entries by their places, and their indexes.
-use Rattle.std.specs.Prelude.{◌≡◌, ℕ, ◌≤◌, List, [], Option, None, Some, map, filter, unwrap_or, option_and_then, if◌then◌else◌, T}
+use Rattle.std.specs.Prelude.{◌≡◌, ℕ, ◌≤◌, Bool, false, List, [], Option, None, Some, map, filter, unwrap_or, option_map, option_and_then, if◌then◌else◌, T}
 use Rattle.core.specs.Ordering.{nat_cmp, eq_by_cmp, ordering_then}
 use Rattle.core.specs.Cmp.Lexicographic.{slice_cmp}
 use Rattle.core.specs.declared.cmp.Ordering.{Ordering}
@@ -26,18 +26,27 @@ name_order x y = ordering_then (nat_cmp x.0 y.0) (slice_cmp nat_cmp x.1 y.1)
 abbrev pub child_key : FilingEntry → ℕ
 child_key e = e.child.0
 
+abbrev pub folder_key : FilingEntry → ℕ
+folder_key e = e.folder.0
+
 abbrev pub name_key : FilingEntry → ℕ × List ℕ
 name_key e = (e.folder.0, e.name)
 
+-- in the place stands the entry of a folder
+abbrev pub is_folder_at : List (ℕ × FilingEntry) → ℕ → Bool
+is_folder_at entries place = unwrap_or (option_map (λ e. e.is_folder) (find nat_cmp place entries)) false
+
 -- the indexes tell what the entries are
-pub record IsIndexed (entries : List (ℕ × FilingEntry)) (by_child : List (ℕ × List (ℕ × Oid))) (by_name : List ((ℕ × List ℕ) × List (ℕ × Oid))) : Type 0 where
+pub record IsIndexed (entries : List (ℕ × FilingEntry)) (by_child by_folder : List (ℕ × List (ℕ × Oid))) (by_name : List ((ℕ × List ℕ) × List (ℕ × Oid))) : Type 0 where
   pub sorted : T (is_sorted nat_cmp entries)
   -- by child: its folders
   pub children : (c p : ℕ) → find nat_cmp p (bucket_by nat_cmp by_child c) ≡ value_at nat_cmp child_key (λ e. e.folder) c (find nat_cmp p entries)
+  -- by folder: its children
+  pub folders : (f p : ℕ) → find nat_cmp p (bucket_by nat_cmp by_folder f) ≡ value_at nat_cmp folder_key (λ e. e.child) f (find nat_cmp p entries)
   -- by folder and name: the children
   pub names : (k : ℕ × List ℕ) (p : ℕ) → find nat_cmp p (bucket_by name_order by_name k) ≡ value_at name_order name_key (λ e. e.child) k (find nat_cmp p entries)
 
-pub record IsFiling (entries : List (ℕ × FilingEntry)) (next : ℕ) (by_child : List (ℕ × List (ℕ × Oid))) (by_name : List ((ℕ × List ℕ) × List (ℕ × Oid))) : Type 0 where
+pub record IsFiling (entries : List (ℕ × FilingEntry)) (next : ℕ) (by_child by_folder : List (ℕ × List (ℕ × Oid))) (by_name : List ((ℕ × List ℕ) × List (ℕ × Oid))) : Type 0 where
   -- places are below the next one
   pub below : (p : ℕ) → next ≤ p → find nat_cmp p entries ≡ None
-  pub indexed : IsIndexed entries by_child by_name
+  pub indexed : IsIndexed entries by_child by_folder by_name

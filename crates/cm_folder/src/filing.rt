@@ -39,7 +39,7 @@ impl Model for Filing {
 
     ghost view = { λ s. map (λ e. e.1) s.parts.entries };
 
-    ghost invariant = { λ s. IsFiling s.parts.entries s.next s.parts.by_child s.parts.by_name };
+    ghost invariant = { λ s. IsFiling s.parts.entries s.next s.parts.by_child s.parts.by_folder s.parts.by_name };
 }
 
 // One of the folders is this one.
@@ -233,7 +233,7 @@ impl Filing {
         Ok(taken)
     }
 
-    // The filing with an entry at the end.
+    // The filing with an entry at the end; want of memory where no place is left.
     fn with_entry(&self, alloc: Global, entry: FilingEntry) -> Result<Filing, AllocError>
         ensures { IfOk result (λ f. f ≡ filed_with self.now entry) }
     {
@@ -310,6 +310,8 @@ impl Filing {
     }
 
     /// Files a child in a folder. It is refused as AlreadyFiled where the child is there, and else as NameTaken where another child has the name.
+    ///
+    /// Each entry takes a place that no later one gets, also where the entry goes: after 2^64 - 1 entries that were ever filed, the answer is want of memory.
     pub fn file(&self, alloc: Global, entry: FilingEntry) -> Result<Filing, Fail>
         ensures answer { Leaves result (refusal_file self.now entry) (filed_with self.now entry) }
         ensures tree { IsTree self.now → MayBeFiled self.now entry → IfOk result IsTree }

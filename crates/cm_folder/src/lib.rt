@@ -3,10 +3,11 @@
 
 ghost use Rattle.std.specs.Prelude.{◌≡◌};
 
+mod deep;
 pub mod edit;
 pub mod entry;
 pub mod filing;
-pub mod parts;
+mod parts;
 pub mod path;
-pub mod places;
+mod places;
 pub mod shift;

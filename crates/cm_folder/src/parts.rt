@@ -5,7 +5,8 @@ ghost use Rattle.core.specs.Ordering.{nat_cmp};
 ghost use Rattle.core.specs.FinMap.Entries.{find, put, is_sorted};
 ghost use Rattle.cmis_spec.specs.Repository.{same};
 ghost use Rattle.cm_folder.specs.Filings.{is_entry, edit_of, edit_child};
-ghost use Rattle.cm_folder.specs.Places.{placed, child_key, IsIndexed};
+ghost use Rattle.cm_folder.specs.Places.{placed, child_key, is_folder_at, IsIndexed};
+ghost use Rattle.cm_folder.specs.Trees.{is_folder_in};
 
 use crate::edit::Edit;
 use crate::entry::FilingEntry;
@@ -16,11 +17,12 @@ use cm_base::text::Text;
 use cm_map::map::Map;
 use std::alloc::{AllocError, Global};
 
-/// Entries by the places in which they were made, their folders by child, and their children by folder and name.
+/// Entries by the places in which they were made; their folders by child; their children by folder, and by folder and name.
 #[derive(Drop)]
 pub struct Parts {
     pub entries: Map<u64, FilingEntry>,
     pub by_child: PlacesBy<u64, Oid>,
+    pub by_folder: PlacesBy<u64, Oid>,
     pub by_name: PlacesBy<(u64, Text), Oid>,
 }
 
@@ -62,12 +64,13 @@ fn place_of(folders: &Map<u64, Oid>, folder: Oid) -> Option<u64>
 impl Parts {
     /// No entries, which take no memory.
     pub fn empty(alloc: Global) -> Parts
-        ensures indexed { IsIndexed result.entries result.by_child result.by_name }
+        ensures indexed { IsIndexed result.entries result.by_child result.by_folder result.by_name }
         ensures entries { result.entries ≡ [] }
     {
         Parts {
             entries: Map::empty(alloc),
             by_child: PlacesBy::empty(alloc),
+            by_folder: PlacesBy::empty(alloc),
             by_name: PlacesBy::empty(alloc),
         }
     }
@@ -78,10 +81,12 @@ impl Parts {
     {
         let entries = self.entries.share(alloc)?;
         let by_child = self.by_child.share(alloc)?;
+        let by_folder = self.by_folder.share(alloc)?;
         let by_name = self.by_name.share(alloc)?;
         Ok(Parts {
             entries,
             by_child,
+            by_folder,
             by_name,
         })
     }
@@ -93,15 +98,18 @@ impl Parts {
         place: u64,
         entry: FilingEntry,
     ) -> Result<Parts, AllocError>
-        requires indexed { IsIndexed self.now.entries self.now.by_child self.now.by_name }
+        requires indexed { IsIndexed self.now.entries self.now.by_child self.now.by_folder self.now.by_name }
         requires free { find nat_cmp place self.now.entries ≡ None }
-        ensures indexed { IfOk result (λ s. IsIndexed s.entries s.by_child s.by_name) }
+        ensures indexed { IfOk result (λ s. IsIndexed s.entries s.by_child s.by_folder s.by_name) }
         ensures entries { IfOk result (λ s. s.entries ≡ put nat_cmp place entry self.now.entries) }
     {
         let name = entry.name.copied(alloc)?;
         let by_child = self
             .by_child
             .with(alloc, entry.child.0, place, entry.folder)?;
+        let by_folder = self
+            .by_folder
+            .with(alloc, entry.folder.0, place, entry.child)?;
         let by_name = self
             .by_name
             .with(alloc, (entry.folder.0, name), place, entry.child)?;
@@ -109,13 +117,14 @@ impl Parts {
         Ok(Parts {
             entries,
             by_child,
+            by_folder,
             by_name,
         })
     }
 
     // The first place of the child.
     fn first_place_of(&self, child: Oid) -> Option<u64>
-        requires indexed { IsIndexed self.now.entries self.now.by_child self.now.by_name }
+        requires indexed { IsIndexed self.now.entries self.now.by_child self.now.by_folder self.now.by_name }
         ensures { result ≡ option_map (λ d. d.0) (find_by (λ d. true) (placed nat_cmp child_key (λ e. e.folder) child.0 self.now.entries)) }
     {
         match self.by_child.get(&child.0) {
@@ -126,7 +135,7 @@ impl Parts {
 
     /// The child's first entry.
     pub fn first_entry(&self, child: Oid) -> Option<&FilingEntry>
-        requires indexed { IsIndexed self.now.entries self.now.by_child self.now.by_name }
+        requires indexed { IsIndexed self.now.entries self.now.by_child self.now.by_folder self.now.by_name }
         ensures { option_copied result ≡ find_by (λ e. same e.child child) (map (λ e. e.1) self.now.entries) }
     {
         match self.first_place_of(child) {
@@ -137,7 +146,7 @@ impl Parts {
 
     // The place of the child in the folder.
     fn place_under(&self, folder: Oid, child: Oid) -> Option<u64>
-        requires indexed { IsIndexed self.now.entries self.now.by_child self.now.by_name }
+        requires indexed { IsIndexed self.now.entries self.now.by_child self.now.by_folder self.now.by_name }
         ensures { result ≡ option_map (λ d. d.0) (find_by (λ d. same d.1 folder) (placed nat_cmp child_key (λ e. e.folder) child.0 self.now.entries)) }
     {
         match self.by_child.get(&child.0) {
@@ -148,12 +157,48 @@ impl Parts {
 
     /// The child's entry in the folder.
     pub fn entry_under(&self, folder: Oid, child: Oid) -> Option<&FilingEntry>
-        requires indexed { IsIndexed self.now.entries self.now.by_child self.now.by_name }
+        requires indexed { IsIndexed self.now.entries self.now.by_child self.now.by_folder self.now.by_name }
         ensures { option_copied result ≡ find_by (is_entry folder child) (map (λ e. e.1) self.now.entries) }
     {
         match self.place_under(folder, child) {
             Some(place) => self.entries.get(&place),
             None => None,
+        }
+    }
+
+    // Whether in the place stands the entry of a folder.
+    fn is_folder_at(&self, place: u64) -> bool
+        ensures { result ≡ is_folder_at self.now.entries place }
+    {
+        match self.entries.get(&place) {
+            Some(entry) => entry.is_folder,
+            None => false,
+        }
+    }
+
+    // Whether in one of the places stands the entry of a folder.
+    fn has_folder_at(&self, places: &Map<u64, Oid>) -> bool
+        ensures value { result ≡ list_any (λ e. is_folder_at self.now.entries e.0) places.now }
+        ensures sorted { T (is_sorted nat_cmp places.now) }
+    {
+        let mut found = false;
+        for entry in places.iter() {
+            let at: &(u64, Oid) = entry;
+            if self.is_folder_at(at.0) {
+                found = true;
+            }
+        }
+        found
+    }
+
+    /// Whether the child is filed as a folder.
+    pub fn is_folder(&self, child: Oid) -> bool
+        requires indexed { IsIndexed self.now.entries self.now.by_child self.now.by_folder self.now.by_name }
+        ensures { result ≡ is_folder_in (map (λ e. e.1) self.now.entries) child }
+    {
+        match self.by_child.get(&child.0) {
+            Some(places) => self.has_folder_at(places),
+            None => false,
         }
     }
 
@@ -164,26 +209,28 @@ impl Parts {
         place: u64,
         entry: &FilingEntry,
     ) -> Result<Parts, AllocError>
-        requires indexed { IsIndexed self.now.entries self.now.by_child self.now.by_name }
+        requires indexed { IsIndexed self.now.entries self.now.by_child self.now.by_folder self.now.by_name }
         requires there { find nat_cmp place self.now.entries ≡ Some entry.now }
-        ensures indexed { IfOk result (λ s. IsIndexed s.entries s.by_child s.by_name) }
+        ensures indexed { IfOk result (λ s. IsIndexed s.entries s.by_child s.by_folder s.by_name) }
         ensures found { IfOk result (λ s. (p : ℕ) → find nat_cmp p s.entries ≡ (if p == place then None else find nat_cmp p self.now.entries)) }
     {
         let name = entry.name.copied(alloc)?;
         let by_child = self.by_child.without(alloc, entry.child.0, place)?;
+        let by_folder = self.by_folder.without(alloc, entry.folder.0, place)?;
         let by_name = self.by_name.without(alloc, (entry.folder.0, name), place)?;
         let entries = self.entries.without(alloc, &place)?;
         Ok(Parts {
             entries,
             by_child,
+            by_folder,
             by_name,
         })
     }
 
     // The entries without the one in the place.
     fn cleared(&self, alloc: Global, place: u64) -> Result<Parts, AllocError>
-        requires indexed { IsIndexed self.now.entries self.now.by_child self.now.by_name }
-        ensures indexed { IfOk result (λ s. IsIndexed s.entries s.by_child s.by_name) }
+        requires indexed { IsIndexed self.now.entries self.now.by_child self.now.by_folder self.now.by_name }
+        ensures indexed { IfOk result (λ s. IsIndexed s.entries s.by_child s.by_folder s.by_name) }
         ensures found { IfOk result (λ s. (p : ℕ) → find nat_cmp p s.entries ≡ (if p == place then None else find nat_cmp p self.now.entries)) }
     {
         match self.entries.get(&place) {
@@ -205,8 +252,8 @@ impl Parts {
         place: u64,
         new: Option<FilingEntry>,
     ) -> Result<Parts, AllocError>
-        requires indexed { IsIndexed self.now.entries self.now.by_child self.now.by_name }
-        ensures indexed { IfOk result (λ s. IsIndexed s.entries s.by_child s.by_name) }
+        requires indexed { IsIndexed self.now.entries self.now.by_child self.now.by_folder self.now.by_name }
+        ensures indexed { IfOk result (λ s. IsIndexed s.entries s.by_child s.by_folder s.by_name) }
         ensures found { IfOk result (λ s. (p : ℕ) → find nat_cmp p s.entries ≡ (if p == place then new else find nat_cmp p self.now.entries)) }
     {
         let cleared = self.cleared(alloc, place)?;
@@ -245,8 +292,8 @@ impl Parts {
         place: u64,
         edit: &Edit,
     ) -> Result<Parts, AllocError>
-        requires indexed { IsIndexed parts.now.entries parts.now.by_child parts.now.by_name }
-        ensures indexed { IfOk result (λ s. IsIndexed s.entries s.by_child s.by_name) }
+        requires indexed { IsIndexed parts.now.entries parts.now.by_child parts.now.by_folder parts.now.by_name }
+        ensures indexed { IfOk result (λ s. IsIndexed s.entries s.by_child s.by_folder s.by_name) }
         ensures found { IfOk result (λ s. (p : ℕ) → find nat_cmp p s.entries ≡ (if p == place then option_and_then (edit_of edit.now) (find nat_cmp place self.now.entries) else find nat_cmp p parts.now.entries)) }
     {
         let new = self.edit_at(alloc, place, edit)?;
@@ -261,8 +308,8 @@ impl Parts {
         places: &Map<u64, Oid>,
         edit: &Edit,
     ) -> Result<Parts, AllocError>
-        requires indexed { IsIndexed self.now.entries self.now.by_child self.now.by_name }
-        ensures indexed { IfOk result (λ s. IsIndexed s.entries s.by_child s.by_name) }
+        requires indexed { IsIndexed self.now.entries self.now.by_child self.now.by_folder self.now.by_name }
+        ensures indexed { IfOk result (λ s. IsIndexed s.entries s.by_child s.by_folder s.by_name) }
         ensures found { IfOk result (λ s. (p : ℕ) → find nat_cmp p s.entries ≡ (if list_any (λ e. p == e.0) places.now then option_and_then (edit_of edit.now) (find nat_cmp p self.now.entries) else find nat_cmp p self.now.entries)) }
     {
         let begin = self.share(alloc)?;
@@ -276,8 +323,8 @@ impl Parts {
 
     /// The entries, those of the child changed.
     pub fn edited(&self, alloc: Global, child: Oid, edit: &Edit) -> Result<Parts, AllocError>
-        requires indexed { IsIndexed self.now.entries self.now.by_child self.now.by_name }
-        ensures indexed { IfOk result (λ s. IsIndexed s.entries s.by_child s.by_name) }
+        requires indexed { IsIndexed self.now.entries self.now.by_child self.now.by_folder self.now.by_name }
+        ensures indexed { IfOk result (λ s. IsIndexed s.entries s.by_child s.by_folder s.by_name) }
         ensures found { IfOk result (λ s. (p : ℕ) → find nat_cmp p s.entries ≡ option_and_then (edit_child edit.now child) (find nat_cmp p self.now.entries)) }
     {
         match self.by_child.get(&child.0) {

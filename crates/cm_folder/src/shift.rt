@@ -1,12 +1,12 @@
 //! Children that get another folder or another name.
-ghost use Rattle.std.specs.Prelude.{◌≡◌, ◌+◌, ◌-◌, ◌&&◌, ◌<◌, nat_lt, map, IfOk, T};
+ghost use Rattle.std.specs.Prelude.{◌≡◌, ◌&&◌, IfOk, T};
 ghost use Rattle.core.specs.Ordering.{nat_cmp};
 ghost use Rattle.core.specs.FinMap.Entries.{is_sorted};
 ghost use Rattle.std.specs.List.{list_any};
 ghost use Rattle.cm_base.specs.Judged.{Leaves};
-ghost use Rattle.cmis_spec.specs.Repository.{same, most_levels};
+ghost use Rattle.cmis_spec.specs.Repository.{same};
 ghost use Rattle.cm_folder.specs.Trees.{IsTree, IsFolderAt};
-ghost use Rattle.cm_folder.specs.Filings.{is_name_taken, name_under, is_too_deep, refusal_place, refusal_shift, shifted, refusal_rename, renamed};
+ghost use Rattle.cm_folder.specs.Filings.{is_name_taken, name_under, refusal_place, refusal_shift, shifted, refusal_rename, renamed};
 
 use crate::entry::FilingEntry;
 use crate::filing::Filing;
@@ -17,58 +17,7 @@ use cm_base::text::Text;
 use cm_map::map::Map;
 use std::alloc::{AllocError, Global};
 
-// How many entries lie at most between the root and a folder.
-#[tactic(auto, unfolding(cmis_spec::specs::Repository::most_levels))]
-fn most_levels() -> u64
-    ensures { result ≡ most_levels }
-{
-    48
-}
-
-// The child in the folder stands deeper than is allowed, where it stands so far below what is moved.
-fn is_far(target: u64, entry: u64, child: u64) -> bool
-    requires target { target < 50 }
-    requires entry { entry < 50 }
-    ensures { result ≡ nat_lt most_levels (target + 1 + (entry - child)) }
-{
-    most_levels() < target + 1 + entry.saturating_sub(child)
-}
-
 impl Filing {
-    // The entry is that of the child or of a folder below it, and this folder would stand too deep.
-    fn is_too_deep(&self, child: Oid, target: Oid, entry: &FilingEntry) -> bool
-        ensures { result ≡ is_too_deep self.now child target entry.now }
-    {
-        entry.is_folder
-            && self.is_under(entry.child, child)
-            && is_far(
-                self.depth(target),
-                self.depth(entry.child),
-                self.depth(child),
-            )
-    }
-
-    // One of the entries is that of the child or of a folder below it that would stand too deep.
-    fn deep_among(&self, child: Oid, target: Oid, entries: &Map<u64, FilingEntry>) -> bool
-        ensures { result ≡ list_any (λ e. is_too_deep self.now child target e.1) entries.now }
-    {
-        let mut found = false;
-        for entry in entries.iter() {
-            let at: &(u64, FilingEntry) = entry;
-            if self.is_too_deep(child, target, &at.1) {
-                found = true;
-            }
-        }
-        found
-    }
-
-    // The child, or a folder below it, would stand too deep in the target.
-    fn has_deep(&self, child: Oid, target: Oid) -> bool
-        ensures { result ≡ list_any (is_too_deep self.now child target) self.now }
-    {
-        self.deep_among(child, target, &self.parts.entries)
-    }
-
     // Whether another child of the target has the name of the child in the source.
     fn is_taken_there(
         &self,

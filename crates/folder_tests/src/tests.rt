@@ -35,6 +35,7 @@ fn ways_lead_up(rt: HostRuntime) -> Result<(), TestFail> {
         Ok(filing) => {
             assert!(rt; has_path(rt.alloc(), &filing, "/a/b")?);
             assert!(rt; filing.is_above(Oid(2), Oid(4)) && filing.depth(Oid(3)) == 2);
+            assert!(rt; filing.is_folder(Oid(3)) && !filing.is_folder(Oid(4)));
         }
         Err(_) => assert!(rt; false),
     }
@@ -61,6 +62,37 @@ fn children_move(rt: HostRuntime) -> Result<(), TestFail> {
 #[test]
 fn folders_stay_above_themselves(rt: HostRuntime) -> Result<(), TestFail> {
     assert!(rt; matches!(moved(rt.alloc(), 2, 1, 3), Err(Fail::Refused(Cause::Below))));
+    Ok(())
+}
+
+fn folder(alloc: Global, above: u64, number: u64, name: &str) -> Result<FilingEntry, AllocError> {
+    Ok(FilingEntry {
+        folder: Oid(above),
+        child: Oid(number),
+        is_folder: true,
+        name: Text::from_str(alloc, name)?,
+    })
+}
+
+// Folder 48 stands 47 entries below the root, and folder 101 in folder 100, which is moved.
+fn moved_down(alloc: Global, target: u64) -> Result<Filing, Fail> {
+    let mut filing = Filing::empty(alloc);
+    for above in 1..48 {
+        filing = filing.file(alloc, folder(alloc, above, above + 1, "next")?)?;
+    }
+    filing = filing.file(alloc, folder(alloc, 1, 100, "other")?)?;
+    filing = filing.file(alloc, folder(alloc, 100, 101, "below")?)?;
+    let moved = filing.shift(alloc, Oid(100), Oid(1), Oid(target))?;
+    Ok(moved)
+}
+
+#[test]
+fn folders_stand_at_most_48_entries_deep(rt: HostRuntime) -> Result<(), TestFail> {
+    match moved_down(rt.alloc(), 47) {
+        Ok(filing) => assert!(rt; filing.depth(Oid(101)) == 48),
+        Err(_) => assert!(rt; false),
+    }
+    assert!(rt; matches!(moved_down(rt.alloc(), 48), Err(Fail::Refused(Cause::Deep))));
     Ok(())
 }
 

@@ -1,10 +1,6 @@
-use Rattle.std.proofs.Common.{ap, ◌∙◌}
-use Rattle.std.specs.List.{list_any}
-use Rattle.cm_folder.specs.Filings.{is_too_deep}
-use Rattle.cm_folder.proofs.Lookups.{any_values}
+use Rattle.std.proofs.Common.{arith}
+use Rattle.cm_folder.proofs.Below.{none_deeper}
 use Rattle.cm_folder.proofs.filing.Filing.has_deep.Goals as goal
 
-pub returns : goal.returns
-returns c =
-    let t = is_too_deep c.args.self.now c.args.child c.args.target in
-    c.deep_among.ensures ∙ (any_values t c.self.inside.parts.entries ∙ ap (list_any t) c.self.view_is)
+pub returns-then-depth-moved : goal.returns-then-depth-moved
+returns-then-depth-moved c = none_deeper c.args.self.now c.args.child c.args.target (omega (arith, c.if-depth-moved.true, c.depth-depth.ensures.value, c.depth-moved.ensures.value))

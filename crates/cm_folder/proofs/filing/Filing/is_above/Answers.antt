@@ -11,7 +11,7 @@ returns-in-Some c =
     let a = c.args.folder in
     let s = c.self.inside in
     c.over_one.ensures.value
-    ∙ ap (list_any (λ e. is_under_in list e.1 a)) (bucket_of s.parts.entries s.parts.by_child s.parts.by_name c.self.invariant.indexed c.args.child.0 _ (ap option_copied (sym c.in-Some.is) ∙ c.get.ensures) c.over_one.ensures.sorted)
+    ∙ ap (list_any (λ e. is_under_in list e.1 a)) (bucket_of s.parts.entries s.parts.by_child s.parts.by_folder s.parts.by_name c.self.invariant.indexed c.args.child.0 _ (ap option_copied (sym c.in-Some.is) ∙ c.get.ensures) c.over_one.ensures.sorted)
     ∙ taken_in_one c.args.child (λ x. is_under_in list x a) s.parts.entries
     ∙ ap (list_any (λ e. same e.child c.args.child && is_under_in list e.folder a)) c.self.view_is
 
@@ -20,6 +20,6 @@ returns-in-None c =
     let list = c.args.self.now in
     let a = c.args.folder in
     let s = c.self.inside in
-    ap (list_any (λ e. is_under_in list e.1 a)) (bucket_of s.parts.entries s.parts.by_child s.parts.by_name c.self.invariant.indexed c.args.child.0 _ (ap option_copied (sym c.in-None.is) ∙ c.get.ensures) tt)
+    ap (list_any (λ e. is_under_in list e.1 a)) (bucket_of s.parts.entries s.parts.by_child s.parts.by_folder s.parts.by_name c.self.invariant.indexed c.args.child.0 _ (ap option_copied (sym c.in-None.is) ∙ c.get.ensures) tt)
     ∙ taken_in_one c.args.child (λ x. is_under_in list x a) s.parts.entries
     ∙ ap (list_any (λ e. same e.child c.args.child && is_under_in list e.folder a)) c.self.view_is

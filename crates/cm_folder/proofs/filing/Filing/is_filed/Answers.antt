@@ -10,12 +10,12 @@ returns-in-Some c =
     let f = c.args.folder in
     let s = c.self.inside in
     c.has_folder.ensures.value
-    ∙ ap (list_any (λ e. same e.1 f)) (bucket_of s.parts.entries s.parts.by_child s.parts.by_name c.self.invariant.indexed c.args.child.0 _ (ap option_copied (sym c.in-Some.is) ∙ c.get.ensures) c.has_folder.ensures.sorted)
+    ∙ ap (list_any (λ e. same e.1 f)) (bucket_of s.parts.entries s.parts.by_child s.parts.by_folder s.parts.by_name c.self.invariant.indexed c.args.child.0 _ (ap option_copied (sym c.in-Some.is) ∙ c.get.ensures) c.has_folder.ensures.sorted)
     ∙ filed_same f c.args.child s.parts.entries ∙ ap (λ l. is_filed_in l f c.args.child) c.self.view_is
 
 pub returns-in-None : goal.returns-in-None
 returns-in-None c =
     let f = c.args.folder in
     let s = c.self.inside in
-    ap (list_any (λ e. same e.1 f)) (bucket_of s.parts.entries s.parts.by_child s.parts.by_name c.self.invariant.indexed c.args.child.0 _ (ap option_copied (sym c.in-None.is) ∙ c.get.ensures) tt)
+    ap (list_any (λ e. same e.1 f)) (bucket_of s.parts.entries s.parts.by_child s.parts.by_folder s.parts.by_name c.self.invariant.indexed c.args.child.0 _ (ap option_copied (sym c.in-None.is) ∙ c.get.ensures) tt)
     ∙ filed_same f c.args.child s.parts.entries ∙ ap (λ l. is_filed_in l f c.args.child) c.self.view_is

@@ -16,7 +16,7 @@ returns c =
     let s = c.self.inside in
     c.has_other_under-taken.ensures.value
     ∙ (λ i. list_any (λ e. not (same e.1 child)) (bucket_by name_order s.parts.by_name (f.0, c.in_ok-copied.ensures i)))
-    ∙ ap (list_any (λ e. not (same e.1 child))) (names_of s.parts.entries s.parts.by_child s.parts.by_name c.self.invariant.indexed (f.0, name)
+    ∙ ap (list_any (λ e. not (same e.1 child))) (names_of s.parts.entries s.parts.by_child s.parts.by_folder s.parts.by_name c.self.invariant.indexed (f.0, name)
     (subst (λ n. T (is_sorted nat_cmp (bucket_by name_order s.parts.by_name (f.0, n)))) c.in_ok-copied.ensures c.has_other_under-taken.ensures.sorted))
     ∙ taken_same f child name s.parts.entries
     ∙ ap (λ l. is_name_taken l f child name) c.self.view_is

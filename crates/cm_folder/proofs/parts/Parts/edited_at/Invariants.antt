@@ -9,6 +9,6 @@ use Rattle.cm_folder.proofs.parts.Parts.edited_at.Given as goal
 
 abbrev pub invariant-loop-entry : goal.invariant-loop-entry
 invariant-loop-entry l = record {
-  indexed : IsIndexed l.parts.entries l.parts.by_child l.parts.by_name;
+  indexed : IsIndexed l.parts.entries l.parts.by_child l.parts.by_folder l.parts.by_name;
   found : (p : ℕ) → find nat_cmp p l.parts.entries ≡ (if list_any (λ e. p == e.0) (map pointee l.yielded) then option_and_then (edit_of l.edit) (find nat_cmp p l.self.entries) else find nat_cmp p l.self.entries);
 }

@@ -8,9 +8,9 @@ pub returns-in-Some : goal.returns-in-Some
 returns-in-Some c =
     let s = c.args.self.now in
     c.place_of.ensures.value
-    ∙ ap (λ b. option_map (λ d. d.0) (find_by (λ d. same d.1 c.args.folder) b)) (bucket_of s.entries s.by_child s.by_name c.requires.indexed c.args.child.0 _ (ap option_copied (sym c.in-Some.is) ∙ c.get.ensures) c.place_of.ensures.sorted)
+    ∙ ap (λ b. option_map (λ d. d.0) (find_by (λ d. same d.1 c.args.folder) b)) (bucket_of s.entries s.by_child s.by_folder s.by_name c.requires.indexed c.args.child.0 _ (ap option_copied (sym c.in-Some.is) ∙ c.get.ensures) c.place_of.ensures.sorted)
 
 pub returns-in-None : goal.returns-in-None
 returns-in-None c =
     let s = c.args.self.now in
-    ap (λ b. option_map (λ d. d.0) (find_by (λ d. same d.1 c.args.folder) b)) (bucket_of s.entries s.by_child s.by_name c.requires.indexed c.args.child.0 _ (ap option_copied (sym c.in-None.is) ∙ c.get.ensures) tt)
+    ap (λ b. option_map (λ d. d.0) (find_by (λ d. same d.1 c.args.folder) b)) (bucket_of s.entries s.by_child s.by_folder s.by_name c.requires.indexed c.args.child.0 _ (ap option_copied (sym c.in-None.is) ∙ c.get.ensures) tt)
