@@ -83,12 +83,7 @@ impl<K: Key, V: Drop> Buckets<K, V> {
     }
 
     // The map under the number without the key.
-    fn bucket_without(
-        &self,
-        alloc: Global,
-        number: u64,
-        key: &K,
-    ) -> Result<Map<K, V>, AllocError>
+    fn bucket_without(&self, alloc: Global, number: u64, key: &K) -> Result<Map<K, V>, AllocError>
         ensures { IfOk result (λ m. m ≡ without_key K.cmp key.now (bucket_of self.now number)) }
     {
         match self.maps.get(&number) {
@@ -113,12 +108,7 @@ impl<K: Key, V: Drop> Buckets<K, V> {
     }
 
     /// The maps without the value at the key under the number. A map that is empty then goes too.
-    pub fn without(
-        &self,
-        alloc: Global,
-        number: u64,
-        key: &K,
-    ) -> Result<Buckets<K, V>, AllocError>
+    pub fn without(&self, alloc: Global, number: u64, key: &K) -> Result<Buckets<K, V>, AllocError>
         ensures bucket { IfOk result (λ m. m ≡ with_bucket number (without_key K.cmp key.now (bucket_of self.now number)) self.now) }
         ensures found { IfOk result (λ m. (n : ℕ) (k : K) → find_in K.cmp m n k ≡ (if n == number && eq_by_cmp K.cmp k key.now then None else find_in K.cmp self.now n k)) }
     {
