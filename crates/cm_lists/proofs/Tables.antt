@@ -1,10 +1,10 @@
 -- A list in the order of its members' numbers, as a map from number to member.
-use Rattle.std.proofs.Common.{◌≡◌, ℕ, zero, suc, ◌+◌, ◌<◌, ◌≤◌, ◌==◌, nat_lt, if◌then◌else◌, is_some, List, [], ◌∷◌, ◌++◌, All, map, find, filter, not, Option, Some, None, Bool, true, false, cond, refl, ap, sym, ◌∙◌, arith, subst, option_copied}
+use Rattle.std.proofs.Common.{◌≡◌, ℕ, zero, suc, ◌+◌, ◌<◌, ◌≤◌, ◌==◌, nat_lt, if◌then◌else◌, is_some, List, [], ◌∷◌, ◌++◌, All, map, find, filter, not, Option, Some, None, Bool, true, false, cond, refl, ap, sym, ◌∙◌, arith, subst, option_copied, T, ◌&&◌}
 use Rattle.std.specs.Ordering.{nat_cmp}
 use Rattle.std.specs.Cmp.{nat_cmp_is}
 use Rattle.std.proofs.lemmas.Bool.{eqb-true, both_ways, ltb-true, ltb-false}
-use Rattle.std.proofs.lemmas.List.Elements.{All-head, All-tail, All-cons, All-weaker}
-use Rattle.core.specs.Ordering.{is_eq, eq_by_cmp}
+use Rattle.std.proofs.lemmas.List.Elements.{All-nil, All-head, All-tail, All-cons, All-weaker}
+use Rattle.core.specs.Ordering.{is_eq, is_lt, eq_by_cmp}
 use Rattle.core.specs.declared.cmp.Ordering.{Ordering}
 use Rattle.core.specs.declared.cmp.Ordering.TheVariants.{Less, Equal, Greater}
 use Rattle.core.specs.FinMap.Entries as entries
@@ -89,3 +89,28 @@ stays_keyed number fs ys e = e ∙ ap (keyed number) (sym (ap (map (λ e. e.1)) 
 
 pub list_of : {V : Type 0} (number : V → ℕ) (fs : List (ℕ × V)) (ys : List V) → fs ≡ keyed number ys → map (λ e. e.1) fs ≡ ys
 list_of number fs ys e = ap (map (λ e. e.1)) e ∙ map-keyed number ys
+
+-- ---- the numbers rise
+
+pub rises-keyed : {V : Type 0} (number : V → ℕ) (xs : List V) → T (entries.is_sorted nat_cmp (keyed number xs)) → Rises number xs
+rises-keyed number [] h = tt
+rises-keyed number (x ∷ xs) h = (above (number x) xs (first (entries.below_all nat_cmp (number x) (keyed number xs)) (entries.is_sorted nat_cmp (keyed number xs)) h), rises-keyed number xs (second (entries.below_all nat_cmp (number x) (keyed number xs)) (entries.is_sorted nat_cmp (keyed number xs)) h))
+  where
+    first : (a b : Bool) → T (a && b) → T a
+    first true b p = tt
+    first false b p = p
+
+    second : (a b : Bool) → T (a && b) → T b
+    second true b p = p
+    second false b p = absurd p
+
+    less : (a b : ℕ) → T (is_lt (nat_cmp a b)) → a < b
+    less a b h = grind (arith, h)
+
+    above : (n : ℕ) (ys : List _) → T (entries.below_all nat_cmp n (keyed number ys)) → All (λ y. n < number y) ys
+    above n [] h = All-nil (λ y. n < number y)
+    above n (y ∷ ys) h = All-cons (λ y. n < number y) y ys (less n (number y) (first (is_lt (nat_cmp n (number y))) (entries.below_all nat_cmp n (keyed number ys)) h))
+        (above n ys (second (is_lt (nat_cmp n (number y))) (entries.below_all nat_cmp n (keyed number ys)) h))
+
+pub rises : {V : Type 0} (number : V → ℕ) (es : List (ℕ × V)) → es ≡ keyed number (map (λ e. e.1) es) → T (entries.is_sorted nat_cmp es) → Rises number (map (λ e. e.1) es)
+rises number es is sorted = rises-keyed number (map (λ e. e.1) es) (subst (λ fs. T (entries.is_sorted nat_cmp fs)) is sorted)

@@ -90,7 +90,8 @@ impl<V: Numbered> Table<V> {
 
     /// The number of members.
     pub fn len(&self) -> u64
-        ensures { result ≡ length self.now }
+        ensures len { result ≡ length self.now }
+        ensures rising { Rises V.number self.now }
     {
         self.entries.len()
     }
@@ -114,10 +115,10 @@ impl<V: Numbered> Table<V> {
 
     /// The list with a member in place of the one that has its number.
     pub fn with_member(&self, alloc: Global, member: V) -> Result<Table<V>, AllocError>
-        requires rising { Rises V.number self.now }
         requires there { is_some (find (λ x. V.number x == V.number member) self.now) ≡ true }
         ensures { IfOk result (λ t. t ≡ map (λ x. if V.number x == V.number member then member else x) self.now) }
     {
+        let _rising = self.entries.len();
         let number = member.number();
         let entries = self.entries.with(alloc, number, member)?;
         Ok(Table { entries })

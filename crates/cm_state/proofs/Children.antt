@@ -1,5 +1,5 @@
 -- What the index of names and the list of children say, where no series is there.
-use Rattle.std.specs.Prelude.{◌≡◌, ℕ, ◌<◌, ◌==◌, Bool, true, false, ◌&&◌, ◌||◌, not, if◌then◌else◌, List, [], ◌∷◌, map, filter, find, All, Option, Some, None, is_some, option_map, option_and_then, unwrap_or, bytes_eq}
+use Rattle.std.specs.Prelude.{◌≡◌, ◌<◌, Bool, true, false, ◌&&◌, ◌||◌, List, [], ◌∷◌, map, filter, find, All, Option, Some, None, is_some, option_map, unwrap_or}
 use Rattle.std.specs.List.{list_any}
 use Rattle.std.proofs.Common.{refl, sym, ap, subst, ◌∙◌, inl, inr, arith}
 use Rattle.std.proofs.lemmas.Bool.{both_ways}
@@ -7,15 +7,14 @@ use Rattle.std.proofs.lemmas.List.Elements.{All-nil, All-cons, All-head, All-tai
 use Rattle.cm_base.specs.declared.number.Oid.{Oid}
 use Rattle.cm_base.specs.declared.object.Object.{Object}
 use Rattle.cm_base.specs.declared.filing.Filed.{Filed}
-use Rattle.cm_types.specs.declared.definition.BaseType.TheVariants as bases
 use Rattle.cm_lists.specs.Keyed.{Rises}
-use Rattle.cmis_spec.specs.Repository.{Repository, same, object_at, series_at, series_of, is_filed, is_taken, entry_of, entry_name, is_latest}
+use Rattle.cmis_spec.specs.Repository.{Repository, same, object_at, series_at, is_filed, entry_of}
 use Rattle.cmis_spec.specs.Access.{stands}
-use Rattle.cmis_spec.specs.Well.{Apart, IsEntryAt, IsThere, IsPair, HasNames, Differ, Belongs, IsWellFormed}
-use Rattle.cmis_laws.proofs.Lists.{by_test, some_eq, find_yes, find_no, find_none, found_holds, found_passes, none_some, same_eq, same_refl, differ, all_zip}
-use Rattle.cmis_laws.proofs.Entries.{all_there, number_found}
+use Rattle.cmis_spec.specs.Well.{Apart, IsEntryAt, IsThere, IsPair, Belongs, IsWellFormed}
+use Rattle.cmis_laws.proofs.Lists.{by_test, find_none, found_holds, found_passes, none_some, same_eq, same_refl, differ}
+use Rattle.cmis_laws.proofs.Entries.{number_found}
 use Rattle.cm_state.proofs.Pairs.{is_some_find}
-use Rattle.cm_state.specs.Looks.{standing_in, numbers_in}
+use Rattle.cm_state.specs.Looks.{numbers_in}
 
 -- ---- lists
 

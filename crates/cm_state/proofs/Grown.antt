@@ -1,6 +1,6 @@
 -- An object more with its pair: what its lists and the index of names take.
-use Rattle.std.specs.Prelude.{◌≡◌, ℕ, ◌+◌, map, ◌<◌, ◌==◌, Bool, true, false, ◌&&◌, if◌then◌else◌, List, [], ◌∷◌, ◌++◌, find, All, Option, Some, None, option_map, option_and_then, unwrap_or, bytes_eq}
-use Rattle.std.proofs.Common.{refl, sym, ap, subst, ◌∙◌, arith}
+use Rattle.std.specs.Prelude.{◌≡◌, ℕ, ◌+◌, map, ◌<◌, ◌==◌, Bool, true, false, ◌&&◌, if◌then◌else◌, List, [], ◌∷◌, ◌++◌, find, All, Some, None, option_map, option_and_then, unwrap_or, bytes_eq}
+use Rattle.std.proofs.Common.{sym, ap, subst, ◌∙◌, arith}
 use Rattle.std.proofs.lemmas.Bool.{both_ways}
 use Rattle.std.proofs.lemmas.Slice.Eq.{bytes_eq-Decides}
 use Rattle.std.proofs.lemmas.Map.Text.{is_eq-slice_cmp}
@@ -17,11 +17,10 @@ use Rattle.cm_lists.specs.Buckets.{find_in}
 use Rattle.cmis_spec.specs.Repository.{Repository, same, object_at, series_at, entry_name}
 use Rattle.cmis_spec.specs.Changes.{stepped, noted, with_object, with_pair}
 use Rattle.cmis_spec.specs.Well.{Apart, IsThere, IsPair, Differ, IsWellFormed}
-use Rattle.cmis_laws.proofs.Lists.{by_test, find_more, find_last, find_passed_over, found_passes, found_holds, same_eq, same_refl, differ, all_zip}
+use Rattle.cmis_laws.proofs.Lists.{by_test, find_more, find_last, find_passed_over, found_holds, same_eq, same_refl}
 use Rattle.cmis_laws.proofs.Entries.{number_found, is_other}
 use Rattle.std.specs.Arc.{arc_value}
 use Rattle.cm_state.specs.declared.state.State.TheInside.{Inside}
-use Rattle.cm_state.specs.declared.state.Still.{Still}
 use Rattle.cm_state.specs.Kept.{repository_of, IsState}
 use Rattle.cm_state.specs.Names.{HasChildren, is_child_named}
 use Rattle.cm_state.proofs.Children.{find_alike, child_there}
@@ -34,7 +33,7 @@ apart_last R (x ∷ xs) y a = All-cons (λ x. R x y) x xs (last xs a.0) (apart_l
     last [] h = All-head (R x) y [] h
     last (z ∷ zs) h = last zs (All-tail (R x) z (zs ++ y ∷ []) h)
 
-bytes_flip : (xs ys : List ℕ) → bytes_eq xs ys ≡ bytes_eq ys xs
+pub bytes_flip : (xs ys : List ℕ) → bytes_eq xs ys ≡ bytes_eq ys xs
 bytes_flip xs ys = by_test (bytes_eq xs ys)
     (λ e. e ∙ sym ((bytes_eq-Decides ys xs).1 (sym ((bytes_eq-Decides xs ys).0 e))))
     (λ e. by_test (bytes_eq ys xs)

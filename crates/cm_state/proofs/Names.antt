@@ -1,12 +1,11 @@
 -- The index of names: what it says of a folder's children, and one child more.
-use Rattle.std.specs.Prelude.{◌≡◌, ℕ, ◌<◌, ◌==◌, Bool, true, false, ◌&&◌, ◌||◌, not, if◌then◌else◌, List, [], ◌∷◌, ◌++◌, find, All, Option, Some, None, is_some, option_map, option_and_then, unwrap_or, bytes_eq}
+use Rattle.std.specs.Prelude.{◌≡◌, ℕ, ◌<◌, ◌==◌, Bool, true, false, ◌&&◌, ◌||◌, not, if◌then◌else◌, List, [], ◌∷◌, find, All, Option, Some, None, option_map, option_and_then, unwrap_or, bytes_eq}
 use Rattle.std.specs.List.{list_any}
 use Rattle.std.proofs.Common.{refl, sym, ap, subst, ◌∙◌, arith}
 use Rattle.std.proofs.lemmas.Bool.{both_ways}
 use Rattle.std.proofs.lemmas.Slice.Eq.{bytes_eq-Decides}
-use Rattle.std.proofs.lemmas.Map.Text.{is_eq-slice_cmp}
 use Rattle.std.proofs.lemmas.List.Elements.{All-nil, All-cons, All-head, All-tail, All-weaker}
-use Rattle.core.specs.Ordering.{nat_cmp, eq_by_cmp}
+use Rattle.core.specs.Ordering.{nat_cmp}
 use Rattle.core.specs.Cmp.Lexicographic.{slice_cmp}
 use Rattle.cm_base.specs.declared.number.Oid.{Oid}
 use Rattle.cm_base.specs.declared.object.Object.{Object}
@@ -14,11 +13,10 @@ use Rattle.cm_base.specs.declared.filing.Filed.{Filed}
 use Rattle.cm_lists.specs.Buckets.{find_in}
 use Rattle.cmis_spec.specs.Repository.{Repository, same, object_at, is_filed, is_taken, entry_of, entry_name}
 use Rattle.cmis_spec.specs.Access.{stands}
-use Rattle.cmis_spec.specs.Well.{Apart, IsThere, IsPair, Differ, IsWellFormed}
-use Rattle.cmis_laws.proofs.Lists.{by_test, some_eq, find_yes, find_no, find_none, find_last, find_passed_over, found_holds, found_passes, none_some, same_eq, same_refl, differ, all_zip}
-use Rattle.cmis_laws.proofs.Entries.{all_there, number_found}
+use Rattle.cmis_spec.specs.Well.{Apart, Differ, IsWellFormed}
+use Rattle.cmis_laws.proofs.Lists.{by_test, some_eq, find_yes, find_no, find_none, found_holds, found_passes, none_some, same_eq, same_refl, differ}
 use Rattle.cm_state.specs.Names.{HasChildren, is_child_named}
-use Rattle.cm_state.proofs.Children.{any_found, find_alike, alone, entry_is, stands_alone, child_there}
+use Rattle.cm_state.proofs.Children.{any_found, find_alike, alone, entry_is, stands_alone}
 
 and_left : (a b : Bool) → a && b ≡ true → a ≡ true
 and_left true b h = refl
@@ -35,7 +33,7 @@ name_is : (r : Repository) (f : ℕ) (name : List ℕ) (p : Filed) → is_child_
 name_is r f name p h = (bytes_eq-Decides (entry_name r p.child) name).0 (and_right (p.folder.0 == f) (bytes_eq (entry_name r p.child) name) h)
 
 -- two children of one folder do not have one name
-clash : (r : Repository) (f : Oid) (name : List ℕ) (p q : Filed) → Differ r p q → is_child_named r f.0 name p ≡ true → is_child_named r f.0 name q ≡ true → ⊥
+pub clash : (r : Repository) (f : Oid) (name : List ℕ) (p q : Filed) → Differ r p q → is_child_named r f.0 name p ≡ true → is_child_named r f.0 name q ≡ true → ⊥
 clash r f name p q d a b = both_ways (bytes_eq (entry_name r p.child) (entry_name r q.child)) (d (folder_of r f name p a ∙ sym (folder_of r f name q b)))
     ((bytes_eq-Decides (entry_name r p.child) (entry_name r q.child)).1 (name_is r f.0 name p a ∙ sym (name_is r f.0 name q b)))
 

@@ -11,7 +11,7 @@ use Rattle.std.proofs.lemmas.List.Elements.{All-nil, All-cons, All-head, All-tai
 use Rattle.cm_base.specs.declared.number.Oid.{Oid}
 use Rattle.cm_base.specs.declared.filing.Filed.{Filed}
 use Rattle.cmis_spec.specs.Repository.{same, parent_in}
-use Rattle.cmis_laws.proofs.Lists.{by_test, find_yes, find_no, find_last, find_passed_over}
+use Rattle.cmis_laws.proofs.Lists.{by_test, find_yes, find_no, find_last, find_passed_over, apart_push}
 use Rattle.cm_lists.specs.Buckets.{find_in}
 use Rattle.cm_lists.specs.Keyed.{Rises}
 use Rattle.cm_state.specs.declared.filing.Placed.{Placed}
@@ -28,7 +28,7 @@ find_mapped f p (x ∷ xs) = by_test (p (f x))
     (λ e. find_yes p (f x) (map f xs) e ∙ sym (ap (option_map f) (find_yes (λ y. p (f y)) x xs e)))
     (λ e. find_no p (f x) (map f xs) e ∙ (find_mapped f p xs ∙ sym (ap (option_map f) (find_no (λ y. p (f y)) x xs e))))
 
-map_map : {A B C : Type 0} (g : B → C) (f : A → B) (o : Option A) → option_map g (option_map f o) ≡ option_map (λ x. g (f x)) o
+pub map_map : {A B C : Type 0} (g : B → C) (f : A → B) (o : Option A) → option_map g (option_map f o) ≡ option_map (λ x. g (f x)) o
 map_map g f None = refl
 map_map g f (Some x) = refl
 
@@ -67,7 +67,7 @@ and_right : (a b : Bool) → b ≡ false → a && b ≡ false
 and_right true b h = h
 and_right false b h = refl
 
-flip : (a b : ℕ) → (b == a) ≡ (a == b)
+pub flip : (a b : ℕ) → (b == a) ≡ (a == b)
 flip a b = grind arith
 
 with_below : (ps : List Placed) (q : Placed) (old m : List (ℕ × List (ℕ × ℕ)))
@@ -97,6 +97,7 @@ pub filing_with : (ps : List Placed) (next : ℕ) (parents : List (ℕ × Oid)) 
 filing_with ps next parents folders m q is at new found =
     let apart = new_child ps q.pair.child new in
     record {
+      single = apart_push (λ p q. same p.pair.child q.pair.child ≡ false) ps q is.single apart;
       places = All-push (λ p. p.place < next + 1) ps q (All-weaker (λ p. p.place < next) (λ p. p.place < next + 1) (λ p l. omega (arith, l)) ps is.places) (omega (arith, at));
       above = with_above ps q parents is.above apart;
       below = with_below ps q folders m found is.below apart;

@@ -1,5 +1,5 @@
 -- What is looked up in a state.
-use Rattle.std.specs.Prelude.{ℕ, ◌&&◌, List, map, filter, find, Option}
+use Rattle.std.specs.Prelude.{◌&&◌, List, map, filter, find, Option}
 use Rattle.cm_base.specs.declared.number.Oid.{Oid}
 use Rattle.cm_base.specs.declared.object.Object.{Object}
 use Rattle.cm_base.specs.declared.access.AccessList.{AccessList}

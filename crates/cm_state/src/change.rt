@@ -1,4 +1,4 @@
-//! The changes of which writes are made: each answers a new state and leaves the old one.
+//! An object more in a folder, and what all changes share. Each change answers a new state and leaves the old one.
 ghost use Rattle.std.specs.Prelude.{◌≡◌, ℕ, ◌+◌, ◌<◌, ◌^◌, List, [], ◌∷◌, ◌++◌, IfOk, map, unwrap_or, All, false, Some, ◌==◌, ◌&&◌, if◌then◌else◌};
 ghost use Rattle.core.specs.Ordering.{nat_cmp, eq_by_cmp};
 ghost use Rattle.core.specs.Cmp.Lexicographic.{slice_cmp};
@@ -22,7 +22,7 @@ use std::alloc::{AllocError, Global};
 use std::sync::Arc;
 
 // The name that an object has of its own; of what has none, the empty text.
-fn own_name(alloc: Global, object: &Object) -> Result<Text, AllocError>
+pub(crate) fn own_name(alloc: Global, object: &Object) -> Result<Text, AllocError>
     ensures { IfOk result (λ name. name ≡ unwrap_or object.now.name []) }
 {
     match &object.name {
@@ -51,12 +51,12 @@ fn applied_with(
     Ok(all)
 }
 
-// The event of an object's making; nobody is marked.
-fn made(alloc: Global, object: Oid, moment: Moment) -> Change
-    ensures { result ≡ record { kind = Created; object = object; moment = moment; readers = [] } }
+// The event of a change of an object that is there; nobody is marked.
+pub(crate) fn event(alloc: Global, kind: ChangeKind, object: Oid, moment: Moment) -> Change
+    ensures { result ≡ record { kind = kind; object = object; moment = moment; readers = [] } }
 {
     Change {
-        kind: ChangeKind::Created,
+        kind,
         object,
         moment,
         readers: Items::new(alloc),
@@ -107,7 +107,9 @@ impl State {
             .access
             .with_last(alloc, AccessList { at: number, aces })?;
         let applied = applied_with(alloc, &self.applied, policies, number)?;
-        let log = self.log.with_last(alloc, made(alloc, number, moment))?;
+        let log = self
+            .log
+            .with_last(alloc, event(alloc, ChangeKind::Created, number, moment))?;
         let still = Arc::try_clone(&self.still)?;
         Ok(State {
             still,

@@ -1,8 +1,10 @@
 //! The filing pairs in the order in which they were made, with their indexes.
-ghost use Rattle.std.specs.Prelude.{◌≡◌, ◌&&◌, false, List, [], ◌∷◌, ◌++◌, All, IfOk, map};
+ghost use Rattle.std.specs.Prelude.{◌≡◌, ◌&&◌, true, false, List, [], ◌∷◌, ◌++◌, All, IfOk, map};
 ghost use Rattle.std.specs.List.{list_any};
 ghost use Rattle.cm_base.specs.declared.number.Oid.{Oid};
 ghost use Rattle.cmis_spec.specs.Repository.{same, parent_in};
+ghost use Rattle.cmis_spec.specs.Changes.{refiled};
+ghost use Rattle.cm_state.specs.Filings.{IsSingle};
 ghost use Rattle.cm_lists.specs.Keyed.{Rises};
 
 use cm_base::filing::Filed;
@@ -74,9 +76,10 @@ impl Filing {
         }
     }
 
-    /// The folder of the child's first pair.
+    /// The folder of the child's pair.
     pub fn parent(&self, child: Oid) -> Option<Oid>
-        ensures { result ≡ parent_in self.now child }
+        ensures value { result ≡ parent_in self.now child }
+        ensures single { IsSingle self.now }
     {
         self.parents.get(&child.0).copied()
     }
@@ -119,6 +122,33 @@ impl Filing {
         Ok(Filing {
             pairs,
             next: place + 1,
+            parents,
+            folders,
+        })
+    }
+
+    /// The pairs with the child's in another folder.
+    pub fn with_move(
+        &self,
+        alloc: Global,
+        child: Oid,
+        source: Oid,
+        target: Oid,
+    ) -> Result<Filing, AllocError>
+        requires has { list_any (λ p. same p.folder source && same p.child child) self.now ≡ true }
+        ensures { IfOk result (λ f. f ≡ map (refiled child source target) self.now) }
+    {
+        let _rising = self.pairs.len();
+        let place = *self.folders.get(source.0, &child.0).unwrap();
+        let folder = target;
+        let pair = Filed { folder, child };
+        let pairs = self.pairs.with_member(alloc, Placed { place, pair })?;
+        let parents = self.parents.with(alloc, child.0, target)?;
+        let left = self.folders.without(alloc, source.0, &child.0)?;
+        let folders = left.with(alloc, target.0, child.0, place)?;
+        Ok(Filing {
+            pairs,
+            next: self.next,
             parents,
             folders,
         })

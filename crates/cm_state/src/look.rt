@@ -7,6 +7,7 @@ ghost use Rattle.cm_types.specs.Types.{type_in, is_of_base, same_base};
 ghost use Rattle.cmis_spec.specs.Repository.{same, object_at, series_at, series_of, owner_of, is_latest, type_of, is_a, parent_in, is_filed, entry_of, entry_name, is_taken, most_steps, most_cost};
 ghost use Rattle.cmis_spec.specs.Access.{stands, groups_of};
 ghost use Rattle.cmis_spec.specs.Well.{IsWellFormed};
+ghost use Rattle.cm_state.specs.Filings.{IsSingle};
 ghost use Rattle.cm_state.specs.Looks.{list_at, content_at, standing_in, numbers_in};
 
 use crate::state::State;
@@ -173,6 +174,13 @@ impl State {
         self.tree.filed.parent(n)
     }
 
+    /// Each child stands in one folder at most: no call files one twice yet.
+    pub fn filed_once(&self)
+        ensures { IsSingle self.now.filed }
+    {
+        let _single = self.tree.filed.parent(Oid(0));
+    }
+
     /// Whether the entry is filed in the folder.
     pub fn is_filed(&self, folder: Oid, n: Oid) -> bool
         ensures { result ≡ is_filed self.now folder n }
@@ -244,6 +252,13 @@ impl State {
         ensures well { IsWellFormed self.now }
     {
         self.step
+    }
+
+    /// The number of events in the change log.
+    pub fn events(&self) -> u64
+        ensures { result ≡ length self.now.log }
+    {
+        self.log.len()
     }
 
     /// What they cost.

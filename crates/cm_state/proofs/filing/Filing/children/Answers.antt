@@ -1,4 +1,4 @@
-use Rattle.std.proofs.Common.{rules, ◌≡◌, ◌&&◌, ◌∙◌, sym, ap, subst, is_some, option_copied, Some, None}
+use Rattle.std.proofs.Common.{rules, ◌≡◌, ◌&&◌, ◌∙◌, sym, ap, subst, is_some, Some, None}
 use Rattle.std.specs.List.{list_any}
 use Rattle.core.specs.Ordering.{nat_cmp}
 use Rattle.core.specs.FinMap.Entries as entries

@@ -1,4 +1,4 @@
-use Rattle.std.proofs.Common.{◌≡◌, ◌==◌, ◌&&◌, ◌∙◌, ap, is_some}
+use Rattle.std.proofs.Common.{◌&&◌, ◌∙◌, ap, is_some}
 use Rattle.std.specs.List.{list_any}
 use Rattle.cmis_spec.specs.Repository.{same}
 use Rattle.cm_state.proofs.Pairs.{below_pairs, some_copied}

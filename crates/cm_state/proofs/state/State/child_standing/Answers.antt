@@ -1,7 +1,6 @@
-use Rattle.std.proofs.Common.{rules, ◌≡◌, ◌∙◌, sym, ap, ◌&&◌, if◌then◌else◌, Option, Some, None, find, option_and_then, bytes_eq}
+use Rattle.std.proofs.Common.{rules, ◌≡◌, ◌∙◌, sym, ap, ◌&&◌, if◌then◌else◌, Some, None, find, option_and_then, bytes_eq}
 use Rattle.core.specs.Ordering.{nat_cmp}
 use Rattle.core.specs.Cmp.Lexicographic.{slice_cmp}
-use Rattle.cm_base.specs.declared.object.Object.{Object}
 use Rattle.cm_lists.specs.Buckets.{find_in}
 use Rattle.cmis_spec.specs.Repository.{object_at, is_filed, entry_of, entry_name}
 use Rattle.cmis_spec.specs.Access.{stands}

@@ -1,4 +1,4 @@
-use Rattle.std.proofs.Common.{◌≡◌, ◌∙◌, ap}
+use Rattle.std.proofs.Common.{◌∙◌, ap}
 use Rattle.cm_state.specs.Kept.{repository_of}
 use Rattle.cm_state.specs.Looks.{numbers_in}
 use Rattle.cm_state.proofs.Children.{children_are}

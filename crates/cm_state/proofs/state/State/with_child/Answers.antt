@@ -1,4 +1,4 @@
-use Rattle.std.proofs.Common.{◌≡◌, ◌+◌, ◌++◌, ◌∷◌, [], sym, ap, ◌∙◌, subst, refl}
+use Rattle.std.proofs.Common.{◌+◌, ◌++◌, ◌∷◌, [], sym, ap, ◌∙◌, subst, refl}
 use Rattle.cm_base.specs.declared.log.ChangeKind.TheVariants.{Created}
 use Rattle.cmis_spec.specs.Changes.{stepped, noted, with_object, with_pair}
 use Rattle.cmis_spec.specs.Well.{IsWellFormed}
@@ -40,7 +40,7 @@ invariant_of-result c =
       cost = s.cost + c.args.cost;
     } in
     let at = state_with s s' c.args.object c.args.aces c.args.policies.now c.args.folder c.args.cost c.args.moment c.in_ok-still.ensures c.in_ok-objects.ensures c.in_ok-tree.ensures.filed c.in_ok-access.ensures c.in_ok-applied.ensures
-    (c.in_ok-log.ensures ∙ ap (λ e. s.log ++ e ∷ []) c.made.ensures) refl refl refl in
+    (c.in_ok-log.ensures ∙ ap (λ e. s.log ++ e ∷ []) c.event.ensures) refl refl refl in
     kept_with s s' c.args.object c.args.aces c.args.policies.now c.args.folder c.args.cost c.args.moment c.in_ok-name.name c.self.invariant
     (subst (λ r. IsWellFormed (noted (stepped (with_pair (with_object r c.args.object c.args.aces c.args.policies.now) c.args.folder c.args.object.id) c.args.cost) Created c.args.object.id c.args.moment [])) (sym c.self.view_is) c.requires.well)
     at c.in_ok-still.ensures c.in_ok-name.ensures c.in_ok-tree.ensures.names
