@@ -13,7 +13,7 @@ use Rattle.grammar_rules.proofs.Carried.{Each}
 use Rattle.ql_tree.specs.Stripped.{stripped}
 use Rattle.ql_tree.specs.Printed.{kind_text, spaced, printed, rest_tokens, query_tokens}
 use Rattle.ql_tree.specs.declared.tree.Query.{Query}
-use Rattle.ql_parse.specs.Grammar as g
+use Rattle.ql_grammar.specs.Grammar as g
 use Rattle.ql_parse.specs.Texts.{Spells, deepest}
 use Rattle.ql_laws.proofs.Written.{IsWritten, Ends, word_written}
 use Rattle.ql_laws.proofs.Sources.{tokens_written}

@@ -10,7 +10,7 @@ use Rattle.ql_tree.specs.Printed as p
 use Rattle.ql_tree.specs.Printed.{Shape, shape, placed}
 use Rattle.ql_tree.specs.declared.tree.Cond.{Cond}
 use Rattle.ql_tree.specs.declared.tree.Cond.TheVariants as conds
-use Rattle.ql_parse.specs.Grammar as g
+use Rattle.ql_grammar.specs.Grammar as g
 use Rattle.ql_laws.proofs.Reprints as again
 use Rattle.ql_laws.proofs.Written.{IsServed, IsWritten}
 use Rattle.ql_laws.proofs.Shapes as shapes

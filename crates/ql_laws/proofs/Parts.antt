@@ -14,14 +14,14 @@ use Rattle.ql_tree.specs.Texts.{unescaped, escaped}
 use Rattle.ql_tree.specs.Stripped.{without_place}
 use Rattle.ql_tree.specs.Printed as p
 use Rattle.ql_tree.specs.declared.tree.Timestamp.{Timestamp}
-use Rattle.ql_parse.specs.declared.parts.ItemRest.{ItemRest}
-use Rattle.ql_parse.specs.declared.parts.ItemRest.TheVariants as item_rests
-use Rattle.ql_parse.specs.declared.parts.TestRest.{TestRest}
-use Rattle.ql_parse.specs.declared.parts.TestRest.TheVariants as test_rests
-use Rattle.ql_parse.specs.declared.parts.Among.{Among}
-use Rattle.ql_parse.specs.declared.parts.Placed.{Placed}
-use Rattle.ql_parse.specs.Grammar as g
-use Rattle.ql_parse.proofs.Facts.{keyword_of}
+use Rattle.ql_grammar.specs.declared.parts.ItemRest.{ItemRest}
+use Rattle.ql_grammar.specs.declared.parts.ItemRest.TheVariants as item_rests
+use Rattle.ql_grammar.specs.declared.parts.TestRest.{TestRest}
+use Rattle.ql_grammar.specs.declared.parts.TestRest.TheVariants as test_rests
+use Rattle.ql_grammar.specs.declared.parts.Among.{Among}
+use Rattle.ql_grammar.specs.declared.parts.Placed.{Placed}
+use Rattle.ql_grammar.specs.Grammar as g
+use Rattle.ql_grammar.proofs.Facts.{keyword_of}
 use Rattle.ql_laws.proofs.Reprints as again
 use Rattle.ql_laws.proofs.Escaping.{unescaped_escaped}
 use Rattle.ql_laws.proofs.Written.{IsServed, IsWritten, word_written, escaped_written}

@@ -14,9 +14,9 @@ use Rattle.ql_tree.specs.declared.tree.Selection.TheVariants as selections
 use Rattle.ql_tree.specs.declared.tree.Table.{Table}
 use Rattle.ql_tree.specs.declared.tree.Key.{Key}
 use Rattle.ql_tree.specs.declared.tree.Query.{Query}
-use Rattle.ql_parse.specs.declared.parts.ItemRest.{ItemRest}
-use Rattle.ql_parse.specs.declared.parts.ItemRest.TheVariants as item_rests
-use Rattle.ql_parse.specs.Grammar as g
+use Rattle.ql_grammar.specs.declared.parts.ItemRest.{ItemRest}
+use Rattle.ql_grammar.specs.declared.parts.ItemRest.TheVariants as item_rests
+use Rattle.ql_grammar.specs.Grammar as g
 use Rattle.ql_laws.proofs.Reprints as again
 use Rattle.ql_laws.proofs.Written.{IsServed, IsWritten}
 use Rattle.ql_laws.proofs.Parts.{kind, Same, Alike, two, item_rest_tokens, Printed, Reprint, Prints, Writable, Sound, printed_word, word_sound, meaning_prints, name_prints, plain_prints, after_word, list_prints}

@@ -1,6 +1,7 @@
 -- What a rule spells is spelled again by the tokens of its printed form, with the same tree but for what is forgiven. Each token of a text is sound, and each of
 -- the printed form can be written where each token of the text can.
 use Rattle.std.proofs.Common.{◌≡◌, ℕ, zero, suc, Bool, List, [], ◌∷◌, ◌++◌, map, Option, Some, inl, inr, refl, sym, ◌∙◌, ap, subst}
+use Rattle.std.proofs.lemmas.List.{append-nil, append_assoc}
 use Rattle.grammar_rules.specs.Rules.{Rule, Both, More, Chain, one, both, chain, perhaps, either, mapped, stands}
 use Rattle.grammar_rules.proofs.Carried.{Each, each_front, each_rest, each_append, map_splits}
 
@@ -143,17 +144,9 @@ module _ {T K : Type 0} (kind : T → K) (S W : K → Type 0) where
       | inr g ↦ perhaps_more ts z g
     ]
 
-  append_nil : {X : Type 0} (s : List X) → s ++ [] ≡ s
-  append_nil [] = refl
-  append_nil (t ∷ s) = ap (λ r. t ∷ r) (append_nil s)
-
-  append_assoc : {X : Type 0} (r s t : List X) → (r ++ s) ++ t ≡ r ++ (s ++ t)
-  append_assoc [] s t = refl
-  append_assoc (x ∷ r) s t = ap (λ q. x ∷ q) (append_assoc r s t)
-
   -- one more part at the end of a chain
   more_grow : {A B : Type 0} (b : List T → B → Type 0) (f : A → B → A) (n : ℕ) (x z : A) (ts vs : List T) (y : B) → More b f n x ts z → b vs y → More b f (suc n) x (ts ++ vs) (f z y)
-  more_grow b f zero x z ts vs y w h = (vs, [], y, h, (refl, ap (λ q. f q y) w.1), ap (λ s. s ++ vs) w.0 ∙ sym (append_nil vs))
+  more_grow b f zero x z ts vs y w h = (vs, [], y, h, (refl, ap (λ q. f q y) w.1), ap (λ s. s ++ vs) w.0 ∙ sym (append-nil vs))
   more_grow b f (suc n) x z ts vs y (us1, us2, y1, first, more, e) h =
       (us1, us2 ++ vs, y1, first, more_grow b f n (f x y1) z us2 vs y more h, ap (λ s. s ++ vs) e ∙ append_assoc us1 us2 vs)
 
@@ -169,7 +162,7 @@ module _ {T K : Type 0} (kind : T → K) (S W : K → Type 0) where
   }
 
   pub chain_alone : {A B : Type 0} (a : List T → A → Type 0) (b : List T → B → Type 0) (f : A → B → A) (ts : List T) (x : A) → a ts x → Chain a b f ts x
-  chain_alone a b f ts x w = record { us = ts; vs = []; x = x; count = 0; left = w; more = (refl, refl); text = sym (append_nil ts) }
+  chain_alone a b f ts x w = record { us = ts; vs = []; x = x; count = 0; left = w; more = (refl, refl); text = sym (append-nil ts) }
 
   pub printed_first : {A B : Type 0} (a : Rule T A) (b : Rule T B) (f : A → B → A) (ks : List K) (E : A → A → Type 0) (x : A) → Printed a ks E x → Printed (chain a b f) ks E x
   printed_first a b f ks E x p = printed_wider a (chain a b f) ks E x (λ us y w. chain_alone a.is b.is f us y w) p

@@ -12,11 +12,11 @@ use Rattle.ql_tree.specs.declared.tree.Literal.{Literal}
 use Rattle.ql_tree.specs.declared.tree.Literal.TheVariants as literals
 use Rattle.ql_tree.specs.declared.tree.Comparison.{Comparison}
 use Rattle.ql_tree.specs.declared.tree.Comparison.TheVariants as comparisons
-use Rattle.ql_parse.specs.declared.parts.TestRest.{TestRest}
-use Rattle.ql_parse.specs.declared.parts.TestRest.TheVariants as test_rests
-use Rattle.ql_parse.specs.declared.parts.Among.{Among}
-use Rattle.ql_parse.specs.declared.parts.Placed.{Placed}
-use Rattle.ql_parse.specs.Grammar as g
+use Rattle.ql_grammar.specs.declared.parts.TestRest.{TestRest}
+use Rattle.ql_grammar.specs.declared.parts.TestRest.TheVariants as test_rests
+use Rattle.ql_grammar.specs.declared.parts.Among.{Among}
+use Rattle.ql_grammar.specs.declared.parts.Placed.{Placed}
+use Rattle.ql_grammar.specs.Grammar as g
 use Rattle.ql_laws.proofs.Reprints as again
 use Rattle.ql_laws.proofs.Written.{IsServed, IsWritten}
 use Rattle.ql_laws.proofs.Parts.{kind, Same, Alike, place_free, two, stripped_rest, stripped_among, rest_tokens, among_tokens, placed_tokens, Printed, Reprint, Prints, printed_word, word_sound, printed_meaning, meaning_prints, name_prints, plain_prints, pattern_prints, number_prints, quoted_prints, moment_prints, after_word, group_prints, list_prints}

@@ -12,11 +12,11 @@ use Rattle.ql_tree.specs.declared.tree.Comparison.TheVariants as comparisons
 use Rattle.ql_tree.specs.declared.tree.Cond.TheVariants as conds
 use Rattle.ql_tree.specs.declared.tree.Selection.TheVariants as selections
 use Rattle.ql_tree.specs.declared.tree.Query.{Query}
-use Rattle.ql_parse.specs.declared.parts.ItemRest.TheVariants as item_rests
-use Rattle.ql_parse.specs.declared.parts.TestRest.TheVariants as test_rests
-use Rattle.ql_parse.specs.Grammar as g
-use Rattle.ql_parse.proofs.Facts.{comma_joint, item_sane, literal_sane, key_sane, dot_name_joint, column_optional, test_column_optional, as_name_joint, alias_choice, dotted_optional, behind_dot_choice, dot_rest_joint, item_rest_choice, served_item_optional, item_standing, items_listing, selection_choice, served_table_optional, table_standing, timestamp_joint, false_or_time_choice, flag_or_time_choice, no_text_choice, served_literal_choice, literal_standing, literals_listing, closed_literals_joint, group_literals_joint, in_list_joint, like_joint, not_null_joint, nullness_choice, is_null_joint, at_most_choice, greater_choice, less_choice, unequal_choice, comparison_choice, compared_joint, among_or_like_choice, negative_joint, positive_choice, no_comparison_choice, test_rest_choice, of_column_joint, any_column_joint, equal_any_joint, of_literal_joint, not_among_joint, among_list_choice, any_rest_joint, of_any_joint, comma_text_joint, table_and_text_joint, arguments_choice, closed_arguments_joint, group_arguments_joint, in_folder_joint, in_tree_joint, of_place_choice, any_or_place_choice, no_column_choice, simple_choice, simple_standing, direction_choice, key_optional, keys_listing, by_keys_joint, order_joint, source_joint, columns_of_joint, select_joint}
-use Rattle.ql_parse.proofs.Levels.{conjunction_listing, cond_listing, and_joint, or_joint, group_cond_joint, closed_cond_joint, served_test_choice, test_standing, not_joint, negated_choice, filter_joint, chosen_optional, query_optional, query_sane}
+use Rattle.ql_grammar.specs.declared.parts.ItemRest.TheVariants as item_rests
+use Rattle.ql_grammar.specs.declared.parts.TestRest.TheVariants as test_rests
+use Rattle.ql_grammar.specs.Grammar as g
+use Rattle.ql_grammar.proofs.Facts.{comma_joint, item_sane, literal_sane, key_sane, dot_name_joint, column_optional, test_column_optional, as_name_joint, alias_choice, dotted_optional, behind_dot_choice, dot_rest_joint, item_rest_choice, served_item_optional, item_standing, items_listing, selection_choice, served_table_optional, table_standing, timestamp_joint, false_or_time_choice, flag_or_time_choice, no_text_choice, served_literal_choice, literal_standing, literals_listing, closed_literals_joint, group_literals_joint, in_list_joint, like_joint, not_null_joint, nullness_choice, is_null_joint, at_most_choice, greater_choice, less_choice, unequal_choice, comparison_choice, compared_joint, among_or_like_choice, negative_joint, positive_choice, no_comparison_choice, test_rest_choice, of_column_joint, any_column_joint, equal_any_joint, of_literal_joint, not_among_joint, among_list_choice, any_rest_joint, of_any_joint, comma_text_joint, table_and_text_joint, arguments_choice, closed_arguments_joint, group_arguments_joint, in_folder_joint, in_tree_joint, of_place_choice, any_or_place_choice, no_column_choice, simple_choice, simple_standing, direction_choice, key_optional, keys_listing, by_keys_joint, order_joint, source_joint, columns_of_joint, select_joint}
+use Rattle.ql_grammar.proofs.Levels.{conjunction_listing, cond_listing, and_joint, or_joint, group_cond_joint, closed_cond_joint, served_test_choice, test_standing, not_joint, negated_choice, filter_joint, chosen_optional, query_optional, query_sane}
 
 keyword_told : (w : Word) → Told (g.keyword w)
 keyword_told w = one_told (λ t. g.word_in w t.kind)

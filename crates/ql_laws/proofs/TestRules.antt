@@ -10,10 +10,10 @@ use Rattle.ql_tree.specs.declared.tree.Column.{Column}
 use Rattle.ql_tree.specs.declared.tree.Literal.{Literal}
 use Rattle.ql_tree.specs.declared.tree.Cond.{Cond}
 use Rattle.ql_tree.specs.declared.tree.Cond.TheVariants as conds
-use Rattle.ql_parse.specs.declared.parts.TestRest.{TestRest}
-use Rattle.ql_parse.specs.declared.parts.TestRest.TheVariants as test_rests
-use Rattle.ql_parse.specs.declared.parts.Among.{Among}
-use Rattle.ql_parse.specs.Grammar as g
+use Rattle.ql_grammar.specs.declared.parts.TestRest.{TestRest}
+use Rattle.ql_grammar.specs.declared.parts.TestRest.TheVariants as test_rests
+use Rattle.ql_grammar.specs.declared.parts.Among.{Among}
+use Rattle.ql_grammar.specs.Grammar as g
 use Rattle.ql_laws.proofs.Reprints as again
 use Rattle.ql_laws.proofs.Written.{IsServed, IsWritten}
 use Rattle.ql_laws.proofs.Shapes as shapes

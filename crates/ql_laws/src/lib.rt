@@ -1,4 +1,4 @@
-//! Laws of queries: a text says one thing, and the printed form of a query spells it. Definitions stand in `ql_tree` and `ql_parse`; here are proofs, and laws with no code.
+//! Laws of queries: a text says one thing, and the printed form of a query spells it. Definitions stand in `ql_tree`, `ql_grammar` and `ql_parse`; here are proofs, and laws with no code.
 //!
 //! `proofs/Tellings` says of each rule of the grammar that a text has one tree. `Reprints` has a law for each word of a grammar: what a rule spells is spelled again by
 //! the tokens of its printed form; `Parts`, `Rules`, `TestRules`, `Conditions` and `Queries` state it of each rule, `Written` and `Sources` that each token is read as it is written.

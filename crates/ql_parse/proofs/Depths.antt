@@ -6,12 +6,12 @@ use Rattle.grammar_rules.proofs.Within.{Within, whole_within, choice_left, choic
 use Rattle.ql_lex.specs.declared.word.Word.TheVariants as words
 use Rattle.ql_lex.specs.declared.token.Token.{Token}
 use Rattle.ql_tree.specs.declared.tree.Cond.{Cond}
-use Rattle.ql_parse.specs.Grammar as g
-use Rattle.ql_parse.specs.Reads.{Stopped, IsNoBeginning}
-use Rattle.ql_parse.specs.declared.stop.Stop.{Stop}
-use Rattle.ql_parse.proofs.Exits.{nothing_begins}
-use Rattle.ql_parse.proofs.Facts.{simple_standing}
-use Rattle.ql_parse.proofs.Levels.{test_standing, served_test_choice, negated_choice}
+use Rattle.ql_grammar.specs.Grammar as g
+use Rattle.ql_grammar.specs.Reads.{Stopped, IsNoBeginning}
+use Rattle.ql_grammar.specs.declared.stop.Stop.{Stop}
+use Rattle.ql_grammar.proofs.Exits.{nothing_begins}
+use Rattle.ql_grammar.proofs.Facts.{simple_standing}
+use Rattle.ql_grammar.proofs.Levels.{test_standing, served_test_choice, negated_choice}
 
 module _ (ts : List Token) where
   -- a rule of the conditions of a depth, where that depth is another

@@ -1,8 +1,3 @@
-pub mod Apart
-pub mod Facts
-pub mod Levels
-pub mod Exits
-pub mod Depths
-pub mod Unescapes
-pub mod Moments
+mod Depths
+mod Wholes
 pub mod Saying

@@ -11,12 +11,12 @@ use Rattle.ql_lex.specs.Lexes.{Lexes, Follow, blanks, lexeme, ends_with}
 use Rattle.ql_lex.proofs.Laws.{lexes_one}
 use Rattle.ql_lex.specs.declared.token.Token.{Token}
 use Rattle.ql_tree.specs.declared.tree.Query.{Query}
-use Rattle.ql_parse.specs.Grammar as g
-use Rattle.ql_parse.specs.Reads.{IsLeftWord, IsWhole, IsRefusal}
-use Rattle.ql_parse.specs.declared.stop.Stop.{Stop}
-use Rattle.ql_parse.specs.declared.stop.Stop.TheVariants as stops
+use Rattle.ql_grammar.specs.Grammar as g
+use Rattle.ql_parse.specs.Wholes.{IsLeftWord, IsWhole, IsRefusal}
+use Rattle.ql_grammar.specs.declared.stop.Stop.{Stop}
+use Rattle.ql_grammar.specs.declared.stop.Stop.TheVariants as stops
 use Rattle.ql_parse.specs.Texts.{longest, deepest, Spells, GoesWrong, RunsOver, LeftOut, Says, Refuses, offset, left_word}
-use Rattle.ql_parse.proofs.Levels.{query_sane}
+use Rattle.ql_grammar.proofs.Levels.{query_sane}
 
 -- no byte of the text stands at the limit or behind it
 abbrev Room : ℕ → ℕ → List ℕ → Type 0

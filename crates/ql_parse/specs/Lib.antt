@@ -1,3 +1,2 @@
-pub mod Grammar
-pub mod Reads
+pub mod Wholes
 pub mod Texts

@@ -10,7 +10,7 @@ use Rattle.ql_lex.specs.declared.token.Kind.{Kind}
 use Rattle.ql_lex.specs.declared.token.Kind.TheVariants as kinds
 use Rattle.ql_lex.specs.declared.token.Token.{Token}
 use Rattle.ql_tree.specs.declared.tree.Query.{Query}
-use Rattle.ql_parse.specs.Grammar.{query}
+use Rattle.ql_grammar.specs.Grammar.{query}
 
 -- The most bytes that the text of a query has.
 unfoldable pub longest : ℕ

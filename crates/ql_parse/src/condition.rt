@@ -2,12 +2,13 @@
 ghost use Rattle.std.specs.Prelude.{◌≡◌, ℕ, zero, suc, ◌+◌, ◌*◌, ◌<◌, ◌≤◌, ◌⊎◌, List, length, IfOk};
 ghost use Rattle.grammar_rules.specs.Rules.{Rule, Starts, Stops, Took};
 ghost use Rattle.ql_tree.specs.declared.tree.Cond.TheVariants as conds;
-ghost use Rattle.ql_parse.specs.Grammar as grammar;
-ghost use Rattle.ql_parse.specs.Reads.{Reads, IsOpened};
+ghost use Rattle.ql_grammar.specs.Grammar as grammar;
+ghost use Rattle.ql_grammar.specs.Reads.{Reads};
+ghost use Rattle.ql_parse.specs.Wholes.{IsOpened};
 
-use crate::reader::{none_begins, past, word};
-use crate::stop::Stop;
-use crate::tests::{at_simple, simple};
+use ql_grammar::reader::{none_begins, past, word};
+use ql_grammar::stop::Stop;
+use ql_grammar::tests::{at_simple, simple};
 use ql_lex::token::Token;
 use ql_lex::word::Word;
 use ql_tree::tree::Cond;

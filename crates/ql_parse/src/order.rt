@@ -1,13 +1,13 @@
 //! Reading what rows are ordered by.
 ghost use Rattle.std.specs.Prelude.{◌≡◌, ℕ, List, [], ◌∷◌, ◌++◌, length, IfOk};
 ghost use Rattle.grammar_rules.specs.Rules.{Rule, Starts, Stops, chain, mapped};
-ghost use Rattle.ql_parse.specs.Grammar as grammar;
-ghost use Rattle.ql_parse.specs.Reads.{Reads, IsStart};
+ghost use Rattle.ql_grammar.specs.Grammar as grammar;
+ghost use Rattle.ql_grammar.specs.Reads.{Reads, IsStart};
 
-use crate::names::column;
-use crate::reader::{at, past, word};
-use crate::stop::Stop;
 use cm_base::items::Items;
+use ql_grammar::names::column;
+use ql_grammar::reader::{at, past, word};
+use ql_grammar::stop::Stop;
 use ql_lex::token::Token;
 use ql_lex::word::Word;
 use ql_tree::tree::Key;

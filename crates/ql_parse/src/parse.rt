@@ -6,13 +6,13 @@ ghost use Rattle.cm_base.specs.declared.fail.Fail.TheVariants as fails;
 ghost use Rattle.ql_lex.specs.Lexes.{Lexes};
 ghost use Rattle.ql_tree.specs.declared.tree.Query.{Query};
 ghost use Rattle.ql_parse.specs.Texts as spec;
-ghost use Rattle.ql_parse.specs.Reads.{IsLeftWord, IsRefusal};
+ghost use Rattle.ql_parse.specs.Wholes.{IsLeftWord, IsRefusal};
 
 use crate::query::whole;
-use crate::stop::Stop;
 use cm_base::cause::Cause;
 use cm_base::fail::Fail;
 use cm_base::text::Text;
+use ql_grammar::stop::Stop;
 use ql_lex::token::{Kind, Token};
 use ql_lex::tokens::tokens;
 use ql_tree::tree::Query;

@@ -1,16 +1,17 @@
 //! Reading queries.
 ghost use Rattle.std.specs.Prelude.{◌≡◌, ℕ, List, [], ◌∷◌, None, Some};
 ghost use Rattle.grammar_rules.specs.Rules.{Rule, Starts, Stops};
-ghost use Rattle.ql_parse.specs.Grammar as grammar;
-ghost use Rattle.ql_parse.specs.Reads.{Reads, IsWhole};
+ghost use Rattle.ql_grammar.specs.Grammar as grammar;
+ghost use Rattle.ql_grammar.specs.Reads.{Reads};
+ghost use Rattle.ql_parse.specs.Wholes.{IsWhole};
 ghost use Rattle.ql_parse.specs.Texts.{deepest};
 
 use crate::condition::condition;
 use crate::order::order;
-use crate::reader::{at, past, split, word};
 use crate::select::{selection, table};
-use crate::stop::Stop;
 use cm_base::items::Items;
+use ql_grammar::reader::{at, past, split, word};
+use ql_grammar::stop::Stop;
 use ql_lex::token::Token;
 use ql_lex::word::Word;
 use ql_tree::tree::{Cond, Key, Query, Selection, Table};

@@ -1,15 +1,15 @@
 //! Reading what a query shows, and its table.
 ghost use Rattle.std.specs.Prelude.{◌≡◌, ℕ, List, [], ◌∷◌, ◌++◌, length, IfOk};
 ghost use Rattle.grammar_rules.specs.Rules.{Rule, Starts, Stops, chain, mapped};
-ghost use Rattle.ql_parse.specs.Grammar as grammar;
-ghost use Rattle.ql_parse.specs.Reads.{Reads, IsStart};
+ghost use Rattle.ql_grammar.specs.Grammar as grammar;
+ghost use Rattle.ql_grammar.specs.Reads.{Reads, IsStart};
 
-use crate::names::{alias, at_alias};
-use crate::parts::ItemRest;
-use crate::reader::{at, at_plain, name, none_begins, past, plain};
-use crate::stop::Stop;
 use cm_base::items::Items;
 use cm_base::text::Text;
+use ql_grammar::names::{alias, at_alias};
+use ql_grammar::parts::ItemRest;
+use ql_grammar::reader::{at, at_plain, name, none_begins, past, plain};
+use ql_grammar::stop::Stop;
 use ql_lex::token::Token;
 use ql_lex::word::Word;
 use ql_tree::tree::{Column, Item, Selection, Table};

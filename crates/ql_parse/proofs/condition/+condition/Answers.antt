@@ -1,8 +1,8 @@
 use Rattle.grammar_rules.proofs.Within.{second, along_start, along_more, along_end}
 use Rattle.std.proofs.Common.{refl}
-use Rattle.ql_parse.specs.Grammar as g
-use Rattle.ql_parse.proofs.Exits.{exit, start, out, out_first, out_listing, out_along, last}
-use Rattle.ql_parse.proofs.Levels.{conjunction_listing, cond_listing, and_joint, or_joint, group_cond_joint, closed_cond_joint, not_joint}
+use Rattle.ql_grammar.specs.Grammar as g
+use Rattle.ql_grammar.proofs.Exits.{exit, halted, start, out, out_first, out_listing, out_along, last}
+use Rattle.ql_grammar.proofs.Levels.{conjunction_listing, cond_listing, and_joint, or_joint, group_cond_joint, closed_cond_joint, not_joint}
 use Rattle.ql_parse.proofs.Depths.{grouped, ungrouped, no_test, denied, undenied}
 use Rattle.ql_parse.proofs.condition.+condition.Goals as goal
 
@@ -56,7 +56,7 @@ test-returns-in_err-inner-in-Some t c = exit (g.level c.args.depth).test (λ x. 
 
 pub test-returns-in_err-rest-in-Some : goal.test-returns-in_err-rest-in-Some
 test-returns-in_err-rest-in-Some t c = exit (g.level c.args.depth).test (λ x. (x.0, x.1.now)) c.args.tokens.now _ _ c.from_residual-in_err-rest-in-Some.ensures.1
-    (out (second (closed_cond_joint c.in-Some.below) (second (group_cond_joint c.in-Some.below) (grouped c.args.tokens.now c.args.depth c.in-Some.below c.in-Some.ensures.0 c.in-Some.ensures.1) c.in-Some.ensures.2) c.in_ok-inner-in-Some.ensures) _ c.in_err-rest-in-Some.ensures)
+    (out (second (closed_cond_joint c.in-Some.below) (second (group_cond_joint c.in-Some.below) (grouped c.args.tokens.now c.args.depth c.in-Some.below c.in-Some.ensures.0 c.in-Some.ensures.1) c.in-Some.ensures.2) c.in_ok-inner-in-Some.ensures) _ (halted _ _ _ c.in_err-rest-in-Some.ensures))
 
 pub test-returns-in_ok-rest-in-Some : goal.test-returns-in_ok-rest-in-Some
 test-returns-in_ok-rest-in-Some t c = (second (closed_cond_joint c.in-Some.below) (second (group_cond_joint c.in-Some.below) (grouped c.args.tokens.now c.args.depth c.in-Some.below c.in-Some.ensures.0 c.in-Some.ensures.1) c.in-Some.ensures.2) c.in_ok-inner-in-Some.ensures).took _ _ c.in_ok-rest-in-Some.ensures

@@ -1,6 +1,6 @@
 use Rattle.std.proofs.Common.{◌+◌, ◌*◌, length}
 use Rattle.grammar_rules.proofs.Within.{Along}
-use Rattle.ql_parse.specs.Grammar as g
+use Rattle.ql_grammar.specs.Grammar as g
 use Rattle.ql_tree.specs.declared.tree.Cond.TheVariants as conds
 use Rattle.ql_parse.proofs.condition.+condition.Given as goal
 

@@ -1,8 +1,8 @@
 use Rattle.std.proofs.Common.{true, false}
 use Rattle.grammar_rules.proofs.Within.{choice_left, choice_right, inside}
-use Rattle.ql_parse.specs.Grammar as g
-use Rattle.ql_parse.proofs.Exits.{exit, start, out}
-use Rattle.ql_parse.proofs.Facts.{direction_choice}
+use Rattle.ql_grammar.specs.Grammar as g
+use Rattle.ql_grammar.proofs.Exits.{exit, halted, start, out}
+use Rattle.ql_grammar.proofs.Facts.{direction_choice}
 use Rattle.ql_lex.specs.declared.word.Word.TheVariants as words
 use Rattle.ql_parse.proofs.order.direction.Goals as goal
 
@@ -11,7 +11,7 @@ returns-in-Some c = (inside (g.keyword words.Asc) (λ _. false) (choice_left dir
 
 pub returns-in_err-rest-in-None : goal.returns-in_err-rest-in-None
 returns-in_err-rest-in-None c = exit g.direction (λ x. (x.0, x.1.now)) c.args.tokens.now _ _ c.from_residual.ensures.1
-    (out (inside (g.keyword words.Desc) (λ _. true) (choice_right direction_choice (start g.direction c.args.tokens.now) c.in-None.ensures)) _ c.in_err-rest-in-None.ensures)
+    (out (inside (g.keyword words.Desc) (λ _. true) (choice_right direction_choice (start g.direction c.args.tokens.now) c.in-None.ensures)) _ (halted _ _ _ c.in_err-rest-in-None.ensures))
 
 pub returns-in_ok-rest-in-None : goal.returns-in_ok-rest-in-None
 returns-in_ok-rest-in-None c = (inside (g.keyword words.Desc) (λ _. true) (choice_right direction_choice (start g.direction c.args.tokens.now) c.in-None.ensures)).took _ _ c.in_ok-rest-in-None.ensures

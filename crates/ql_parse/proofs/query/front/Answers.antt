@@ -1,6 +1,6 @@
 use Rattle.std.proofs.Common.{subst}
-use Rattle.ql_parse.specs.Grammar as g
-use Rattle.ql_parse.specs.Reads.{Reads}
+use Rattle.ql_grammar.specs.Grammar as g
+use Rattle.ql_grammar.specs.Reads.{Reads}
 use Rattle.ql_parse.proofs.query.front.Goals as goal
 
 pub returns : goal.returns

@@ -1,7 +1,7 @@
 use Rattle.grammar_rules.proofs.Within.{optional_there, optional_none}
-use Rattle.ql_parse.specs.Grammar as g
-use Rattle.ql_parse.proofs.Exits.{exit, start, out, out_optional}
-use Rattle.ql_parse.proofs.Levels.{query_optional}
+use Rattle.ql_grammar.specs.Grammar as g
+use Rattle.ql_grammar.proofs.Exits.{exit, start, out, out_optional}
+use Rattle.ql_grammar.proofs.Levels.{query_optional}
 use Rattle.ql_parse.proofs.query.query.Goals as goal
 
 pub returns-in_err-found : goal.returns-in_err-found

@@ -1,12 +1,12 @@
 use Rattle.grammar_rules.proofs.Within.{second}
-use Rattle.ql_parse.specs.Grammar as g
-use Rattle.ql_parse.proofs.Exits.{exit, start, out, out_first}
-use Rattle.ql_parse.proofs.Facts.{columns_of_joint, select_joint, source_joint}
+use Rattle.ql_grammar.specs.Grammar as g
+use Rattle.ql_grammar.proofs.Exits.{exit, halted, start, out, out_first}
+use Rattle.ql_grammar.proofs.Facts.{columns_of_joint, select_joint, source_joint}
 use Rattle.ql_parse.proofs.query.select.Goals as goal
 
 pub returns-in_err-rest : goal.returns-in_err-rest
 returns-in_err-rest c = exit g.select (λ x. (x.0, x.1.now)) c.args.tokens.now _ _ c.from_residual.ensures.1
-    (out_first select_joint (start g.select c.args.tokens.now) _ c.in_err-rest.ensures)
+    (out_first select_joint (start g.select c.args.tokens.now) _ (halted _ _ _ c.in_err-rest.ensures))
 
 pub returns-in_err-list : goal.returns-in_err-list
 returns-in_err-list c = exit g.select (λ x. (x.0, x.1.now)) c.args.tokens.now _ _ c.from_residual-in_err-list.ensures.1
@@ -14,7 +14,7 @@ returns-in_err-list c = exit g.select (λ x. (x.0, x.1.now)) c.args.tokens.now _
 
 pub returns-in_err-rest-2 : goal.returns-in_err-rest-2
 returns-in_err-rest-2 c = exit g.select (λ x. (x.0, x.1.now)) c.args.tokens.now _ _ c.from_residual-in_err-rest-2.ensures.1
-    (out_first source_joint (second columns_of_joint (second select_joint (start g.select c.args.tokens.now) c.in_ok-rest.ensures) c.in_ok-list.ensures) _ c.in_err-rest-2.ensures)
+    (out_first source_joint (second columns_of_joint (second select_joint (start g.select c.args.tokens.now) c.in_ok-rest.ensures) c.in_ok-list.ensures) _ (halted _ _ _ c.in_err-rest-2.ensures))
 
 pub returns-in_err-named : goal.returns-in_err-named
 returns-in_err-named c = exit g.select (λ x. (x.0, x.1.now)) c.args.tokens.now _ _ c.from_residual-in_err-named.ensures.1

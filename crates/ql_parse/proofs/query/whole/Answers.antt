@@ -1,7 +1,7 @@
-use Rattle.ql_parse.specs.Grammar as g
+use Rattle.ql_grammar.specs.Grammar as g
 use Rattle.ql_parse.specs.Texts.{deepest}
-use Rattle.ql_parse.proofs.Exits.{whole_exit, whole_took, whole_left}
-use Rattle.ql_parse.proofs.Levels.{query_sane}
+use Rattle.ql_parse.proofs.Wholes.{whole_exit, whole_took, whole_left}
+use Rattle.ql_grammar.proofs.Levels.{query_sane}
 use Rattle.ql_parse.proofs.query.whole.Goals as goal
 
 pub returns-in_err-found : goal.returns-in_err-found

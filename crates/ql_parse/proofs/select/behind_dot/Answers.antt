@@ -1,8 +1,8 @@
 use Rattle.std.proofs.Common.{refl}
 use Rattle.grammar_rules.proofs.Within.{choice_right}
-use Rattle.ql_parse.specs.Grammar as g
-use Rattle.ql_parse.proofs.Exits.{start, last}
-use Rattle.ql_parse.proofs.Facts.{behind_dot_choice}
+use Rattle.ql_grammar.specs.Grammar as g
+use Rattle.ql_grammar.proofs.Exits.{start, last}
+use Rattle.ql_grammar.proofs.Facts.{behind_dot_choice}
 use Rattle.ql_parse.proofs.select.behind_dot.Goals as goal
 
 pub returns-in-None : goal.returns-in-None

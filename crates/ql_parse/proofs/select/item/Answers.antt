@@ -1,8 +1,8 @@
 use Rattle.std.proofs.Common.{refl}
 use Rattle.grammar_rules.proofs.Within.{standing_in}
-use Rattle.ql_parse.specs.Grammar as g
-use Rattle.ql_parse.proofs.Exits.{start, last, nothing_begins}
-use Rattle.ql_parse.proofs.Facts.{item_standing}
+use Rattle.ql_grammar.specs.Grammar as g
+use Rattle.ql_grammar.proofs.Exits.{start, last, nothing_begins}
+use Rattle.ql_grammar.proofs.Facts.{item_standing}
 use Rattle.ql_parse.proofs.select.item.Goals as goal
 
 pub returns-then-at_plain : goal.returns-then-at_plain

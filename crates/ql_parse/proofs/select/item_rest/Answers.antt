@@ -1,9 +1,9 @@
 use Rattle.std.proofs.Common.{refl}
 use Rattle.grammar_rules.proofs.Within.{second, choice_left, choice_right, inside}
-use Rattle.ql_parse.specs.Grammar as g
-use Rattle.ql_parse.proofs.Exits.{exit, start, out, last}
-use Rattle.ql_parse.proofs.Facts.{dot_rest_joint, item_rest_choice}
-use Rattle.ql_parse.specs.declared.parts.ItemRest.TheVariants as item_rests
+use Rattle.ql_grammar.specs.Grammar as g
+use Rattle.ql_grammar.proofs.Exits.{exit, start, out, last}
+use Rattle.ql_grammar.proofs.Facts.{dot_rest_joint, item_rest_choice}
+use Rattle.ql_grammar.specs.declared.parts.ItemRest.TheVariants as item_rests
 use Rattle.ql_parse.proofs.select.item_rest.Goals as goal
 
 pub returns-in-Some : goal.returns-in-Some

@@ -1,7 +1,7 @@
 use Rattle.grammar_rules.proofs.Within.{second, along_start, along_more, along_end}
-use Rattle.ql_parse.specs.Grammar as g
-use Rattle.ql_parse.proofs.Exits.{exit, start, out, out_listing, out_along, out_mapped, of_mapped}
-use Rattle.ql_parse.proofs.Facts.{comma_joint, item_sane, items_listing}
+use Rattle.ql_grammar.specs.Grammar as g
+use Rattle.ql_grammar.proofs.Exits.{exit, start, out, out_listing, out_along, out_mapped, of_mapped}
+use Rattle.ql_grammar.proofs.Facts.{comma_joint, item_sane, items_listing}
 use Rattle.ql_parse.proofs.select.items.Goals as goal
 
 pub returns-in_err-begin : goal.returns-in_err-begin

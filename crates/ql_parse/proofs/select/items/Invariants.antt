@@ -1,7 +1,7 @@
 use Rattle.std.proofs.Common.{length}
 use Rattle.grammar_rules.specs.Rules.{mapped}
 use Rattle.grammar_rules.proofs.Within.{Along}
-use Rattle.ql_parse.specs.Grammar as g
+use Rattle.ql_grammar.specs.Grammar as g
 use Rattle.ql_parse.proofs.select.items.Given as goal
 
 abbrev pub invariant-commas : goal.invariant-commas

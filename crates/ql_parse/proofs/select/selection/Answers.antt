@@ -1,7 +1,7 @@
 use Rattle.grammar_rules.proofs.Within.{choice_right, inside}
-use Rattle.ql_parse.specs.Grammar as g
-use Rattle.ql_parse.proofs.Exits.{exit, start, out}
-use Rattle.ql_parse.proofs.Facts.{selection_choice}
+use Rattle.ql_grammar.specs.Grammar as g
+use Rattle.ql_grammar.proofs.Exits.{exit, start, out}
+use Rattle.ql_grammar.proofs.Facts.{selection_choice}
 use Rattle.ql_tree.specs.declared.tree.Selection.TheVariants as selections
 use Rattle.ql_parse.proofs.select.selection.Goals as goal
 

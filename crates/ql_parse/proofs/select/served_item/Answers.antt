@@ -1,7 +1,7 @@
 use Rattle.grammar_rules.proofs.Within.{optional_there}
-use Rattle.ql_parse.specs.Grammar as g
-use Rattle.ql_parse.proofs.Exits.{exit, start, out, out_optional, out_mapped, of_mapped}
-use Rattle.ql_parse.proofs.Facts.{served_item_optional}
+use Rattle.ql_grammar.specs.Grammar as g
+use Rattle.ql_grammar.proofs.Exits.{exit, start, out, out_optional, out_mapped, of_mapped}
+use Rattle.ql_grammar.proofs.Facts.{served_item_optional}
 use Rattle.ql_parse.proofs.select.served_item.Goals as goal
 
 pub returns-in_err-begin : goal.returns-in_err-begin
