@@ -5,8 +5,8 @@ ghost use Rattle.cm_types.specs.declared.definition.TypeDef.{TypeDef};
 ghost use Rattle.cm_types.specs.declared.request.TypeRequest.{TypeRequest};
 ghost use Rattle.cm_types.specs.Changes.{made_type};
 ghost use Rattle.type_json.specs.Reading.{judge_type_text};
-ghost use Rattle.type_json.specs.Showing.{type_data};
-ghost use Rattle.type_json.specs.ReadBack.{IsSoundType, IsMadeBelow, asked_type};
+ghost use Rattle.type_show.specs.Showing.{type_data};
+ghost use Rattle.type_show.specs.ReadBack.{IsSoundType, IsMadeBelow, asked_type};
 
 use crate::show::type_value;
 use cm_types::definition;

@@ -4,9 +4,8 @@ ghost use Rattle.serde_json.specs.Data.{string};
 ghost use Rattle.cm_types.specs.Properties.{scalars_of};
 ghost use Rattle.json_text.specs.Shown.{data_of, fields_of, listed};
 ghost use Rattle.json_text.specs.Build.{with_field};
-ghost use Rattle.type_json.specs.Showing.{text_field, flag_field, scalar_data, choice_data, limit_data, prop_names, prop_words, prop_flags, prop_values, bound_fields, limit_fields, prop_data, prop_field, props_data, mutability_data, type_names, type_flags, type_values, parent_fields, document_fields, relationship_fields, base_fields, props_fields, type_data};
+ghost use Rattle.type_show.specs.Showing.{text_field, flag_field, scalar_data, choice_data, limit_data, prop_names, prop_words, prop_flags, prop_values, bound_fields, limit_fields, prop_data, prop_field, props_data, mutability_data, type_names, type_flags, type_values, parent_fields, document_fields, relationship_fields, base_fields, props_fields, type_data};
 
-use crate::word::Worded;
 use cm_base::text::Text;
 use cm_base::value::Scalar;
 use cm_type_list::changes::base_id;
@@ -15,6 +14,7 @@ use cm_types::fault::scalars_of;
 use cm_types::property::{Choice, PropDef, PropertyKind};
 use json_text::tree::{Elements, Fields, Json};
 use std::alloc::{AllocError, Global};
+use type_json::word::Worded;
 
 fn put_texts(alloc: Global, fields: &mut Fields, texts: &[(&str, &Text)]) -> Result<(), AllocError>
     ensures { OnOk result (fields_of fields.new ≡ fold with_field (fields_of fields.old) (map text_field texts.now)) }

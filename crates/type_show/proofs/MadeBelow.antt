@@ -9,9 +9,9 @@ use Rattle.cm_types.specs.declared.property.PropDef.{PropDef}
 use Rattle.cm_types.specs.declared.definition.BaseType.{BaseType}
 use Rattle.cm_types.specs.declared.definition.TypeDef.{TypeDef}
 use Rattle.cm_types.specs.Changes.{is_before, placed, sorted_props, made_type, if_kept, is_document, is_relationship}
-use Rattle.type_json.specs.ReadBack.{asked_type, IsSoundType, ascend, IsMadeBelow}
-use Rattle.type_json.proofs.Putting.{both, first, second, less}
-use Rattle.type_json.proofs.AskedType.{props_made}
+use Rattle.type_show.specs.ReadBack.{asked_type, IsSoundType, ascend, IsMadeBelow}
+use Rattle.type_show.proofs.Putting.{both, first, second, less}
+use Rattle.type_show.proofs.AskedType.{props_made}
 
 -- each of these stands before k
 abbrev all_before : List PropDef → List ℕ → Bool

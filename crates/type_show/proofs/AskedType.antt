@@ -18,11 +18,11 @@ use Rattle.cm_types.specs.Changes.{is_before, made_props, has_wrong_value, gives
 use Rattle.type_json.specs.Words.{content_word, content_of}
 use Rattle.type_json.specs.declared.kind.KeyKind.TheVariants as keys
 use Rattle.type_json.specs.Reading.{pairs_of, is_object, is_text, is_objects, is_mutability, has_kind, wrong_at, has_wrong_key, type_keys, prop_keys, text_in, id_in, base_in, flag_in, list_of, texts_in, props_in, prop_request, prop_requests, mutability_request, type_request, lacks, lacks_parent, lacks_prop_key, lacks_key, has_other_key, has_wrong_kind, has_wrong_name, has_wrong_names, have_wrong_values, judge_type}
-use Rattle.type_json.specs.Showing.{with_fields, prop_data, prop_field, props_data, mutability_data, type_names, type_values, type_flags, base_fields, parent_fields, props_fields, texts_data, type_data}
-use Rattle.type_json.specs.ReadBack.{asked_prop, asked_type, IsSoundProp, IsSoundType, ascend}
-use Rattle.type_json.proofs.Putting.{both, first, second, ascending, put_ascending}
-use Rattle.type_json.proofs.ShownValues.{content_again, all_again, map_same}
-use Rattle.type_json.proofs.AskedProps.{text_at, flag_at, word_at, either, right_text, right_flag, right_word, right_list, lacks_at, names_at, asked_again, keys_again, is_object_again, needed_again, id_again, names_again, made_again, many_again, faultless_again}
+use Rattle.type_show.specs.Showing.{with_fields, prop_data, prop_field, props_data, mutability_data, type_names, type_values, type_flags, base_fields, parent_fields, props_fields, texts_data, type_data}
+use Rattle.type_show.specs.ReadBack.{asked_prop, asked_type, IsSoundProp, IsSoundType, ascend}
+use Rattle.type_show.proofs.Putting.{both, first, second, ascending, put_ascending}
+use Rattle.type_show.proofs.ShownValues.{content_again, all_again, map_same}
+use Rattle.type_show.proofs.AskedProps.{text_at, flag_at, word_at, either, right_text, right_flag, right_word, right_list, lacks_at, names_at, asked_again, keys_again, is_object_again, needed_again, id_again, names_again, made_again, many_again, faultless_again}
 
 -- ---- the property definitions
 

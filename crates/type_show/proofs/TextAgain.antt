@@ -9,11 +9,11 @@ use Rattle.cm_types.specs.declared.definition.TypeDef.{TypeDef}
 use Rattle.cm_types.specs.declared.request.TypeRequest.{TypeRequest}
 use Rattle.cm_types.specs.Changes.{made_type}
 use Rattle.type_json.specs.Reading.{judge_type, judge_type_text}
-use Rattle.type_json.specs.Showing.{type_data}
-use Rattle.type_json.specs.ReadBack.{asked_type, IsSoundType, IsMadeBelow}
-use Rattle.type_json.proofs.AskedType.{judged_again}
-use Rattle.type_json.proofs.Depths.{depth_type}
-use Rattle.type_json.proofs.MadeBelow.{type_again}
+use Rattle.type_show.specs.Showing.{type_data}
+use Rattle.type_show.specs.ReadBack.{asked_type, IsSoundType, IsMadeBelow}
+use Rattle.type_show.proofs.AskedType.{judged_again}
+use Rattle.type_show.proofs.Depths.{depth_type}
+use Rattle.type_show.proofs.MadeBelow.{type_again}
 
 pub text_again : (t : TypeDef) (d : Data) (text : List ℕ) → d ≡ type_data true t → (depth d ≤ max_depth → read text ≡ Some d) → IsSoundType t
     → judge_type_text text ≡ Ok (asked_type t)
