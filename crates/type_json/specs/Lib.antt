@@ -1,4 +1,2 @@
-pub mod ReadBack
 pub mod Reading
-pub mod Showing
 pub mod Words

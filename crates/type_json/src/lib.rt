@@ -1,4 +1,4 @@
-//! Type definitions as JSON: texts of requests are read, definitions are shown (CMIS 1.1, section 5.2.9).
+//! Type definitions that stand in JSON: what a text of a request asks of a type (CMIS 1.1, section 5.2.9).
 #![tactic(auto)]
 
 ghost use Rattle.std.specs.Prelude.{◌≡◌};
@@ -6,7 +6,5 @@ ghost use Rattle.std.specs.Prelude.{◌≡◌};
 pub mod asked;
 pub mod judge;
 pub mod kind;
-pub mod read_back;
 pub mod shape;
-pub mod show;
 pub mod word;

@@ -1,6 +1,9 @@
 //! The base types as a repository begins with them.
 use cm_base::text::Text;
 use cm_basetypes::base_types::base_types;
+use cm_basetypes::props::{
+    common_props, document_props, folder_props, policy_props, relationship_props,
+};
 use cm_type_list::types::Types;
 use std::alloc::{AllocError, Global};
 
@@ -65,5 +68,16 @@ fn a_type_is_below_itself_alone_at_first(rt: HostRuntime) -> Result<(), AllocErr
     assert!(rt; is_below(alloc, &types, "cmis:item", "cmis:item")?);
     assert!(rt; !is_below(alloc, &types, "cmis:item", "cmis:folder")?);
     assert!(rt; !is_below(alloc, &types, "t:none", "t:none")?);
+    Ok(())
+}
+
+#[test]
+fn rows_of_the_tables_of_properties(rt: HostRuntime) -> Result<(), AllocError> {
+    let alloc = rt.alloc();
+    assert!(rt; common_props(alloc)?.len() == 11);
+    assert!(rt; document_props(alloc)?.len() == 26);
+    assert!(rt; folder_props(alloc)?.len() == 14);
+    assert!(rt; relationship_props(alloc)?.len() == 13);
+    assert!(rt; policy_props(alloc)?.len() == 12);
     Ok(())
 }

@@ -2,7 +2,8 @@
 use cm_base::text::Text;
 use cm_basetypes::base_types::base_types;
 use std::alloc::{AllocError, Global};
-use type_json::show::type_value;
+use type_show::read_back::type_text;
+use type_show::show::type_value;
 
 // What stands before the property definitions, and after them.
 const HEAD: &str =
@@ -105,6 +106,20 @@ fn document_without_properties(rt: HostRuntime) -> Result<(), AllocError> {
     assert!(rt;
         match &text {
             Some(text) => text.as_slice() == SHORT.as_bytes(),
+            None => false,
+        }
+    );
+    Ok(())
+}
+
+#[test]
+fn text_of_a_definition_has_its_properties(rt: HostRuntime) -> Result<(), AllocError> {
+    let alloc = rt.alloc();
+    let types = base_types(alloc)?;
+    let id = Text::from_str(alloc, "cmis:document")?;
+    assert!(rt;
+        match types.find(&id) {
+            Some(def) => is_document(type_text(alloc, def)?.as_slice()),
             None => false,
         }
     );

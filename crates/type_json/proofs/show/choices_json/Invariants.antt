@@ -1,7 +1,0 @@
-use Rattle.std.proofs.Common.{◌≡◌, map, take}
-use Rattle.json_text.specs.Shown.{listed}
-use Rattle.type_json.specs.Showing.{choice_data}
-use Rattle.type_json.proofs.show.choices_json.Given as goal
-
-abbrev pub invariant-loop-choice : goal.invariant-loop-choice
-invariant-loop-choice l = listed l.elements ≡ map choice_data (take l.choice-index l.choices)
