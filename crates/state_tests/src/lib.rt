@@ -1,0 +1,5 @@
+//! Tests of the changes of a state.
+#![tactic(auto)]
+
+#[cfg(test)]
+mod tests;
