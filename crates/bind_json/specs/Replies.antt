@@ -1,5 +1,5 @@
 -- The JSON of replies, and what is sent of them (CMIS 1.1, sections 5.2.10 and 5.2.11).
-use Rattle.std.specs.Prelude.{ℕ, List, [], ◌∷◌, codes, map, Some, if◌then◌else◌}
+use Rattle.std.specs.Prelude.{ℕ, [], ◌∷◌, codes, map, Some, if◌then◌else◌}
 use Rattle.serde_json.specs.Data.{Data, boolean, number, unsigned}
 use Rattle.serde_json.specs.Written.{compact_text}
 use Rattle.json_text.specs.Build.{object_data, list_data}

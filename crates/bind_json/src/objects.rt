@@ -1,5 +1,5 @@
 //! Objects as JSON.
-ghost use Rattle.std.specs.Prelude.{◌≡◌, [], ◌∷◌, codes, map, IfOk};
+ghost use Rattle.std.specs.Prelude.{◌≡◌, [], ◌∷◌, IfOk};
 ghost use Rattle.json_text.specs.Shown.{data_of};
 ghost use Rattle.json_text.specs.Build.{object_data};
 ghost use Rattle.bind_json.specs.Objects.{property_data, properties_data, values_data, shown_data};

@@ -1,7 +1,5 @@
 -- What a failing step leaves of the steps after it.
-use Rattle.std.specs.Prelude.{◌≡◌, Result, Ok, Err}
 use Rattle.std.proofs.Common.{refl}
-use Rattle.cm_base.specs.declared.cause.Cause.{Cause}
 use Rattle.cm_base.specs.declared.fail.Fail.{Fail}
 use Rattle.cm_base.specs.declared.fail.Fail.TheVariants as fails
 use Rattle.cm_base.specs.Judged.{Judged, Fails, ◌>>=◌, ◌>>◌}

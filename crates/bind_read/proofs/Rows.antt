@@ -1,6 +1,6 @@
 -- Worked rows: what small requests ask.
 use Rattle.std.proofs.Common.{◌≡◌, ℕ, List, [], ◌∷◌, true, false, refl}
-use Rattle.std.specs.Prelude.{codes, Ok, Err, Some, None}
+use Rattle.std.specs.Prelude.{codes, Ok, Err}
 use Rattle.std.specs.Fmt.{digits}
 use Rattle.std.specs.Str.{is_utf8, chars}
 use Rattle.std.specs.Str.Lossy.{utf8_lossy, utf8_valid_len}
@@ -13,7 +13,7 @@ use Rattle.cm_call.specs.declared.place.Place.TheVariants as places
 use Rattle.cm_call.specs.declared.write.Write.TheVariants as writes
 use Rattle.cm_call.specs.declared.question.Question.TheVariants as questions
 use Rattle.cm_call.specs.declared.question.PropertyFilter.TheVariants as filters
-use Rattle.http_grammar.specs.Request.{Head, Request, FieldParts}
+use Rattle.http_grammar.specs.Request.{Request, FieldParts}
 use Rattle.http_grammar.specs.Fields.{values_named}
 use Rattle.form_args.specs.Properties.{most_properties, most_values}
 use Rattle.bind_read.specs.declared.asked.Asked.TheVariants as asks

@@ -1,7 +1,7 @@
 -- The method and the form of a request (CMIS 1.1, sections 5.2.9 and 5.4.4).
 use Rattle.std.specs.Prelude.{ℕ, List, [], ◌∷◌, codes, bytes_eq, Option, Some, None, Ok, Err, if◌then◌else◌}
 use Rattle.cm_base.specs.declared.cause.Cause.TheVariants as causes
-use Rattle.cm_base.specs.Judged.{Judged, ◌>>=◌}
+use Rattle.cm_base.specs.Judged.{Judged}
 use Rattle.http_grammar.specs.Request.{Head, Request}
 use Rattle.http_grammar.specs.Fields.{values_named}
 use Rattle.form_args.specs.declared.pairs.Pair.{Pair}

@@ -1,8 +1,8 @@
 -- The actions and selectors that are served, each at its addresses (CMIS 1.1, sections 5.4.2 and 5.4.3).
-use Rattle.std.specs.Prelude.{ℕ, List, codes, bytes_eq, Option, Some, None, Ok, Err, if◌then◌else◌}
+use Rattle.std.specs.Prelude.{ℕ, List, codes, bytes_eq, Option, Some, None, Err, if◌then◌else◌}
 use Rattle.cm_base.specs.declared.argument.Argument.TheVariants as args
 use Rattle.cm_base.specs.declared.cause.Cause.TheVariants as causes
-use Rattle.cm_base.specs.Judged.{Judged, ◌>>=◌, find_or}
+use Rattle.cm_base.specs.Judged.{Judged, find_or}
 use Rattle.request_target.specs.declared.target.Target.{Target}
 use Rattle.request_target.specs.declared.target.Target.TheVariants as targets
 use Rattle.form_args.specs.declared.pairs.Pair.{Pair}

@@ -1,5 +1,5 @@
 //! Fields of a head by their names.
-ghost use Rattle.std.specs.Prelude.{◌≡◌, ◌+◌, ◌<◌, [], length, codes, option_map};
+ghost use Rattle.std.specs.Prelude.{◌≡◌, ◌<◌, [], length, option_map};
 ghost use Rattle.std.specs.List.{slice_index_or};
 ghost use Rattle.http_grammar.specs.Fields.{same_word, values_named};
 ghost use Rattle.bind_read.specs.Forms.{first_item, content_type};

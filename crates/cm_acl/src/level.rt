@@ -1,5 +1,5 @@
 //! What an access control list permits (CMIS 1.1, section 2.1.12).
-ghost use Rattle.std.specs.Prelude.{◌≡◌, ◌+◌, ◌<◌, codes, bytes_eq, Ok, Err};
+ghost use Rattle.std.specs.Prelude.{◌≡◌, ◌<◌, bytes_eq, Ok, Err};
 ghost use Rattle.std.specs.List.{list_any};
 ghost use Rattle.cm_base.specs.Judged.{find_or};
 ghost use Rattle.cm_base.specs.declared.cause.Cause.TheVariants as causes;

@@ -1,5 +1,5 @@
 //! The base types.
-ghost use Rattle.std.specs.Prelude.{◌≡◌, ◌++◌, ◌∷◌, [], List, IfOk, OnOk, map, true, false};
+ghost use Rattle.std.specs.Prelude.{◌≡◌, ◌++◌, ◌∷◌, [], IfOk, map, true, false};
 ghost use Rattle.cm_types.specs.declared.definition.BaseType.TheVariants as bases;
 ghost use Rattle.cm_types.specs.declared.definition.ContentAllowed.TheVariants.{NotAllowed, Allowed};
 ghost use Rattle.cm_basetypes.specs.BaseTypes.{common_props, version_props, content_props, folder_props, relationship_props, policy_props, base_def, base_row, base_types};

@@ -1,5 +1,5 @@
 -- What is shown has the number of the repository from which it was made.
-use Rattle.std.specs.Prelude.{◌≡◌, ℕ, false, true, List, Option, Some, Result, Ok, Err}
+use Rattle.std.specs.Prelude.{◌≡◌, ℕ, false, true, List, Some, Result, Ok, Err}
 use Rattle.std.proofs.Common.{refl, sym, ap, ◌∙◌}
 use Rattle.std.proofs.lemmas.Bool.{both_ways}
 use Rattle.cm_base.specs.declared.cause.Cause.{Cause}

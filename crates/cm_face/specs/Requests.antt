@@ -2,7 +2,7 @@
 use Rattle.std.specs.Prelude.{ℕ, Result, Ok}
 use Rattle.std.specs.Result.{result_unwrap_or}
 use Rattle.cm_base.specs.declared.cause.Cause.{Cause}
-use Rattle.cm_base.specs.Judged.{Judged, ◌>>=◌}
+use Rattle.cm_base.specs.Judged.{◌>>=◌}
 use Rattle.cm_call.specs.declared.write.Write.{Write}
 use Rattle.cm_call.specs.declared.question.Question.{Question}
 use Rattle.bind_read.specs.declared.asked.Asked.{Asked}

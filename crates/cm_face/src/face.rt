@@ -1,5 +1,5 @@
 //! The machine of the server.
-ghost use Rattle.std.specs.Prelude.{◌≡◌, ℕ, List, Result};
+ghost use Rattle.std.specs.Prelude.{◌≡◌, Result};
 ghost use Rattle.desk_model.specs.Halts.{Tells};
 ghost use Rattle.cm_face.specs.Faces.{shown_step, shown_answer};
 

@@ -1,8 +1,5 @@
 //! How sessions read the requests of the repository.
-ghost use Rattle.std.specs.Prelude.{◌≡◌, ℕ, Bool, List, Result};
-ghost use Rattle.http_grammar.specs.Request.{Head as HeadParts, Request as RequestParts};
-ghost use Rattle.cm_base.specs.declared.cause.Cause.{Cause};
-ghost use Rattle.cm_base.specs.declared.user.User.{User};
+ghost use Rattle.std.specs.Prelude.{◌≡◌, Result};
 ghost use Rattle.cm_face.specs.Requests.{called, least};
 ghost use Rattle.cm_face.specs.Numbers.{step_has_number, answer_has_number};
 ghost use Rattle.http_caller.specs.Callers.{caller_of};

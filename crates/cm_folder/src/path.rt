@@ -1,6 +1,6 @@
 //! Paths of folders (CMIS 1.1, section 2.1.5.3).
 ghost use Rattle.std.specs.Prelude.{◌≡◌, ◌++◌, IfOk, string_bytes, codes};
-ghost use Rattle.cmis_spec.specs.Repository.{path_by, levels_up};
+ghost use Rattle.cmis_spec.specs.Repository.{path_by};
 ghost use Rattle.cm_folder.specs.Filings.{folder_of, name_in, path_in};
 
 use crate::filing::{Filing, levels};

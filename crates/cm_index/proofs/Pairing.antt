@@ -1,5 +1,5 @@
 -- The order of pairs, and what a range of them is.
-use Rattle.std.proofs.Common.{◌≡◌, ◌+◌, ◌<◌, ◌==◌, ◌||◌, ℕ, Bool, true, false, not, cond, ◌&&◌, List, [], ◌∷◌, ◌++◌, map, filter, sym, ap, refl, ◌∙◌, subst, true≢false, arith, Ordering, Less, Equal, Greater, is_eq, is_lt, is_gt, bytes_eq}
+use Rattle.std.proofs.Common.{◌≡◌, ◌+◌, ◌<◌, ◌==◌, ◌||◌, ℕ, Bool, true, false, not, cond, ◌&&◌, List, [], ◌∷◌, ◌++◌, map, filter, sym, ap, refl, ◌∙◌, true≢false, arith, Ordering, Less, Equal, Greater, is_eq, is_lt, is_gt}
 use Rattle.std.specs.List.{list_any}
 use Rattle.core.specs.List.{AllByRecursion}
 use Rattle.core.specs.Ordering.{eq_by_cmp, nat_cmp, ordering_then, MatchOrdering}

@@ -1,5 +1,5 @@
 -- Pairs of a key and the number of an object.
-use Rattle.std.specs.Prelude.{ℕ, ◌<◌, ◌==◌, Bool, false, ◌&&◌, List, map, filter, bytes_eq}
+use Rattle.std.specs.Prelude.{◌<◌, ◌==◌, Bool, false, ◌&&◌, List, map, filter, bytes_eq}
 use Rattle.std.specs.List.{list_any}
 use Rattle.core.specs.List.{AllByRecursion}
 use Rattle.core.specs.Ordering.{nat_cmp, ordering_then}

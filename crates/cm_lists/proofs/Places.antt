@@ -1,11 +1,11 @@
 -- A list as a map from the place to the element.
-use Rattle.std.proofs.Common.{Bor, MatchOption, ◌≡◌, ℕ, zero, suc, ◌+◌, ◌≤◌, ◌<◌, List, [], ◌∷◌, ◌++◌, map, length, Option, Some, None, Bool, cond, refl, ap, sym, ◌∙◌, arith, subst, zero-add}
+use Rattle.std.proofs.Common.{Bor, MatchOption, ◌≡◌, ℕ, zero, suc, ◌+◌, ◌≤◌, ◌<◌, List, [], ◌∷◌, ◌++◌, map, length, Option, Some, None, refl, ap, sym, ◌∙◌, arith, zero-add}
 use Rattle.std.specs.List.{enumerate_from, slice_get}
 use Rattle.std.specs.Option.{option_copied}
 use Rattle.std.specs.Ordering.{nat_cmp}
 use Rattle.std.specs.Cmp.{nat_cmp_is}
 use Rattle.core.specs.FinMap.Entries.{put, find}
-use Rattle.core.specs.declared.cmp.Ordering.TheVariants.{Less, Equal, Greater}
+use Rattle.core.specs.declared.cmp.Ordering.TheVariants.{Equal, Greater}
 
 pub map-enumerate : {X : Type 0} (n : ℕ) (xs : List X) → map (λ e. e.1) (enumerate_from n xs) ≡ xs
 map-enumerate n [] = refl

@@ -1,12 +1,11 @@
 -- A list in the order of its members' numbers, as a map from number to member.
-use Rattle.std.proofs.Common.{◌≡◌, ℕ, zero, suc, ◌+◌, ◌<◌, ◌≤◌, ◌==◌, nat_lt, if◌then◌else◌, is_some, List, [], ◌∷◌, ◌++◌, All, map, find, filter, not, Option, Some, None, Bool, true, false, cond, refl, ap, sym, ◌∙◌, arith, subst, option_copied, T, ◌&&◌}
+use Rattle.std.proofs.Common.{◌≡◌, ℕ, ◌+◌, ◌<◌, ◌≤◌, ◌==◌, nat_lt, if◌then◌else◌, is_some, List, [], ◌∷◌, ◌++◌, All, map, find, filter, not, Bool, true, false, refl, ap, sym, ◌∙◌, arith, subst, T, ◌&&◌}
 use Rattle.std.specs.Ordering.{nat_cmp}
 use Rattle.std.specs.Cmp.{nat_cmp_is}
 use Rattle.std.proofs.lemmas.Bool.{eqb-true, both_ways, ltb-true, ltb-false}
 use Rattle.std.proofs.lemmas.List.Elements.{All-nil, All-head, All-tail, All-cons, All-weaker}
-use Rattle.core.specs.Ordering.{is_eq, is_lt, eq_by_cmp}
-use Rattle.core.specs.declared.cmp.Ordering.{Ordering}
-use Rattle.core.specs.declared.cmp.Ordering.TheVariants.{Less, Equal, Greater}
+use Rattle.core.specs.Ordering.{is_eq, is_lt}
+use Rattle.core.specs.declared.cmp.Ordering.TheVariants.{Equal, Greater}
 use Rattle.core.specs.FinMap.Entries as entries
 use Rattle.cm_lists.specs.Keyed.{keyed, Rises}
 use Rattle.map_keys.specs.Parts.{without_key}

@@ -1,6 +1,5 @@
 -- The keys of entries in order, as a set.
 use Rattle.std.proofs.Common.{◌≡◌, Bool, true, false, cond, not, T, ◌&&◌, ◌||◌, List, [], ◌∷◌, ◌++◌, map, filter, sym, ap, refl, ◌∙◌, Ordering, Less, Equal, Greater, is_eq, is_lt, is_gt, true≢false}
-use Rattle.std.specs.List.{list_any}
 use Rattle.core.specs.List.{AllByRecursion}
 use Rattle.core.specs.FinMap.Entries.{put, is_sorted, below_all, where_key, by_order}
 use Rattle.core.specs.Ordering.{eq_by_cmp, ordering_reverse}

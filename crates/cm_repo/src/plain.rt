@@ -1,5 +1,5 @@
 //! The repository as a machine whose answers are replies.
-ghost use Rattle.std.specs.Prelude.{◌≡◌, ℕ, List, Result};
+ghost use Rattle.std.specs.Prelude.{◌≡◌, Result};
 
 use crate::calls::{advance, answer};
 use cm_base::cause::Cause;

@@ -1,6 +1,6 @@
 -- One more item of a list; what one text states.
 use Rattle.std.proofs.Common.{◌≡◌, ◌∙◌, ℕ, ◌+◌, ◌<◌, List, [], ◌∷◌, ◌++◌, length, take, get_or, refl, sym, ap}
-use Rattle.std.specs.Prelude.{Option, Some, None, Bool, true, false, not, unwrap_or, option_map}
+use Rattle.std.specs.Prelude.{Option, Some, None, true, false, not, unwrap_or, option_map}
 use Rattle.std.specs.Option.{option_to_list}
 use Rattle.std.specs.List.{filter_map}
 use Rattle.std.proofs.lemmas.List.{take_more}

@@ -1,5 +1,5 @@
 //! Look-ups by id.
-ghost use Rattle.std.specs.Prelude.{◌≡◌, ℕ, List, find, bytes_eq, option_copied, option_map};
+ghost use Rattle.std.specs.Prelude.{◌≡◌, find, option_copied};
 ghost use Rattle.cm_types.specs.Properties.{def_of, slot_in, given_of};
 
 use cm_base::text::Text;

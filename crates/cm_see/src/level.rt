@@ -1,7 +1,6 @@
 //! Levels.
-ghost use Rattle.std.specs.Prelude.{◌≡◌, List, [], Option, Some, None, unwrap_or, option_map, bytes_eq};
-ghost use Rattle.std.specs.Option.{option_copied};
-ghost use Rattle.cmis_spec.specs.Repository.{entry_of, root, same};
+ghost use Rattle.std.specs.Prelude.{◌≡◌, [], Some, None};
+ghost use Rattle.cmis_spec.specs.Repository.{entry_of};
 ghost use Rattle.cmis_spec.specs.Access.{is_administrator, granted, groups_of, aces_at, level_by_list, level_of_caller, lacks, is_at_least};
 
 use cm_acl::level::{greater, is_at_least, level_of};

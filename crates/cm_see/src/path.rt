@@ -1,7 +1,7 @@
 //! Objects by their names, and the paths of folders (CMIS 1.1, section 2.1.5.3).
-ghost use Rattle.std.specs.Prelude.{◌≡◌, ℕ, ◌++◌, List, [], Option, Some, None, IfOk, unwrap_or, option_map, string_bytes, codes};
+ghost use Rattle.std.specs.Prelude.{◌≡◌, ◌++◌, [], Option, Some, None, IfOk, string_bytes, codes};
 ghost use Rattle.std.specs.Option.{option_copied};
-ghost use Rattle.cmis_spec.specs.Repository.{root, parent_in, entry_name, path_by, path_of};
+ghost use Rattle.cmis_spec.specs.Repository.{parent_in, entry_name, path_by, path_of};
 ghost use Rattle.cmis_spec.specs.Access.{child_named, walk, at_path};
 
 use crate::read::{read_at, reads};

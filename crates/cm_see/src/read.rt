@@ -1,10 +1,9 @@
 //! Which objects a caller reads.
-ghost use Rattle.std.specs.Prelude.{◌≡◌, ℕ, ◌-◌, ◌&&◌, ◌||◌, true, false, List, [], ◌∷◌, Option, Some, None, unwrap_or, option_map, option_and_then, bytes_eq, codes, find};
+ghost use Rattle.std.specs.Prelude.{◌≡◌, ◌-◌, ◌&&◌, ◌||◌, true, false, [], ◌∷◌, Option, Some, None, bytes_eq, find};
 ghost use Rattle.std.specs.Option.{option_copied};
 ghost use Rattle.std.specs.List.{list_all};
 ghost use Rattle.cm_base.specs.declared.access.Level.TheVariants as levels;
-ghost use Rattle.cm_types.specs.Properties.{value_in, slot_in, texts_of, text_of_scalar, scalars_of};
-ghost use Rattle.cmis_spec.specs.Repository.{same, root, object_at};
+ghost use Rattle.cm_types.specs.Properties.{value_in, scalars_of};
 ghost use Rattle.cmis_spec.specs.Access.{is_at_least, level_by_list, reads_up, reads_end, reads_ends, reads, oid_named, object_named, read_at, read_named};
 ghost use Rattle.cm_see.specs.Ends.{reads_end_named, reads_scalar};
 

@@ -1,7 +1,7 @@
 //! Ways up the folder tree.
-ghost use Rattle.std.specs.Prelude.{◌≡◌, ℕ, ◌+◌, ◌-◌, ◌<◌, ◌≤◌, length, Option, Some, None, unwrap_or, option_map};
+ghost use Rattle.std.specs.Prelude.{◌≡◌, ◌+◌, ◌-◌, ◌<◌, ◌≤◌, length, Some, None};
 ghost use Rattle.std.specs.List.{list_any};
-ghost use Rattle.cmis_spec.specs.Repository.{same, upwards, levels_up, depth_of, is_under, folders_up};
+ghost use Rattle.cmis_spec.specs.Repository.{same, upwards, levels_up, depth_of, is_under};
 
 use cm_base::number::Oid;
 use cm_state::state::State;

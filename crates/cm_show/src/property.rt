@@ -1,5 +1,5 @@
 //! The values of an object's properties as the caller sees them.
-ghost use Rattle.std.specs.Prelude.{◌≡◌, bytes_eq, decimal, find, length, pos, IfOk, Option, Some, None, option_map};
+ghost use Rattle.std.specs.Prelude.{◌≡◌, bytes_eq, decimal, find, IfOk, Option, Some, None, option_map};
 ghost use Rattle.std.specs.Option.{option_copied};
 ghost use Rattle.cm_base.specs.declared.value.Scalar.TheVariants.{Time};
 ghost use Rattle.cm_base.specs.declared.value.Value.TheVariants.{One};

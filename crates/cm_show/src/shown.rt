@@ -1,6 +1,6 @@
 //! What a reply shows of an object.
-ghost use Rattle.std.specs.Prelude.{◌≡◌, ◌∷◌, ◌++◌, [], bytes_eq, map, filter, IfOk, OnOk, true, false};
-ghost use Rattle.std.specs.List.{list_any, flat_map};
+ghost use Rattle.std.specs.Prelude.{◌≡◌, ◌∷◌, ◌++◌, [], map, filter, IfOk, OnOk, true};
+ghost use Rattle.std.specs.List.{flat_map};
 ghost use Rattle.map_keys.specs.Parts.{pointee};
 ghost use Rattle.cm_show.specs.Shown.{passes, shown_defs, shown_object, shown_properties, shown_property, shown_slot};
 ghost use Rattle.cm_call.specs.declared.reply.Properties.TheVariants as forms;

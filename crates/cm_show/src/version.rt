@@ -1,5 +1,5 @@
 //! Where a document stands in its version series (CMIS 1.1, section 2.1.13). Nothing here takes memory but a label's text.
-ghost use Rattle.std.specs.Prelude.{◌≡◌, decimal, find, if◌then◌else◌, IfOk, Option, Some, None, option_map, option_and_then};
+ghost use Rattle.std.specs.Prelude.{◌≡◌, decimal, find, if◌then◌else◌, IfOk, Option, Some, None, option_map};
 ghost use Rattle.std.specs.Option.{option_copied};
 ghost use Rattle.cmis_spec.specs.Repository.{same, is_latest};
 ghost use Rattle.cm_show.specs.Shown.{version_of, is_major, last_major, is_latest_version, is_major_version, is_latest_major, is_immutable, label_text, checked_out_by, checked_out_id, words_or_unset, label_of};

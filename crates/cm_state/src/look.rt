@@ -1,14 +1,13 @@
 //! Look-ups. None takes memory but `children`.
-ghost use Rattle.std.specs.Prelude.{◌≡◌, Bool, if◌then◌else◌, option_and_then, ℕ, ◌+◌, ◌<◌, ◌≤◌, ◌^◌, ◌&&◌, not, Option, Some, None, IfOk, unwrap_or, option_map, find, filter, map, bytes_eq, length};
+ghost use Rattle.std.specs.Prelude.{◌≡◌, Bool, if◌then◌else◌, option_and_then, ◌+◌, ◌<◌, ◌&&◌, Option, Some, None, IfOk, unwrap_or, find, bytes_eq, length};
 ghost use Rattle.std.specs.Option.{option_copied};
-ghost use Rattle.std.specs.List.{list_any};
 ghost use Rattle.cm_base.specs.declared.object.Object.{Object};
-ghost use Rattle.cm_types.specs.Types.{type_in, is_of_base, same_base};
-ghost use Rattle.cmis_spec.specs.Repository.{same, object_at, series_at, series_of, owner_of, is_latest, type_of, is_a, parent_in, is_filed, entry_of, entry_name, is_taken, most_steps, most_cost};
+ghost use Rattle.cm_types.specs.Types.{type_in, same_base};
+ghost use Rattle.cmis_spec.specs.Repository.{object_at, series_at, series_of, owner_of, is_latest, is_a, parent_in, is_filed, entry_of, entry_name, is_taken};
 ghost use Rattle.cmis_spec.specs.Access.{stands, groups_of};
 ghost use Rattle.cmis_spec.specs.Well.{IsWellFormed};
 ghost use Rattle.cm_state.specs.Filings.{IsSingle};
-ghost use Rattle.cm_state.specs.Looks.{list_at, content_at, standing_in, numbers_in};
+ghost use Rattle.cm_state.specs.Looks.{list_at, content_at, numbers_in};
 
 use crate::state::State;
 use cm_base::access::AccessList;

@@ -1,5 +1,5 @@
 //! The opening.
-ghost use Rattle.std.specs.Prelude.{◌≡◌, ℕ, List, [], ◌∷◌, IfOk, map, codes, unwrap_or, slice_get};
+ghost use Rattle.std.specs.Prelude.{◌≡◌, [], ◌∷◌, IfOk, map};
 ghost use Rattle.cmis_spec.specs.Repository.{opening, root_folder, root_aces, administrator_of};
 ghost use Rattle.cmis_spec.specs.Well.{IsWellFormed};
 

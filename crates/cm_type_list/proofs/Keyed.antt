@@ -5,7 +5,7 @@ use Rattle.std.specs.declared.cmp.Ordering.{Ordering}
 use Rattle.std.specs.declared.cmp.Ordering.TheVariants.{Less, Equal, Greater}
 use Rattle.core.specs.Ordering.{nat_cmp, is_lt, eq_by_cmp, ordering_reverse}
 use Rattle.core.specs.Cmp.Lexicographic.{slice_cmp, nat_list_cmp_total}
-use Rattle.core.specs.FinMap.Entries.{put, where_key, below_all, is_sorted, by_order}
+use Rattle.core.specs.FinMap.Entries.{put, below_all, is_sorted, by_order}
 use Rattle.core.specs.FinMap.Entries as entries
 use Rattle.std.proofs.lemmas.Map.Text.{is_eq-slice_cmp}
 use Rattle.std.proofs.lemmas.Map.Lookups.{exact_bytes}

@@ -1,9 +1,8 @@
 //! What a request changes of a type that is there.
-ghost use Rattle.std.specs.Prelude.{◌≡◌, ◌||◌, List, ℕ, ℤ, bytes_eq, unwrap_or, option_map, false};
+ghost use Rattle.std.specs.Prelude.{◌≡◌, ◌||◌, bytes_eq, false};
 ghost use Rattle.std.specs.List.{list_any};
 ghost use lib.Pointwise.{pointwise};
-ghost use Rattle.cm_types.specs.Properties.{scalars_of, same_scalar, same_flag};
-ghost use Rattle.cm_types.specs.Types.{same_base};
+ghost use Rattle.cm_types.specs.Properties.{scalars_of, same_scalar};
 ghost use Rattle.cm_types.specs.Changes.{changes, changes_text, changes_flag, same_kind, same_cardinality, same_updatability, same_content_allowed, same_choice, changes_limit, of_kind, if_kept, is_document, is_relationship, changes_prop_texts, changes_prop_flags, changes_prop_kind, changes_prop_values, changes_prop, changes_old_prop, changes_parent, changes_texts, changes_flags, changes_mutability, changes_own, base_id};
 ghost use Rattle.cm_types.specs.declared.property.PropertyKind.TheVariants as kinds;
 

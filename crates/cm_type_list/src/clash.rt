@@ -1,6 +1,5 @@
 //! Whether property definitions share an id or a query name.
 ghost use Rattle.std.specs.Prelude.{◌≡◌, ◌||◌, ℕ, List, [], IfOk, bytes_eq, is_some, false};
-ghost use Rattle.std.specs.List.{list_any};
 ghost use Rattle.core.specs.Ordering.{nat_cmp};
 ghost use Rattle.core.specs.Cmp.Lexicographic.{slice_cmp};
 ghost use Rattle.core.specs.FinMap.Entries as entries;

@@ -1,10 +1,10 @@
 //! What createType, updateType and deleteType make of the list of types (CMIS 1.1, sections 2.2.2.6 to 2.2.2.8).
-ghost use Rattle.std.specs.Prelude.{◌≡◌, ◌||◌, ◌++◌, List, ℕ, OnOk, IfOk, nat_le, length, option_and_then};
+ghost use Rattle.std.specs.Prelude.{◌≡◌, ◌||◌, ◌++◌, OnOk, IfOk, nat_le, length, option_and_then};
 ghost use Rattle.std.specs.Option.{option_copied};
 ghost use Rattle.std.specs.List.{list_any};
 ghost use Rattle.cm_base.specs.Judged.{Meets};
 ghost use Rattle.cm_types.specs.Types.{type_in, chain, longest_chain, is_child_type};
-ghost use Rattle.cm_types.specs.Changes.{placed_type, without_type, sorted_types, lacks_parent, is_taken, text_or, is_given_as, breaks_attribute_rule, breaks_type_rule, breaks_def_rule, breaks_prop_rule, has_wrong_value, is_wrongly_ordered, is_taken_prop, gives_many, judge_below, judge_change_of, judge_removal_of, judge_new_type, judge_with_type, breaks_change_rule, judge_changed_type, judge_with_change, judge_removed_type, judge_without_type, new_props, changed_type, base_id, made_props};
+ghost use Rattle.cm_types.specs.Changes.{placed_type, without_type, sorted_types, lacks_parent, is_taken, text_or, is_given_as, breaks_attribute_rule, breaks_type_rule, breaks_def_rule, has_wrong_value, is_wrongly_ordered, is_taken_prop, gives_many, judge_below, judge_change_of, judge_removal_of, judge_new_type, judge_with_type, breaks_change_rule, judge_changed_type, judge_with_change, judge_removed_type, judge_without_type, new_props, changed_type, base_id, made_props};
 
 use crate::changes::{base_id, changes_attributes, changes_old_props};
 use crate::clash::has_clash;

@@ -1,5 +1,5 @@
 //! What is made of a request, with the defaults of what is not given.
-ghost use Rattle.std.specs.Prelude.{◌≡◌, ℕ, List, [], ◌∷◌, ◌++◌, Option, IfOk, OnOk, unwrap_or, map, filter, is_none};
+ghost use Rattle.std.specs.Prelude.{◌≡◌, [], ◌∷◌, ◌++◌, Option, IfOk, OnOk, unwrap_or, is_none};
 ghost use Rattle.std.specs.Option.{option_copied};
 ghost use Rattle.cm_types.specs.Properties.{def_of};
 ghost use Rattle.cm_types.specs.Changes.{text_or, default_of, of_kind, is_single, cardinality_of, made_prop, made_props, made_mutability, made_type, is_document, is_relationship, is_secondary, if_kept, flag_or, new_props, changed_type};

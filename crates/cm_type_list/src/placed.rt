@@ -1,5 +1,5 @@
 //! Property definitions and types in byte order of their ids.
-ghost use Rattle.std.specs.Prelude.{◌≡◌, IfOk, ◌++◌, map};
+ghost use Rattle.std.specs.Prelude.{◌≡◌, IfOk, map};
 ghost use Rattle.cm_types.specs.Changes.{placed, sorted_props};
 ghost use Rattle.cm_type_list.specs.Keys.{IsKeyed, values_of};
 

@@ -1,7 +1,7 @@
 //! The rules of new property definitions.
-ghost use Rattle.std.specs.Prelude.{◌≡◌, ◌||◌, List, IfOk, nat_lt, length};
+ghost use Rattle.std.specs.Prelude.{◌≡◌, ◌||◌};
 ghost use Rattle.std.specs.List.{list_any};
-ghost use Rattle.cm_types.specs.Changes.{clashes, is_wrong_choice, is_many_for, gives_many, has_wrong_value, is_wrongly_ordered, has_clash};
+ghost use Rattle.cm_types.specs.Changes.{clashes, is_wrong_choice, is_many_for, gives_many, has_wrong_value, is_wrongly_ordered};
 
 use crate::made::{cardinality_of, is_single, scalars_asked};
 use cm_base::value::Scalar;

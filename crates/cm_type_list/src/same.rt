@@ -1,5 +1,5 @@
 //! Lists that are the same, item by item.
-ghost use Rattle.std.specs.Prelude.{◌≡◌, ◌&&◌, Bool, ℕ, List, bytes_eq};
+ghost use Rattle.std.specs.Prelude.{◌≡◌, ◌&&◌, Bool, bytes_eq};
 ghost use lib.Pointwise.{pointwise};
 ghost use Rattle.cm_types.specs.Properties.{same_scalar};
 ghost use Rattle.cm_types.specs.Changes.{same_choice};

@@ -1,5 +1,5 @@
 //! What holds of some type in the list.
-ghost use Rattle.std.specs.Prelude.{◌≡◌, ◌||◌, ◌++◌, List, ℕ, bytes_eq, map, filter, IfOk, OnOk};
+ghost use Rattle.std.specs.Prelude.{◌≡◌, ◌||◌, bytes_eq, map, IfOk};
 ghost use Rattle.std.specs.List.{list_any};
 ghost use Rattle.map_keys.specs.Parts.{pointee};
 ghost use Rattle.cm_types.specs.Types.{is_child_type};

@@ -1,5 +1,5 @@
 //! What is wrong with a value (CMIS 1.1, section 2.1.3.3).
-ghost use Rattle.std.specs.Prelude.{◌≡◌, ℕ, pos, List, length, count_by, option_copied, int_lt};
+ghost use Rattle.std.specs.Prelude.{◌≡◌, pos, int_lt};
 ghost use Rattle.std.specs.List.{list_any, list_all};
 ghost use Rattle.core.specs.Fmt.{is_char_start};
 ghost use Rattle.cm_types.specs.Properties.{scalars_of, same_scalar, is_of_kind, characters, is_too_long, is_out_of_range, is_below_least, is_above_most, is_no_choice, has_other_cardinality, value_fault};

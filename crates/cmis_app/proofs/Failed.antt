@@ -1,5 +1,5 @@
 -- A run ends with 3 or 4 only where the failure of that side was counted.
-use Rattle.std.specs.Prelude.{◌≡◌, ◌⊎◌, ◌==◌, ◌+◌, ◌-◌, ◌^◌, min, ℕ, Bool, true, false, List, Option, Some, None}
+use Rattle.std.specs.Prelude.{◌≡◌, ◌==◌, ◌+◌, ◌-◌, ◌^◌, min, ℕ, Bool, true, false, List, Option, Some, None}
 use Rattle.std.proofs.Common.{refl, sym, ap, ◌∙◌, inl, inr}
 use Rattle.std.proofs.lemmas.Bool.{both_ways, le-leb}
 use Rattle.outside.specs.Clocks.{Words}
@@ -10,7 +10,7 @@ use Rattle.talk.specs.Wire.{Wire}
 use Rattle.talk.specs.Session.{Turn, Ends}
 use Rattle.cmis_words.specs.declared.words.Words.{Words as Asked}
 use Rattle.cmis_words.specs.declared.words.Words.TheVariants.{Pipe}
-use Rattle.cmis_app.specs.Runs.{status_of, Served, Ran, OnlyWhereFailed}
+use Rattle.cmis_app.specs.Runs.{status_of, Ran, OnlyWhereFailed}
 
 -- the numbers differ
 apart : {G : Type 0} (p : ℕ → Bool) (m n : ℕ) → p m ≡ true → p n ≡ false → m ≡ n → G

@@ -1,14 +1,11 @@
 //! One run of the program in one thread.
-ghost use Rattle.std.specs.Prelude.{◌≡◌, ◌⊎◌, ◌≤◌, ℕ, pos, map, codes, string_bytes, Some, None, IfSome};
+ghost use Rattle.std.specs.Prelude.{◌≡◌, ◌⊎◌, ◌≤◌, ℕ, map, codes, string_bytes, Some, None, IfSome};
 ghost use Rattle.cm_basetypes.specs.BaseTypes.{base_types};
 ghost use Rattle.cmis_spec.specs.Repository.{opening};
-ghost use Rattle.outside.specs.Outside.{Took, Rose};
-ghost use Rattle.outside.specs.Clocks.{first_word, rest_words};
 ghost use Rattle.desk_model.specs.Clocks.{moment_of};
 ghost use Rattle.cmis_words.specs.Programs.{words_of};
 ghost use Rattle.cmis_words.specs.Bounds.{IsMoment};
-ghost use Rattle.http_reply.specs.Sent.{TookFront};
-ghost use Rattle.cmis_app.specs.Runs.{status_of, Begins, OnlyWhereFailed, always, Wrote, Unbegun, Served, Piped, Ran};
+ghost use Rattle.cmis_app.specs.Runs.{status_of, OnlyWhereFailed, always, Wrote, Unbegun, Served, Piped, Ran};
 
 use crate::lent::Lent;
 use cm_base::number::Moment;

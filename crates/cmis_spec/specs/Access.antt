@@ -1,5 +1,5 @@
 -- What a caller may do at an object, and which objects he reads (CMIS 1.1, section 2.1.12; the access model is this project's own).
-use Rattle.std.specs.Prelude.{ℕ, zero, suc, nat_lt, nat_le, Bool, true, false, ◌&&◌, ◌||◌, not, if◌then◌else◌, List, [], ◌∷◌, map, filter, fold, find, decimal, Option, Some, None, is_some, is_none, unwrap_or, option_map, option_and_then, bytes_eq, codes}
+use Rattle.std.specs.Prelude.{ℕ, zero, suc, nat_lt, nat_le, Bool, true, false, ◌&&◌, ◌||◌, not, if◌then◌else◌, List, [], ◌∷◌, map, filter, fold, find, Option, Some, None, unwrap_or, option_map, option_and_then, bytes_eq, codes}
 use Rattle.std.specs.List.{list_any, list_all}
 use Rattle.cm_base.specs.declared.number.Oid.{Oid}
 use Rattle.cm_base.specs.Decimals.{decimal_u64}
@@ -7,7 +7,6 @@ use Rattle.cm_base.specs.declared.object.Object.{Object}
 use Rattle.cm_base.specs.declared.access.Ace.{Ace}
 use Rattle.cm_base.specs.declared.access.Level.{Level}
 use Rattle.cm_base.specs.declared.access.Level.TheVariants as levels
-use Rattle.cm_base.specs.declared.user.Group.{Group}
 use Rattle.cm_types.specs.declared.definition.BaseType.TheVariants as bases
 use Rattle.cm_types.specs.Properties.{value_in, texts_of}
 use Rattle.cmis_spec.specs.Repository.{Repository, same, root, levels_up, object_at, owner_of, entry_of, is_a, parent_in, entry_name, is_latest, is_filed, series_of}

@@ -1,12 +1,12 @@
 -- The changes of which writes are made.
-use Rattle.std.specs.Prelude.{ℕ, ◌+◌, Bool, ◌&&◌, if◌then◌else◌, List, [], ◌∷◌, ◌++◌, map, filter, not}
+use Rattle.std.specs.Prelude.{ℕ, ◌+◌, Bool, ◌&&◌, if◌then◌else◌, List, [], ◌∷◌, ◌++◌, map}
 use Rattle.cm_base.specs.declared.number.Oid.{Oid}
 use Rattle.cm_base.specs.declared.number.Moment.{Moment}
 use Rattle.cm_base.specs.declared.object.Object.{Object}
 use Rattle.cm_base.specs.declared.access.Ace.{Ace}
 use Rattle.cm_base.specs.declared.filing.Filed.{Filed}
 use Rattle.cm_base.specs.declared.log.ChangeKind.{ChangeKind}
-use Rattle.cmis_spec.specs.Repository.{Repository, same, new_number}
+use Rattle.cmis_spec.specs.Repository.{Repository, same}
 
 -- one step further, at this cost
 abbrev pub stepped : Repository → ℕ → Repository

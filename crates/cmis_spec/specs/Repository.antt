@@ -1,5 +1,5 @@
 -- The repository as plain lists and numbers (CMIS 1.1, section 2.1), how it begins, and what is looked up in it.
-use Rattle.std.specs.Prelude.{ℕ, zero, suc, ◌==◌, Bool, true, false, ◌&&◌, ◌-◌, not, if◌then◌else◌, List, [], ◌∷◌, ◌++◌, map, filter, find, slice_get, length, Option, Some, None, unwrap_or, option_map, option_and_then, bytes_eq, codes}
+use Rattle.std.specs.Prelude.{ℕ, zero, suc, ◌==◌, Bool, false, ◌&&◌, ◌-◌, not, if◌then◌else◌, List, [], ◌∷◌, ◌++◌, map, find, slice_get, length, Option, Some, None, unwrap_or, option_map, option_and_then, bytes_eq, codes}
 use Rattle.std.specs.List.{list_any}
 use Rattle.core.specs.Ordering.{nat_cmp, is_lt}
 use Rattle.core.specs.Cmp.Lexicographic.{slice_cmp}

@@ -1,18 +1,10 @@
 -- The values of an object's properties: those that are kept, and those that follow from the repository (CMIS 1.1, section 2.1.4).
-use Rattle.std.specs.Prelude.{ℕ, ◌+◌, ◌==◌, Bool, true, false, ◌&&◌, ◌||◌, not, if◌then◌else◌, List, [], ◌∷◌, ◌++◌, map, filter, find, length, decimal, Option, Some, None, is_some, is_none, unwrap_or, option_map, option_and_then, bytes_eq, codes}
-use Rattle.std.specs.List.{list_any}
-use Rattle.cm_base.specs.declared.number.Oid.{Oid}
-use Rattle.cm_base.specs.declared.number.Moment.{Moment}
+use Rattle.std.specs.Prelude.{ℕ, Bool, ◌&&◌, ◌||◌, not, if◌then◌else◌, List, [], ◌∷◌, map, filter, bytes_eq, codes}
 use Rattle.cm_base.specs.declared.object.Object.{Object}
 use Rattle.cm_base.specs.declared.value.Value.{Value}
 use Rattle.cm_base.specs.declared.value.Value.TheVariants.{Unset, One, Many}
-use Rattle.cm_base.specs.declared.value.Scalar.{Scalar}
-use Rattle.cm_base.specs.declared.value.Scalar.TheVariants.{Flag, Whole, Time, Words}
+use Rattle.cm_base.specs.declared.value.Scalar.TheVariants.{Words}
 use Rattle.cm_base.specs.declared.value.Slot.{Slot}
-use Rattle.cm_base.specs.declared.series.Series.{Series}
-use Rattle.cm_base.specs.declared.series.DocumentVersion.{DocumentVersion}
-use Rattle.cm_base.specs.declared.series.Label.{Label}
-use Rattle.cm_types.specs.declared.property.PropDef.{PropDef}
 use Rattle.cm_types.specs.Properties.{value_in, is_set}
 use Rattle.cmis_spec.specs.Repository.{Repository, name_of}
 

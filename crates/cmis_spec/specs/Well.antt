@@ -1,5 +1,5 @@
 -- A repository that is well formed: a record of named facts, each about the lists that it names (CMIS 1.1, section 2.1).
-use Rattle.std.specs.Prelude.{if◌then◌else◌, ◌≡◌, ℕ, zero, suc, ◌+◌, ◌<◌, ◌≤◌, Bool, true, false, ◌&&◌, ◌||◌, not, ◌⊎◌, List, [], ◌∷◌, ◌++◌, map, length, All, count_by, bytes_eq, codes, decimal, Option, Some, None, IfSome, is_some, is_none, option_map, unwrap_or}
+use Rattle.std.specs.Prelude.{if◌then◌else◌, ◌≡◌, ℕ, zero, suc, ◌+◌, ◌<◌, ◌≤◌, Bool, true, false, ◌&&◌, ◌||◌, not, ◌⊎◌, List, [], ◌∷◌, ◌++◌, map, length, All, count_by, bytes_eq, codes, Option, Some, None, IfSome, is_some, option_map, unwrap_or}
 use Rattle.std.specs.List.{list_any}
 use Rattle.core.specs.Ordering.{nat_cmp, ordering_then}
 use Rattle.core.specs.Cmp.Lexicographic.{slice_cmp}
@@ -9,11 +9,8 @@ use Rattle.cm_base.specs.declared.object.Object.{Object}
 use Rattle.cm_base.specs.declared.access.Ace.{Ace}
 use Rattle.cm_base.specs.declared.access.AccessList.{AccessList}
 use Rattle.cm_base.specs.declared.filing.Filed.{Filed}
-use Rattle.cm_base.specs.declared.filing.Applied.{Applied}
 use Rattle.cm_base.specs.declared.series.Series.{Series}
-use Rattle.cm_base.specs.declared.series.DocumentVersion.{DocumentVersion}
 use Rattle.cm_base.specs.declared.series.Label.{Label}
-use Rattle.cm_base.specs.declared.content.Content.{Content}
 use Rattle.cm_base.specs.declared.content.Rendition.{Rendition}
 use Rattle.cm_base.specs.declared.value.Value.{Value}
 use Rattle.cm_base.specs.declared.value.Value.TheVariants.{Unset}

@@ -2,7 +2,7 @@
 ghost use Rattle.std.specs.Prelude.{◌≡◌, ℕ, ◌++◌, List, map};
 ghost use Rattle.desk_model.specs.Histories.{own};
 ghost use Rattle.desk_core.specs.declared.event.Event.{Event};
-ghost use Rattle.desk_core.specs.Interleaving.{Rules, World, IsLawful, run, answers, accepted, request_of};
+ghost use Rattle.desk_core.specs.Interleaving.{World, IsLawful, run, answers, accepted, request_of};
 
 use desk_model::Machine;
 

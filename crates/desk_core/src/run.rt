@@ -1,6 +1,6 @@
 //! Runs: lists of events, one after the other.
-ghost use Rattle.std.specs.Prelude.{◌≡◌, ◌∷◌, ◌++◌, [], List, OnErr, OnOk, IfOk};
-ghost use Rattle.desk_core.specs.Interleaving.{Rules, run, answers, happens, told};
+ghost use Rattle.std.specs.Prelude.{◌≡◌, ◌∷◌, [], OnErr, OnOk, IfOk};
+ghost use Rattle.desk_core.specs.Interleaving.{run, answers, happens, told};
 ghost use Rattle.desk_core.specs.Steps.{StoodAfter};
 
 use crate::event::{CoreStop, Done, Event};

@@ -1,7 +1,6 @@
 //! Desks: where writes are made one after the other, and looked at.
-ghost use Rattle.std.specs.Prelude.{◌≡◌, ◌≢◌, ℕ, List, Option, Some, IfSome, MatchResult, Result, drop};
+ghost use Rattle.std.specs.Prelude.{◌≡◌, ◌≢◌, ℕ, Option, Some, IfSome, MatchResult, Result, drop};
 ghost use Rattle.outside.specs.Clocks.{Words, first_word, rest_words};
-ghost use Rattle.desk_model.specs.declared.entry.Entry.{Entry};
 ghost use Rattle.desk_model.specs.Clocks.{moment_of};
 ghost use Rattle.desk_model.specs.Histories.{CallersBelow};
 ghost use Rattle.desk_model.specs.Desks.{Known, IsSound, Wrote, Looked};

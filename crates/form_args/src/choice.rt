@@ -1,6 +1,6 @@
 //! Arguments that are words of a few choices.
 ghost use Rattle.std.specs.Prelude.{◌≡◌};
-ghost use Rattle.form_args.specs.Single.{chosen, flag_of, needed};
+ghost use Rattle.form_args.specs.Single.{chosen, flag_of};
 
 use crate::pairs::Pairs;
 use cm_base::argument::Argument;

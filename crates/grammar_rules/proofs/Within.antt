@@ -1,7 +1,7 @@
 -- Reading a rule part by part: what is read of a part from a place on, and where it is stuck, is what is read of the whole.
 -- The facts that the law of a word asks for stand in one record for each word, so that a grammar states them once.
-use Rattle.std.proofs.Common.{◌≡◌, ℕ, Bool, true, false, ◌||◌, List, [], ◌∷◌, ◌++◌, refl}
-use Rattle.grammar_rules.specs.Rules.{Rule, Starts, Stops, Took, Stuck, one, both, chain, perhaps, either, mapped, stands}
+use Rattle.std.proofs.Common.{Bool, true, List, [], ◌∷◌}
+use Rattle.grammar_rules.specs.Rules.{Rule, Starts, Stops, Took, Stuck, both, chain, perhaps, either, mapped, stands}
 use Rattle.grammar_rules.proofs.Lists.{Apart}
 use Rattle.grammar_rules.proofs.Laws as laws
 use Rattle.grammar_rules.proofs.Laws.{Sane, Chaining}

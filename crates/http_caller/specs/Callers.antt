@@ -4,8 +4,7 @@ use Rattle.std.specs.List.{list_any, position_or_len}
 use Rattle.base64.specs.Engines.{standard}
 use Rattle.base64.specs.GeneralPurpose.{decode_of}
 use Rattle.base64.specs.declared.decode.DecodeError.{DecodeError}
-use Rattle.cm_base.specs.Judged.{Judged, find_or}
-use Rattle.cm_base.specs.declared.cause.Cause.{Cause}
+use Rattle.cm_base.specs.Judged.{Judged}
 use Rattle.cm_base.specs.declared.cause.Cause.TheVariants.{WrongSecret}
 use Rattle.cm_base.specs.declared.user.User.{User}
 use Rattle.http_grammar.specs.Request.{Head}

@@ -1,9 +1,8 @@
 -- The step that a request names: the repository's answer is to be made at this step or a later one.
-use Rattle.std.specs.Prelude.{ℕ, List, [], ◌∷◌, codes, Option, Some, None, Result, Ok, Err}
+use Rattle.std.specs.Prelude.{ℕ, List, [], ◌∷◌, codes, Ok, Err}
 use Rattle.cm_base.specs.Decimals.{decimal_u64}
 use Rattle.cm_base.specs.Judged.{Judged, find_or}
 use Rattle.cm_base.specs.declared.argument.Argument.TheVariants.{CmisStep}
-use Rattle.cm_base.specs.declared.cause.Cause.{Cause}
 use Rattle.cm_base.specs.declared.cause.Cause.TheVariants.{BadArgument}
 use Rattle.http_grammar.specs.Request.{Head}
 use Rattle.http_grammar.specs.Fields.{values_named}

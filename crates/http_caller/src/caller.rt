@@ -1,5 +1,5 @@
 //! Who calls.
-ghost use Rattle.std.specs.Prelude.{◌≡◌, ◌+◌, ℕ, codes, IfOk, option_map, find};
+ghost use Rattle.std.specs.Prelude.{◌≡◌, ◌+◌, find};
 ghost use Rattle.std.specs.Option.{option_copied};
 ghost use Rattle.std.specs.List.{list_any, position_or_len};
 ghost use Rattle.cm_base.specs.Judged.{Meets};

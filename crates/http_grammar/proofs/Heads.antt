@@ -1,16 +1,16 @@
 -- Heads within their limit, and how many fields heads and trailers can have.
-use Rattle.std.proofs.Common.{◌≡◌, ◌≢◌, true, false, Bool, ℕ, ◌+◌, ◌*◌, ◌-◌, ◌<◌, ◌≤◌, List, [], ◌∷◌, ◌++◌, length, take, drop, min, refl, sym, ap, ◌∙◌, subst, arith, append_assoc, length-append, inl, inr, ◌⊎◌}
-use Rattle.std.proofs.lemmas.List.{take-append-drop, take-append-le, length-take, length-take-le}
+use Rattle.std.proofs.Common.{◌≡◌, true, false, ℕ, ◌+◌, ◌*◌, ◌-◌, ◌<◌, ◌≤◌, List, [], ◌∷◌, ◌++◌, length, take, drop, ap, ◌∙◌, subst, arith, length-append, inl, inr}
+use Rattle.std.proofs.lemmas.List.{take-append-drop, length-take}
 use Rattle.std.proofs.lemmas.List.Elements.{All-head, All-tail}
 use Rattle.std.specs.Prelude.{All}
 use Rattle.std.specs.List.{flat_map}
-use Rattle.httparse.specs.Grammar.{LineEnd, crlf, lf, print_end, print_blank, print_version, Field, IsField, print_field, print_section, ReadsSection, RequestHead, print_request, ReadsRequest, HasNoRequest, NeverHasRequest, MayBecomeRequest, EndsInTarget}
+use Rattle.httparse.specs.Grammar.{LineEnd, crlf, lf, print_end, Field, IsField, print_field, print_section, ReadsSection, RequestHead, print_request, ReadsRequest, HasNoRequest, MayBecomeRequest}
 use Rattle.httparse.specs.Spans.{RequestExceeds, SectionExceeds}
-use Rattle.httparse.proofs.GrammarLemmas.{print_request-append, ReadsRequest-append, request_unique, request_prefix_free}
+use Rattle.httparse.proofs.GrammarLemmas.{print_request-append, ReadsRequest-append}
 use Rattle.http_grammar.specs.Limits.{head_limit}
 use Rattle.http_grammar.specs.Judged.{is_judged}
 use Rattle.http_grammar.specs.First.{HasHead, HasNoFuture, IsOpen}
-use Rattle.http_grammar.proofs.Judged.{head_is_judged, is_judged-append, target_is_not_judged}
+use Rattle.http_grammar.proofs.Judged.{head_is_judged, target_is_not_judged}
 
 end_length : (end : LineEnd) → 1 ≤ length (print_end end)
 end_length crlf = omega arith

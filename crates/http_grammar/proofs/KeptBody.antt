@@ -1,12 +1,12 @@
 -- A decided body front stays when more bytes come, and a whole body lies within the bytes.
-use Rattle.std.proofs.Common.{◌≡◌, ◌++◌, ◌∙◌, ◌≤◌, ◌<◌, ◌+◌, ◌-◌, ℕ, List, [], ◌∷◌, length, take, drop, Bool, true, false, inl, inr, ◌⊎◌, refl, sym, ap, subst, append_assoc, append-nil, length-append, arith, All}
-use Rattle.std.specs.Prelude.{if◌then◌else◌, nat_le, ◌&&◌, ◌==◌, not, ⊤}
-use Rattle.std.proofs.lemmas.Bool.{leb-true, le-leb, cond-true, cond-false, false≢true, cases_lt}
-use Rattle.std.proofs.lemmas.List.{take-append-le, take_all, drop-append-le, drop_all, length-take, length-drop}
-use Rattle.httparse.specs.Grammar.{ChunkLine, chunk_size, print_chunk_line, ReadsChunkLine, NeverHasChunkLine, Field, LineEnd, print_section, ReadsSection, HasNoSection, NeverHasSection}
+use Rattle.std.proofs.Common.{◌≡◌, ◌++◌, ◌∙◌, ◌≤◌, ◌<◌, ◌+◌, ◌-◌, ℕ, List, [], ◌∷◌, length, take, drop, Bool, true, false, inl, inr, ◌⊎◌, refl, sym, ap, subst, append_assoc, length-append, arith}
+use Rattle.std.specs.Prelude.{if◌then◌else◌, nat_le, ◌&&◌, ◌==◌, ⊤}
+use Rattle.std.proofs.lemmas.Bool.{leb-true, le-leb, cond-true, cases_lt}
+use Rattle.std.proofs.lemmas.List.{take-append-le, drop-append-le, drop_all, length-take}
+use Rattle.httparse.specs.Grammar.{ChunkLine, chunk_size, print_chunk_line, ReadsChunkLine, NeverHasChunkLine, print_section, ReadsSection, HasNoSection, NeverHasSection}
 use Rattle.httparse.proofs.GrammarLemmas.{ReadsSection-append}
 use Rattle.httparse.proofs.ChunkLemmas.{ReadsChunkLine-append}
-use Rattle.http_grammar.specs.Limits.{body_limit, chunked_limit, trailer_limit}
+use Rattle.http_grammar.specs.Limits.{chunked_limit, trailer_limit}
 use Rattle.http_grammar.specs.Chunks.{BodyFront, unfinished, ends, broken, print_chunks, chunk_data, chunk_fits, begins_line_end, may_begin_line_end, part_of_chunk, TrailerFront, coming, never, trailers, Trailers, still_open, too_long, hopeless, whole, with_trailers, BehindLine, part, last_chunk, Tail, line_open, line_bad, line_whole, Chunks, limited, ChunkedBody, Body, sized_body}
 use Rattle.http_grammar.specs.declared.fault.HttpFault.TheVariants.{BadLength, LongBody}
 use Rattle.http_grammar.specs.declared.framing.Framing.{Framing}

@@ -1,11 +1,11 @@
 -- No rule on the bytes gives the fault of a cut: whether the input ends is for the reader to say.
-use Rattle.std.proofs.Common.{◌≡◌, ℕ, ◌+◌, List, [], ◌∷◌, length, take, drop, Bool, true, false, sym, subst, Result, Ok, Err, Option, Some, None}
+use Rattle.std.proofs.Common.{ℕ, List, [], ◌∷◌, length, take, drop, Bool, true, false, sym, subst, Result, Ok, Err, Option, Some, None}
 use Rattle.std.specs.Prelude.{if◌then◌else◌, nat_le, nat_lt, ◌==◌, ⊤, codes}
 use Rattle.httparse.specs.Grammar.{print_request}
 use Rattle.http_grammar.specs.Limits.{body_limit, chunked_limit}
 use Rattle.http_grammar.specs.Request.{Head, head_of}
 use Rattle.http_grammar.specs.Fields.{head_framing, framing, by_length, by_coding, sized, length_of_value, same_word, has_good_host, values_named, expects_continue}
-use Rattle.http_grammar.specs.Chunks.{BodyFront, unfinished, ends, broken, part_of_chunk, may_begin_line_end, TrailerFront, coming, never, trailers, with_trailers, BehindLine, part, last_chunk, Tail, line_open, line_bad, line_whole, Chunks, limited, Body, sized_body}
+use Rattle.http_grammar.specs.Chunks.{BodyFront, unfinished, ends, broken, part_of_chunk, may_begin_line_end, TrailerFront, coming, never, trailers, with_trailers, part, last_chunk, Tail, line_open, line_bad, line_whole, limited, Body}
 use Rattle.http_grammar.specs.First.{Front, Nothing, Beginning, Waits, Whole, Fault, First, empty, partial, hopeless, too_long, whole_head, Follows, front_of}
 use Rattle.http_grammar.specs.declared.fault.HttpFault.{HttpFault}
 use Rattle.http_grammar.specs.declared.fault.HttpFault.TheVariants.{BadHead, LongHead, LongBody, BadLength, Coding, Cut}

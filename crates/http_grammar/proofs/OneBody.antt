@@ -1,17 +1,16 @@
 -- The bytes behind a head are one body front at most, and a decided one stays.
-use Rattle.std.proofs.Common.{◌≡◌, ◌++◌, ◌∙◌, ◌≤◌, ◌<◌, ◌+◌, ◌-◌, ℕ, List, [], ◌∷◌, length, take, drop, Bool, true, false, inl, inr, ◌⊎◌, refl, sym, ap, subst, append_assoc, append-nil, length-append, arith, All}
-use Rattle.std.specs.Prelude.{if◌then◌else◌, nat_le, ◌&&◌, ◌==◌, not}
-use Rattle.std.specs.List.{flat_map}
-use Rattle.std.proofs.lemmas.Bool.{leb-true, le-leb, cond-true, cond-false, false≢true}
-use Rattle.std.proofs.lemmas.List.{take-append-le, take_all, drop-append-le, length-take}
+use Rattle.std.proofs.Common.{◌≡◌, ◌++◌, ◌∙◌, ◌≤◌, ◌<◌, ◌+◌, ◌-◌, ℕ, List, [], ◌∷◌, length, take, drop, Bool, true, false, refl, sym, ap, subst, append_assoc, append-nil, length-append, arith, All}
+use Rattle.std.specs.Prelude.{◌&&◌}
+use Rattle.std.proofs.lemmas.Bool.{le-leb, false≢true}
+use Rattle.std.proofs.lemmas.List.{take_all, length-take}
 use Rattle.std.proofs.lemmas.List.Elements.{All-head, All-tail}
 use Rattle.std.proofs.Math.Seq.{drop-append_seam}
-use Rattle.httparse.specs.Grammar.{crlf, print_end, ChunkLine, IsChunkLine, chunk_size, print_chunk_line, ReadsChunkLine, HasNoChunkLine, NeverHasChunkLine, Field, LineEnd, print_section, ReadsSection, HasNoSection, NeverHasSection}
-use Rattle.httparse.proofs.GrammarLemmas.{section_unique, ReadsSection-append}
-use Rattle.httparse.proofs.ChunkLemmas.{chunk_line_unique, ReadsChunkLine-append}
+use Rattle.httparse.specs.Grammar.{crlf, print_end, ChunkLine, chunk_size, print_chunk_line, ReadsChunkLine, NeverHasChunkLine, Field, LineEnd, print_section, ReadsSection, NeverHasSection}
+use Rattle.httparse.proofs.GrammarLemmas.{section_unique}
+use Rattle.httparse.proofs.ChunkLemmas.{chunk_line_unique}
 use Rattle.http_grammar.specs.Limits.{body_limit, chunked_limit, trailer_limit}
-use Rattle.http_grammar.specs.Chunks.{BodyFront, unfinished, ends, broken, Chunk, print_chunk, IsChunk, print_chunks, chunk_data, chunk_length, chunk_fits, begins_line_end, may_begin_line_end, part_of_chunk, TrailerFront, coming, never, trailers, Trailers, still_open, too_long, hopeless, whole, with_trailers, BehindLine, part, last_chunk, Tail, line_open, line_bad, line_whole, Chunks, limited, ChunkedBody}
-use Rattle.http_grammar.proofs.Lists.{take_longer, same_fronts}
+use Rattle.http_grammar.specs.Chunks.{BodyFront, Chunk, print_chunk, IsChunk, print_chunks, chunk_data, chunk_length, chunk_fits, begins_line_end, TrailerFront, trailers, Trailers, still_open, too_long, hopeless, whole, with_trailers, BehindLine, part, last_chunk, Tail, line_open, line_bad, line_whole, Chunks, limited, ChunkedBody}
+use Rattle.http_grammar.proofs.Lists.{same_fronts}
 
 -- ---- one answer
 

@@ -1,17 +1,16 @@
 -- What stands at the front is one thing, stays when it is decided, and lies within the bytes.
-use Rattle.std.proofs.Common.{◌≡◌, ◌++◌, ◌∙◌, ◌≤◌, ◌<◌, ◌+◌, ◌-◌, ℕ, List, [], ◌∷◌, length, take, drop, Bool, true, false, inl, inr, ◌⊎◌, refl, sym, ap, subst, append_assoc, append-nil, length-append, arith, Result, Ok, Err}
+use Rattle.std.proofs.Common.{◌≡◌, ◌++◌, ◌∙◌, ◌≤◌, ◌<◌, ◌+◌, ◌-◌, ℕ, List, [], ◌∷◌, length, take, Bool, true, false, refl, sym, ap, subst, append_assoc, append-nil, length-append, arith, Result, Ok, Err}
 use Rattle.std.specs.Prelude.{if◌then◌else◌, ⊤, is_ok}
-use Rattle.std.proofs.lemmas.Bool.{false≢true}
 use Rattle.std.proofs.lemmas.List.{take-append-le, take_all}
 use Rattle.std.proofs.Math.Seq.{take-append-add}
-use Rattle.httparse.specs.Grammar.{RequestHead, print_request, ReadsRequest, HasNoRequest, NeverHasRequest}
+use Rattle.httparse.specs.Grammar.{RequestHead, print_request, ReadsRequest}
 use Rattle.httparse.proofs.GrammarLemmas.{request_unique, ReadsRequest-append}
 use Rattle.http_grammar.specs.Limits.{head_limit}
 use Rattle.http_grammar.specs.Judged.{is_judged}
 use Rattle.http_grammar.specs.Request.{Head, Request, head_of}
 use Rattle.http_grammar.specs.Fields.{head_framing, expects_continue}
-use Rattle.http_grammar.specs.Chunks.{BodyFront, unfinished, ends, broken, Body, sized_body, ChunkedBody}
-use Rattle.http_grammar.specs.First.{Front, Nothing, Beginning, Waits, Whole, Fault, HasHead, HasNoFuture, IsOpen, front_of, Follows, First, empty, partial, hopeless, too_long, whole_head, IsDecided, IsPending, HoldsHead}
+use Rattle.http_grammar.specs.Chunks.{BodyFront, unfinished, ends, broken, Body}
+use Rattle.http_grammar.specs.First.{Front, Nothing, Beginning, Waits, Whole, Fault, HasHead, HasNoFuture, IsOpen, front_of, Follows, First, empty, partial, hopeless, too_long, whole_head, IsDecided, HoldsHead}
 use Rattle.http_grammar.specs.declared.fault.HttpFault.{HttpFault}
 use Rattle.http_grammar.specs.declared.framing.Framing.{Framing}
 use Rattle.http_grammar.specs.declared.framing.Framing.TheVariants.{Sized, Chunked}

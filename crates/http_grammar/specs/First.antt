@@ -1,5 +1,5 @@
 -- What stands at the front of the bytes of a connection: a relation on whole texts, which knows of no reads.
-use Rattle.std.specs.Prelude.{◌≡◌, ℕ, ◌+◌, ◌<◌, ◌≤◌, ◌⊎◌, Bool, true, List, [], length, take, Result, Ok, Err, if◌then◌else◌, is_ok, ⊤}
+use Rattle.std.specs.Prelude.{◌≡◌, ℕ, ◌+◌, ◌<◌, ◌≤◌, ◌⊎◌, true, List, [], length, take, Result, Ok, Err, if◌then◌else◌, is_ok, ⊤}
 use Rattle.httparse.specs.Grammar.{RequestHead, print_request, ReadsRequest, HasNoRequest, NeverHasRequest}
 use Rattle.http_grammar.specs.Limits.{head_limit}
 use Rattle.http_grammar.specs.Judged.{is_judged}

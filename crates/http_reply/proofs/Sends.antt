@@ -1,5 +1,5 @@
 -- A piece and then another.
-use Rattle.std.proofs.Common.{◌≡◌, ◌++◌, ◌∙◌, List, ℕ, ap, sym, append_assoc}
+use Rattle.std.proofs.Common.{◌++◌, ◌∙◌, List, ℕ, ap, sym, append_assoc}
 use Rattle.outside.specs.Outside.{SinkTold, Took}
 use Rattle.http_reply.specs.Sent.{TookFront}
 use Rattle.outside.proofs.Known.{Took-then}

@@ -1,5 +1,5 @@
 //! Writing replies.
-ghost use Rattle.std.specs.Prelude.{◌≡◌, ◌++◌, ℕ, List, OnOk, OnErr};
+ghost use Rattle.std.specs.Prelude.{◌≡◌, ◌++◌, OnOk, OnErr};
 ghost use Rattle.outside.specs.Outside.{Took, HasCause};
 ghost use Rattle.http_reply.specs.Sent.{TookFront};
 ghost use Rattle.http_reply.specs.Replies.{reply_text};

@@ -1,5 +1,5 @@
 //! Sending whole pieces.
-ghost use Rattle.std.specs.Prelude.{◌≡◌, ◌++◌, ◌≤◌, ℕ, List, length, take, drop, OnOk, OnErr};
+ghost use Rattle.std.specs.Prelude.{◌≡◌, ◌≤◌, length, drop, OnOk, OnErr};
 ghost use Rattle.outside.specs.Outside.{Took, HasCause};
 ghost use Rattle.http_reply.specs.Sent.{TookFront};
 ghost use Rattle.http_reply.specs.Replies.{interim_text, runtime_text};

@@ -1,14 +1,13 @@
 -- Reading a body of a stated length.
 use Rattle.std.proofs.Common.{◌≡◌, ◌++◌, ◌∙◌, ◌≤◌, ◌<◌, ◌+◌, ◌-◌, ℕ, List, [], ◌∷◌, length, take, drop, min, true, Ok, Err, Result, inl, inr, ◌⊎◌, refl, sym, ap, subst, append_assoc, append-nil, length-append, arith}
 use Rattle.std.proofs.lemmas.Bool.{cases_lt}
-use Rattle.std.proofs.lemmas.List.{length-take, take_all, drop_all, take-append-le, drop-append-le}
-use Rattle.std.proofs.Math.Seq.{take-add, take-append-add, drop-append_seam}
+use Rattle.std.proofs.lemmas.List.{length-take, take_all, drop_all}
+use Rattle.std.proofs.Math.Seq.{take-add}
 use Rattle.std.specs.Io.KnownBytes.{prepend_known, append_known}
 use Rattle.outside.specs.Outside.{SourceTold, ReadsBytes, Gave, Rose}
-use Rattle.outside.proofs.Known.{Gave-then, Gave-none}
-use Rattle.http_grammar.specs.declared.fault.HttpFault.{HttpFault}
+use Rattle.outside.proofs.Known.{Gave-then}
 use Rattle.http_grammar.specs.declared.fault.HttpFault.TheVariants.{BadHead, LongHead, LongBody, BadLength, Coding, Cut}
-use Rattle.http_wire.specs.Bodies.{ReadAnswer, ReadsExactly, FillAnswer, Fills}
+use Rattle.http_wire.specs.Bodies.{ReadsExactly, Fills}
 use Rattle.http_wire.specs.declared.fault.WireStop.{WireStop}
 use Rattle.http_wire.specs.declared.fault.WireStop.TheVariants.{Bad, ReadFault, Memory}
 

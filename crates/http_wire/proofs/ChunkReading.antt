@@ -1,22 +1,20 @@
 -- Chunks read one after another.
-use Rattle.std.proofs.Common.{◌≡◌, ◌++◌, ◌∙◌, ◌≤◌, ◌<◌, ◌+◌, ◌-◌, ℕ, List, [], ◌∷◌, length, take, drop, min, true, false, Bool, Ok, Err, Result, Option, Some, None, refl, sym, suc, ap, subst, append_assoc, append-nil, length-append, length-drop, arith, All, inl, inr, ◌⊎◌}
-use Rattle.std.specs.Prelude.{◌&&◌, ◌==◌, nat_le, nat_lt, ⊤, if◌then◌else◌}
-use Rattle.std.proofs.lemmas.Bool.{false≢true, le-leb, lt-ltb, le-ltb, cond-true, cond-false, leb-true, eqb-true, cases_lt}
+use Rattle.std.proofs.Common.{◌≡◌, ◌++◌, ◌∙◌, ◌≤◌, ◌<◌, ◌+◌, ◌-◌, ℕ, List, [], ◌∷◌, length, take, drop, true, false, Bool, Ok, Err, Some, None, refl, sym, suc, ap, subst, append_assoc, append-nil, length-append, length-drop, arith, All, inl, inr, ◌⊎◌}
+use Rattle.std.specs.Prelude.{◌&&◌, ◌==◌, nat_le, if◌then◌else◌}
+use Rattle.std.proofs.lemmas.Bool.{false≢true, le-leb, cond-true, cond-false, leb-true, eqb-true, cases_lt}
 use Rattle.std.proofs.lemmas.Bool.Decides.{nat_tests}
-use Rattle.std.proofs.lemmas.List.{length-take, take_all, drop_all, take-append-le, drop-append-le, take-append-drop, drop-drop, drop-take}
+use Rattle.std.proofs.lemmas.List.{length-take, take-append-drop, drop-drop, drop-take}
 use Rattle.std.proofs.lemmas.Grind.{flat_map-append}
 use Rattle.std.proofs.lemmas.List.Elements.{All-append, All-cons, All-nil}
-use Rattle.std.proofs.Math.Seq.{take-add, take-append-add, drop-append_seam}
-use Rattle.outside.specs.Outside.{SourceTold, Gave, Rose}
+use Rattle.std.proofs.Math.Seq.{take-append-add, drop-append_seam}
+use Rattle.outside.specs.Outside.{SourceTold, Gave}
 use Rattle.outside.proofs.Known.{Gave-then}
 use Rattle.httparse.specs.Grammar.{crlf, print_end, ChunkLine, chunk_size, print_chunk_line, ReadsChunkLine}
-use Rattle.httparse.proofs.ChunkLemmas.{ReadsChunkLine-append}
 use Rattle.http_grammar.specs.Limits.{body_limit, chunked_limit}
-use Rattle.http_grammar.specs.Chunks.{BodyFront, unfinished, ends, broken, Chunk, IsChunk, print_chunk, print_chunks, chunk_data, chunk_length, chunk_fits, begins_line_end, may_begin_line_end, part_of_chunk, TrailerFront, Trailers, coming, never, trailers, with_trailers, BehindLine, part, last_chunk, Tail, line_open, line_bad, line_whole, Chunks, limited, ChunkedBody}
-use Rattle.http_grammar.specs.declared.fault.HttpFault.{HttpFault}
+use Rattle.http_grammar.specs.Chunks.{BodyFront, unfinished, ends, broken, Chunk, IsChunk, print_chunk, print_chunks, chunk_data, chunk_length, chunk_fits, begins_line_end, may_begin_line_end, part_of_chunk, TrailerFront, Trailers, coming, never, trailers, with_trailers, part, last_chunk, Tail, line_open, line_bad, line_whole, limited, ChunkedBody}
 use Rattle.http_grammar.specs.declared.fault.HttpFault.TheVariants.{BadHead, LongHead, LongBody, BadLength, Coding, Cut}
 use Rattle.http_grammar.specs.declared.framing.Framing.TheVariants.{Chunked}
-use Rattle.http_wire.specs.Bodies.{ReadsData, TurnEnds, TakesChunk, TurnAnswer, ReadsChunk, ReadsBody}
+use Rattle.http_wire.specs.Bodies.{ReadsData, TurnEnds, TakesChunk, ReadsChunk, ReadsBody}
 use Rattle.http_wire.specs.Pieces.{IsLineAt, ReadsPiece}
 use Rattle.http_wire.specs.declared.fault.WireStop.{WireStop}
 use Rattle.http_wire.specs.declared.fault.WireStop.TheVariants.{Bad, ReadFault, Memory}

@@ -1,8 +1,8 @@
 -- The data of a chunk and the line end behind it.
-use Rattle.std.proofs.Common.{◌≡◌, ◌++◌, ◌∙◌, ◌≤◌, ◌<◌, ◌+◌, ◌-◌, ℕ, List, [], ◌∷◌, length, take, drop, true, false, Ok, Err, Result, refl, sym, ap, subst, append_assoc, length-append, arith}
+use Rattle.std.proofs.Common.{◌≡◌, ◌++◌, ◌∙◌, ◌≤◌, ◌+◌, ◌-◌, ℕ, List, [], ◌∷◌, length, take, drop, true, false, Ok, Err, refl, sym, ap, append_assoc, length-append, arith}
 use Rattle.std.proofs.lemmas.Bool.{false≢true}
-use Rattle.std.proofs.lemmas.List.{take-append-le, drop-append-le, drop_all}
-use Rattle.outside.specs.Outside.{SourceTold, Gave, Rose}
+use Rattle.std.proofs.lemmas.List.{take-append-le, drop-append-le}
+use Rattle.outside.specs.Outside.{SourceTold, Gave}
 use Rattle.outside.proofs.Known.{Gave-then}
 use Rattle.http_grammar.specs.Chunks.{begins_line_end, may_begin_line_end}
 use Rattle.http_grammar.specs.declared.fault.HttpFault.TheVariants.{BadHead, LongHead, LongBody, BadLength, Coding, Cut}

@@ -1,11 +1,10 @@
 -- The turns of the loop that reads a head.
-use Rattle.std.proofs.Common.{◌≡◌, ◌++◌, ◌∙◌, ◌≤◌, ◌<◌, ◌+◌, ◌-◌, ℕ, List, [], ◌∷◌, length, Bool, true, false, Ok, Err, Result, Option, Some, None, inl, inr, ◌⊎◌, refl, sym, ap, subst, append_assoc, append-nil, length-append, arith}
+use Rattle.std.proofs.Common.{◌≡◌, ◌++◌, ◌∙◌, ◌≤◌, ◌<◌, ◌+◌, ◌-◌, ℕ, List, [], ◌∷◌, length, true, false, Ok, Err, Result, Option, Some, None, inl, inr, refl, ap, subst, append_assoc, append-nil, length-append, arith}
 use Rattle.std.specs.Prelude.{⊤}
 use Rattle.httparse.specs.declared.spans.HeaderSpan.{HeaderSpan}
-use Rattle.outside.specs.Outside.{SourceTold, Gave, Rose}
+use Rattle.outside.specs.Outside.{SourceTold, Gave}
 use Rattle.outside.proofs.Known.{Gave-then}
-use Rattle.http_grammar.specs.Limits.{head_limit}
-use Rattle.http_grammar.specs.First.{First, Beginning, Fault}
+use Rattle.http_grammar.specs.First.{First, Fault}
 use Rattle.http_grammar.specs.declared.fault.HttpFault.{HttpFault}
 use Rattle.http_grammar.specs.declared.fault.HttpFault.TheVariants.{BadHead, LongHead, LongBody, BadLength, Coding, Cut}
 use Rattle.http_grammar.proofs.NeverCut.{first_never_cut}

@@ -1,5 +1,5 @@
 -- The values of a name, one more field at a time.
-use Rattle.std.proofs.Common.{◌≡◌, ◌++◌, ◌∙◌, ◌<◌, ◌+◌, ℕ, List, [], ◌∷◌, length, take, map, Bool, true, false, refl, sym, ap, arith, get_or, append-nil, add-one}
+use Rattle.std.proofs.Common.{◌≡◌, ◌++◌, ◌∙◌, ◌<◌, ◌+◌, ℕ, List, [], ◌∷◌, length, take, map, Bool, true, false, refl, sym, ap, get_or, add-one}
 use Rattle.std.specs.Prelude.{filter, if◌then◌else◌, ⊤, ◌&&◌, ◌||◌}
 use Rattle.std.specs.List.{list_any}
 use Rattle.std.proofs.lemmas.List.{map-append}

@@ -1,15 +1,13 @@
 -- What the parsers of the pieces say.
-use Rattle.std.proofs.Common.{◌≡◌, ◌≢◌, ◌++◌, ◌∙◌, ◌≤◌, ◌<◌, ◌+◌, ◌-◌, ℕ, List, [], ◌∷◌, length, take, drop, min, true, false, Bool, refl, sym, ap, subst, length-append, arith}
-use Rattle.std.specs.Prelude.{◌&&◌, ◌==◌}
+use Rattle.std.proofs.Common.{◌≡◌, ◌≢◌, ◌∙◌, ◌≤◌, ◌<◌, ◌+◌, ◌-◌, ℕ, List, [], ◌∷◌, length, take, drop, min, true, false, refl, sym, ap, subst, length-append, arith}
 use Rattle.std.proofs.lemmas.Bool.{false≢true}
-use Rattle.std.proofs.lemmas.List.{length-take, take_all, take-append-drop}
-use Rattle.httparse.specs.Grammar.{LineEnd, Field, print_section, ReadsSection, HasNoSection, NeverHasSection, MayBecomeSection, ChunkLine, print_chunk_line}
-use Rattle.httparse.specs.Spans.{IsSectionAt, SectionExceeds}
+use Rattle.std.proofs.lemmas.List.{length-take, take_all}
+use Rattle.httparse.specs.Grammar.{LineEnd, Field, print_section, ReadsSection, HasNoSection, NeverHasSection, MayBecomeSection, print_chunk_line}
+use Rattle.httparse.specs.Spans.{IsSectionAt}
 use Rattle.httparse.specs.declared.spans.HeaderSpan.{HeaderSpan}
 use Rattle.http_grammar.specs.Limits.{trailer_limit}
 use Rattle.http_grammar.specs.Chunks.{begins_line_end, Trailers, coming, never, trailers, still_open, too_long, hopeless, whole}
-use Rattle.http_grammar.proofs.Heads.{never_too_many_trailers}
-use Rattle.http_wire.specs.Pieces.{IsWholePiece, IsLineAt, SeesInner, SeesPiece, LooksPiece}
+use Rattle.http_wire.specs.Pieces.{IsWholePiece, SeesInner, SeesPiece, LooksPiece}
 use Rattle.http_wire.specs.declared.piece.Piece.{Piece}
 use Rattle.http_wire.specs.declared.piece.Piece.TheVariants as piece
 use Rattle.http_wire.specs.declared.piece.PieceEnd.{PieceEnd}

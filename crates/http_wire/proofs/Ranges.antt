@@ -1,11 +1,9 @@
 -- Parts of a vector between two offsets, and one more read into it.
-use Rattle.std.proofs.Common.{◌≡◌, ◌++◌, ◌∙◌, ◌≤◌, ◌<◌, ◌+◌, ◌-◌, ℕ, List, [], length, take, drop, refl, sym, ap, subst, append-nil, arith, length-drop}
+use Rattle.std.proofs.Common.{◌≡◌, ◌++◌, ◌∙◌, ◌≤◌, ◌+◌, ◌-◌, ℕ, List, [], length, take, drop, sym, ap, arith}
 use Rattle.std.specs.Prelude.{slice_range}
 use Rattle.std.proofs.lemmas.List.{drop-take, drop-drop, length-take}
 use Rattle.std.proofs.Math.Seq.{take-add}
-use Rattle.outside.specs.Outside.{SourceTold, ReadsBytes, Gave, Rose}
-use Rattle.outside.proofs.Known.{Gave-none}
-use Rattle.http_wire.specs.declared.fault.WireStop.{WireStop}
+use Rattle.outside.specs.Outside.{SourceTold, ReadsBytes, Gave}
 
 -- a part is the end of a front
 front_end : (xs : List ℕ) (s e : ℕ) → s ≤ e → drop s (take e xs) ≡ slice_range xs s e

@@ -1,5 +1,5 @@
 -- From what the parser of heads says of the first bytes to what stands at the front of all.
-use Rattle.std.proofs.Common.{◌≡◌, ◌++◌, ◌∙◌, ◌≤◌, ◌<◌, ◌+◌, ◌-◌, ℕ, List, [], ◌∷◌, length, take, drop, map, min, Bool, true, false, refl, sym, ap, subst, append-nil, arith, inl, inr, ◌⊎◌, Result, Ok, Err, All, length-drop}
+use Rattle.std.proofs.Common.{◌≡◌, ◌++◌, ◌∙◌, ◌≤◌, ◌<◌, ◌+◌, ◌-◌, ℕ, List, [], ◌∷◌, length, take, drop, map, min, Bool, true, false, refl, sym, ap, subst, arith, inl, inr, ◌⊎◌, Result, Err, All}
 use Rattle.std.specs.Prelude.{is_ok}
 use Rattle.std.proofs.lemmas.Bool.{false≢true, cases_lt}
 use Rattle.std.proofs.lemmas.List.{take-append-le, take_all, length-take, drop-take}
@@ -12,16 +12,16 @@ use Rattle.httparse.specs.declared.spans.HeaderSpan.{HeaderSpan}
 use Rattle.httparse.specs.declared.spans.RequestSpans.{RequestSpans}
 use Rattle.httparse.proofs.GrammarLemmas.{request_unique}
 use Rattle.http_grammar.specs.Limits.{head_limit}
-use Rattle.http_grammar.specs.Request.{Head, head_of}
-use Rattle.http_grammar.specs.Fields.{head_framing, expects_continue}
-use Rattle.http_grammar.specs.First.{Front, First, Beginning, Fault, HasHead, IsOpen, HasNoFuture, HoldsHead, Follows, partial, hopeless, too_long, whole_head}
+use Rattle.http_grammar.specs.Request.{head_of}
+use Rattle.http_grammar.specs.Fields.{head_framing}
+use Rattle.http_grammar.specs.First.{First, Beginning, Fault, HasHead, IsOpen, HasNoFuture, Follows, partial, hopeless, too_long, whole_head}
 use Rattle.http_grammar.specs.declared.fault.HttpFault.{HttpFault}
 use Rattle.http_grammar.specs.declared.fault.HttpFault.TheVariants.{BadHead, LongHead}
 use Rattle.http_grammar.specs.declared.framing.Framing.{Framing}
 use Rattle.http_grammar.proofs.Heads.{HasHead_part}
 use Rattle.http_grammar.proofs.OneFront.{in_part, not_hopeless}
 use Rattle.http_wire.specs.Found.{fields_at}
-use Rattle.http_wire.specs.Seen.{HeadAt, WholeHeadAt, SeesWhole, HoldsNone}
+use Rattle.http_wire.specs.Seen.{WholeHeadAt, HoldsNone}
 
 pub head_limit_is : head_limit ≡ 65536
 unfolding head_limit

@@ -1,9 +1,9 @@
 -- What a reader of requests answers, by the bytes that it had and got.
 use Rattle.std.specs.Prelude.{◌≡◌, ℕ, ◌⊎◌, Bool, true, false, List, [], ◌++◌, drop, Result, Ok, Err, ⊤}
 use Rattle.outside.specs.Outside.{SourceTold, Gave, Rose}
-use Rattle.http_grammar.specs.Request.{Head, Request}
+use Rattle.http_grammar.specs.Request.{Head}
 use Rattle.http_grammar.specs.Fields.{expects_continue}
-use Rattle.http_grammar.specs.First.{First, Beginning, Whole, Fault, IsPending, HoldsHead}
+use Rattle.http_grammar.specs.First.{First, Whole, Fault, IsPending, HoldsHead}
 use Rattle.http_grammar.specs.declared.fault.HttpFault.{HttpFault}
 use Rattle.http_grammar.specs.declared.fault.HttpFault.TheVariants.{Cut}
 use Rattle.http_wire.specs.Buffers.{BufferTold}

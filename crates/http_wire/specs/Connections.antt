@@ -1,5 +1,5 @@
 -- Which requests are the last of their connection (RFC 9112, section 9.6; RFC 9110, section 7.6.1).
-use Rattle.std.specs.Prelude.{ℕ, Bool, ◌||◌, ◌==◌, List, codes}
+use Rattle.std.specs.Prelude.{Bool, ◌||◌, ◌==◌, List, codes}
 use Rattle.http1.specs.Fields.{has_option, elements_named}
 use Rattle.http_grammar.specs.Request.{Head, FieldParts}
 

@@ -1,5 +1,5 @@
 -- What a reader of heads answers, by the bytes that it had and got.
-use Rattle.std.specs.Prelude.{◌≡◌, ℕ, ◌<◌, ◌⊎◌, Bool, true, List, [], ◌++◌, length, Result, Ok, Err, Option, Some, None, ⊤}
+use Rattle.std.specs.Prelude.{◌≡◌, ℕ, ◌<◌, ◌⊎◌, true, List, [], ◌++◌, length, Result, Ok, Err, Option, Some, None, ⊤}
 use Rattle.httparse.specs.declared.spans.HeaderSpan.{HeaderSpan}
 use Rattle.outside.specs.Outside.{SourceTold, Gave, Rose}
 use Rattle.http_grammar.specs.First.{First, Beginning, Fault}

@@ -1,5 +1,5 @@
 -- What a look at the bytes says of a piece of the chunked form, and what its reader answers.
-use Rattle.std.specs.Prelude.{◌≡◌, ℕ, ◌<◌, ◌≤◌, Bool, true, false, List, ◌++◌, length, take, drop, Result, Ok, Err, ⊤}
+use Rattle.std.specs.Prelude.{◌≡◌, ℕ, ◌<◌, ◌≤◌, true, false, List, ◌++◌, length, take, drop, Result, Ok, Err, ⊤}
 use Rattle.httparse.specs.Grammar.{ChunkLine, chunk_size, print_chunk_line, ReadsChunkLine, HasNoChunkLine, NeverHasChunkLine, MayBecomeChunkLine}
 use Rattle.outside.specs.Outside.{SourceTold, Gave, Rose}
 use Rattle.http_grammar.specs.Chunks.{begins_line_end, may_begin_line_end, Trailers, coming, never, trailers}

@@ -1,5 +1,5 @@
 -- The bytes that were read and not used, and what one more read adds to them.
-use Rattle.std.specs.Prelude.{◌≡◌, ℕ, ◌<◌, ◌≤◌, Bool, true, false, List, ◌++◌, length, slice_range, Result, Ok, Err, ⊤, []}
+use Rattle.std.specs.Prelude.{◌≡◌, ℕ, ◌<◌, Bool, true, false, List, ◌++◌, length, slice_range, Result, Ok, Err, []}
 use Rattle.outside.specs.Outside.{SourceTold, Gave, Rose}
 use Rattle.http_wire.specs.declared.window.Window.{Window}
 use Rattle.http_wire.specs.declared.fault.WireStop.{WireStop}

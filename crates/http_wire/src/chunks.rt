@@ -1,6 +1,5 @@
 //! Bodies in the chunked form: the data of the chunks is collected once, whatever the size of the chunks.
 ghost use Rattle.std.specs.Prelude.{◌≡◌, ◌+◌, ◌≤◌, ◌<◌, ◌&&◌, [], length, nat_le};
-ghost use Rattle.http_grammar.specs.Limits.{body_limit, chunked_limit};
 ghost use Rattle.http_wire.specs.Windows.{held};
 ghost use Rattle.http_wire.specs.Bodies.{ReadsData, ReadsChunk, ReadsBody};
 

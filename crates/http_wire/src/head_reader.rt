@@ -1,5 +1,5 @@
 //! Reading until a head is whole, or none can come.
-ghost use Rattle.std.specs.Prelude.{◌≡◌, ◌≤◌, ⊤, length};
+ghost use Rattle.std.specs.Prelude.{◌≡◌, ⊤, length};
 ghost use Rattle.http_wire.specs.Windows.{held};
 ghost use Rattle.http_wire.specs.HeadAnswers.{Looks, HeadAnswer, ReadsHead};
 

@@ -1,5 +1,5 @@
 //! The pieces of the chunked form of a body that have no stated length: the line before a chunk, the line end behind one, the trailers.
-ghost use Rattle.std.specs.Prelude.{◌≡◌, ◌+◌, ◌≤◌, ◌<◌, length, take, drop, ⊤};
+ghost use Rattle.std.specs.Prelude.{◌≡◌, ◌≤◌, ◌<◌, length, drop, ⊤};
 ghost use Rattle.http_wire.specs.Windows.{held};
 ghost use Rattle.http_wire.specs.Pieces.{SeesInner, SeesPiece, LooksPiece, PieceAnswer, ReadsPiece};
 

@@ -1,5 +1,5 @@
 //! Reading into a window, which grows with what has come.
-ghost use Rattle.std.specs.Prelude.{◌≡◌, ◌+◌, ◌-◌, ◌≤◌, ◌<◌, ℕ, List, [], length, take, drop, slice_range, IfOk, OnOk};
+ghost use Rattle.std.specs.Prelude.{◌≡◌, ◌+◌, ◌-◌, ◌≤◌, ◌<◌, [], length, take, drop, IfOk, OnOk};
 ghost use Rattle.outside.specs.Outside.{Reads, HasCause};
 ghost use Rattle.http_wire.specs.Windows.{held, More};
 

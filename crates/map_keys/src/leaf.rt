@@ -1,9 +1,8 @@
 //! Sorted lists of shared entries.
-ghost use Rattle.std.specs.Prelude.{◌≡◌, ℕ, ◌+◌, ◌<◌, ◌≤◌, ◌⊎◌, ◌++◌, ◌∷◌, [], true, false, not, map, length, take, drop, T, IfOk, IfSome, IsSome, None, Some, option_map, option_copied};
+ghost use Rattle.std.specs.Prelude.{◌≡◌, ◌+◌, ◌<◌, ◌≤◌, ◌++◌, ◌∷◌, [], map, length, take, drop, T, IfOk, None, Some, option_copied};
 ghost use Rattle.std.specs.Arc.{arc_value};
-ghost use Rattle.core.specs.List.{AllByRecursion};
 ghost use Rattle.core.specs.FinMap.Entries.{put, find, is_sorted, where_key};
-ghost use Rattle.core.specs.Ordering.{eq_by_cmp, is_gt};
+ghost use Rattle.core.specs.Ordering.{is_gt};
 ghost use Rattle.core.specs.declared.cmp.Ordering.TheVariants.{Less, Equal, Greater};
 ghost use Rattle.map_keys.specs.Parts.{HeadIs, without_key, pointee, within};
 

@@ -1,5 +1,5 @@
 //! Where a key falls in a row whose members begin with rising keys.
-ghost use Rattle.std.specs.Prelude.{◌≡◌, ℕ, ◌+◌, ◌<◌, false, map, length, drop, IfSome, IsSome};
+ghost use Rattle.std.specs.Prelude.{◌≡◌, ◌+◌, ◌<◌, false, map, length, drop, IfSome, IsSome};
 ghost use Rattle.std.specs.Arc.{arc_value};
 ghost use Rattle.core.specs.List.{AllByRecursion};
 ghost use Rattle.core.specs.Ordering.{is_gt};

@@ -1,6 +1,5 @@
 //! Reading constants and lists of them.
-ghost use Rattle.std.specs.Prelude.{◌≡◌, ℕ, List, [], ◌∷◌, ◌++◌, length, IfOk};
-ghost use Rattle.grammar_rules.specs.Rules.{Rule, Starts, Stops, chain, mapped};
+ghost use Rattle.std.specs.Prelude.{◌≡◌, [], ◌∷◌, IfOk};
 ghost use Rattle.ql_grammar.specs.Grammar as grammar;
 ghost use Rattle.ql_grammar.specs.Reads.{Reads, IsStart};
 

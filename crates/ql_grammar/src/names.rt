@@ -1,6 +1,5 @@
 //! Reading columns and aliases.
-ghost use Rattle.std.specs.Prelude.{◌≡◌, ℕ, List};
-ghost use Rattle.grammar_rules.specs.Rules.{Rule, Starts, Stops};
+ghost use Rattle.std.specs.Prelude.{◌≡◌};
 ghost use Rattle.ql_grammar.specs.Grammar as grammar;
 ghost use Rattle.ql_grammar.specs.Reads.{Reads, IsStart};
 

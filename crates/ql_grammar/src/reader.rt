@@ -1,7 +1,6 @@
 //! Reading single tokens.
-ghost use Rattle.std.specs.Prelude.{◌≡◌, ℕ, ◌+◌, ◌*◌, ◌≤◌, true, false, IfOk, is_some};
+ghost use Rattle.std.specs.Prelude.{◌≡◌, ◌*◌, true, false, is_some};
 ghost use Rattle.std.specs.Option.{option_map};
-ghost use Rattle.grammar_rules.specs.Rules.{Rule, Starts, Stops};
 ghost use Rattle.ql_grammar.specs.Grammar as grammar;
 ghost use Rattle.ql_grammar.specs.Reads.{Reads, Finds, IsPast, IsSplit, IsNoBeginning, IsStart};
 

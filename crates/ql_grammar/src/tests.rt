@@ -1,6 +1,5 @@
 //! Reading tests: conditions without AND, OR, NOT and parentheses.
-ghost use Rattle.std.specs.Prelude.{◌≡◌, ℕ, Bool, true, false, List};
-ghost use Rattle.grammar_rules.specs.Rules.{Rule, Starts, Stops};
+ghost use Rattle.std.specs.Prelude.{◌≡◌, true, false};
 ghost use Rattle.ql_grammar.specs.Grammar as grammar;
 ghost use Rattle.ql_grammar.specs.Reads.{Reads, IsStart};
 

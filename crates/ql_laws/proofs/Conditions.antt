@@ -7,7 +7,7 @@ use Rattle.ql_lex.specs.declared.token.Kind.{Kind}
 use Rattle.ql_lex.specs.declared.token.Token.{Token}
 use Rattle.ql_tree.specs.Stripped.{stripped_cond}
 use Rattle.ql_tree.specs.Printed as p
-use Rattle.ql_tree.specs.Printed.{Shape, shape, placed}
+use Rattle.ql_tree.specs.Printed.{shape, placed}
 use Rattle.ql_tree.specs.declared.tree.Cond.{Cond}
 use Rattle.ql_tree.specs.declared.tree.Cond.TheVariants as conds
 use Rattle.ql_grammar.specs.Grammar as g

@@ -5,7 +5,7 @@ use Rattle.ql_lex.specs.declared.token.Kind.{Kind}
 use Rattle.ql_lex.specs.declared.token.Token.{Token}
 use Rattle.ql_tree.specs.Stripped.{without_place, stripped_cond}
 use Rattle.ql_tree.specs.Printed as p
-use Rattle.ql_tree.specs.Printed.{Shape, shape}
+use Rattle.ql_tree.specs.Printed.{shape}
 use Rattle.ql_tree.specs.declared.tree.Column.{Column}
 use Rattle.ql_tree.specs.declared.tree.Literal.{Literal}
 use Rattle.ql_tree.specs.declared.tree.Cond.{Cond}

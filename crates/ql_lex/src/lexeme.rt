@@ -1,8 +1,7 @@
 //! The token at the front of a text.
-ghost use Rattle.std.specs.Prelude.{◌≡◌, ℕ, ◌+◌, ◌-◌, ◌<◌, ◌≤◌, ◌==◌, List, [], ◌∷◌, ◌++◌, length, take, drop, slice_index, true, false, Some, None, IfSome, ◌*◌, ◌^◌, ◌⊎◌};
+ghost use Rattle.std.specs.Prelude.{◌≡◌, ◌+◌, ◌-◌, ◌<◌, ◌==◌, [], ◌∷◌, length, take, drop, slice_index, true, false, Some, None, IfSome, ◌*◌, ◌^◌, ◌⊎◌};
 ghost use Rattle.std.specs.Str.{IsCharBoundary};
 ghost use Rattle.std.specs.List.{prefix_len};
-ghost use Rattle.std.specs.Option.{option_map};
 ghost use Rattle.ql_lex.specs.Lexes as spec;
 ghost use Rattle.ql_lex.specs.declared.token.Kind.TheVariants as kinds;
 

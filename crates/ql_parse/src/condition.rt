@@ -1,6 +1,5 @@
 //! Reading conditions: AND, OR, NOT and parentheses over tests.
-ghost use Rattle.std.specs.Prelude.{◌≡◌, ℕ, zero, suc, ◌+◌, ◌*◌, ◌<◌, ◌≤◌, ◌⊎◌, List, length, IfOk};
-ghost use Rattle.grammar_rules.specs.Rules.{Rule, Starts, Stops, Took};
+ghost use Rattle.std.specs.Prelude.{◌≡◌, ◌<◌, IfOk};
 ghost use Rattle.ql_tree.specs.declared.tree.Cond.TheVariants as conds;
 ghost use Rattle.ql_grammar.specs.Grammar as grammar;
 ghost use Rattle.ql_grammar.specs.Reads.{Reads};

@@ -1,5 +1,5 @@
 //! The query that a text spells.
-ghost use Rattle.std.specs.Prelude.{◌≡◌, ℕ, true, false, min, ◌+◌, ◌*◌, ◌^◌, ◌<◌, ◌≤◌, List, [], ◌∷◌, length, Ok, IfOk, IfErr};
+ghost use Rattle.std.specs.Prelude.{◌≡◌, true, false, min, ◌^◌, ◌<◌, ◌≤◌, [], ◌∷◌, length, Ok, IfOk, IfErr};
 ghost use Rattle.cm_base.specs.Judged.{Judged, Meets};
 ghost use Rattle.cm_base.specs.declared.cause.Cause.TheVariants as causes;
 ghost use Rattle.cm_base.specs.declared.fail.Fail.TheVariants as fails;

@@ -1,6 +1,5 @@
 //! Reading queries.
-ghost use Rattle.std.specs.Prelude.{◌≡◌, ℕ, List, [], ◌∷◌, None, Some};
-ghost use Rattle.grammar_rules.specs.Rules.{Rule, Starts, Stops};
+ghost use Rattle.std.specs.Prelude.{◌≡◌, [], ◌∷◌, None, Some};
 ghost use Rattle.ql_grammar.specs.Grammar as grammar;
 ghost use Rattle.ql_grammar.specs.Reads.{Reads};
 ghost use Rattle.ql_parse.specs.Wholes.{IsWhole};

@@ -1,5 +1,5 @@
 //! The printed form of a query.
-ghost use Rattle.std.specs.Prelude.{◌≡◌, ℕ, Bool, List, [], ◌∷◌, ◌++◌, OnOk, IfOk, take, drop, Some, if◌then◌else◌, nat_lt, ◌+◌, ◌-◌, ◌*◌, ◌<◌, ◌≤◌};
+ghost use Rattle.std.specs.Prelude.{◌≡◌, [], ◌∷◌, ◌++◌, OnOk, IfOk, Some, if◌then◌else◌, ◌+◌, ◌-◌, ◌*◌, ◌<◌, ◌≤◌};
 ghost use Rattle.std.specs.List.{flat_map};
 ghost use Rattle.ql_lex.specs.declared.word.Word.TheVariants as words;
 ghost use Rattle.ql_lex.specs.declared.token.Kind.TheVariants as kinds;

@@ -1,5 +1,5 @@
 //! A page of a list: some of its items are passed over, and the next ones are shown.
-ghost use Rattle.std.specs.Prelude.{◌≡◌, ◌<◌, ◌≤◌, drop, length, take};
+ghost use Rattle.std.specs.Prelude.{◌≡◌, ◌<◌, drop, take};
 ghost use Rattle.rd_nav.specs.ReadChildren.{has_more, most_items, page, page_size};
 
 #[tactic(auto, unfolding(crate::specs::ReadChildren::most_items))]

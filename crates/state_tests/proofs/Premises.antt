@@ -1,7 +1,7 @@
 -- What the checks of a call imply: a repository that is well formed after the change.
-use Rattle.std.specs.Prelude.{◌≡◌, ℕ, suc, ◌+◌, ◌-◌, ◌<◌, ◌≤◌, ◌^◌, Bool, true, false, ◌&&◌, not, if◌then◌else◌, List, [], ◌∷◌, map, length, All, find, Option, Some, None, is_some, option_map, nat_lt, nat_le, bytes_eq, codes}
+use Rattle.std.specs.Prelude.{◌≡◌, ℕ, suc, ◌+◌, ◌-◌, ◌<◌, ◌≤◌, ◌^◌, Bool, true, false, ◌&&◌, if◌then◌else◌, List, [], ◌∷◌, length, All, Option, Some, None, is_some, option_map, nat_lt, nat_le, bytes_eq, codes}
 use Rattle.std.specs.List.{list_any}
-use Rattle.std.proofs.Common.{refl, sym, ap, subst, ◌∙◌, ⊎_elim, arith}
+use Rattle.std.proofs.Common.{refl, sym, ap, subst, ◌∙◌, arith}
 use Rattle.std.proofs.lemmas.Bool.{both_ways, lt-leb, le-ltb}
 use Rattle.std.proofs.lemmas.List.Elements.{All-nil, All-cons, All-head, All-tail, All-weaker}
 use Rattle.cm_base.specs.declared.number.Oid.{Oid}
@@ -19,13 +19,12 @@ use Rattle.cmis_spec.specs.Repository.{Repository, same, root, most_levels, leve
 use Rattle.cmis_spec.specs.Access.{rank}
 use Rattle.cmis_spec.specs.Changes.{stepped, noted, with_object, with_pair, moved, edited}
 use Rattle.cmis_spec.specs.Values.{words, texts, form_value}
-use Rattle.cmis_spec.specs.Well.{HasWay, IsBaseAt, IsKept, IsTyped, IsDef, TakesTexts, IsWellFormed}
+use Rattle.cmis_spec.specs.Well.{HasWay, IsBaseAt, IsKept, IsTyped, IsDef, IsWellFormed}
 use Rattle.cmis_laws.proofs.Lists.{by_test, some_eq, none_some, differ, find_yes, find_no, found_holds, same_eq, all_zip}
 use Rattle.cmis_laws.proofs.Entries.{not_both, number_found, all_there}
-use Rattle.cmis_laws.proofs.Edited.{IsEdit}
 use Rattle.cmis_laws.proofs.Kept.{props_all}
 use Rattle.cmis_laws.proofs.Made.{folder_keeps}
-use Rattle.cmis_laws.proofs.Moved.{IsMove, is_too_deep}
+use Rattle.cmis_laws.proofs.Moved.{is_too_deep}
 use Rattle.cmis_laws.proofs.Paired.{way_of}
 use Rattle.cmis_laws.proofs.Steps.{HasRoom}
 use Rattle.cmis_laws.proofs.Tree.{upwards_length}

@@ -11,7 +11,6 @@ ghost use Rattle.http_grammar.specs.Request.{Request};
 ghost use Rattle.talk.specs.declared.asked.Asked.{Asked};
 ghost use Rattle.talk.specs.declared.end.End.{End};
 ghost use Rattle.talk.specs.Wire.{Wire};
-ghost use Rattle.talk.specs.Served.{Kind};
 ghost use Rattle.talk.specs.Session.{Setting, Session};
 ghost use Rattle.talk.specs.Told.{Gives};
 ghost use Rattle.talk.specs.Alone.{Alone, IsFinal, alone_at};

@@ -1,5 +1,5 @@
 //! Reading from a link and writing to it: what one side does changes nothing that the other tells, nor what the link stands for.
-ghost use Rattle.std.specs.Prelude.{◌≡◌, ◌⊎◌, OnOk, OnErr};
+ghost use Rattle.std.specs.Prelude.{◌≡◌, OnOk, OnErr};
 ghost use Rattle.outside.specs.Outside.{Took};
 ghost use Rattle.http_reply.specs.Replies.{reply_text, interim_text, runtime_text};
 ghost use Rattle.http_wire.specs.Answers.{ReadsRequest};

@@ -1,9 +1,9 @@
 //! What the JSON of a type asks for. A value of another kind asks for nothing.
-ghost use Rattle.std.specs.Prelude.{◌≡◌, ◌++◌, ◌∷◌, [], List, ℕ, IfOk, OnOk, map, filter_map, option_map, option_and_then, unwrap_or, codes};
+ghost use Rattle.std.specs.Prelude.{◌≡◌, ◌++◌, ◌∷◌, [], IfOk, OnOk, map, filter_map, option_map, option_and_then, unwrap_or, codes};
 ghost use Rattle.serde_json.specs.Find.{as_str, as_bool, as_array, as_object};
 ghost use Rattle.serde_json.specs.View.{view, items_view, members_view};
 ghost use Rattle.json_text.specs.Keys.{value_at, as_whole};
-ghost use Rattle.type_json.specs.Reading.{list_of, pairs_of, text_in, id_in, base_in, flag_in, whole_in, list_in, texts_in, number_scalar, scalar_of, scalars_in, choice_of, choices_in, prop_kind, prop_request, props_in, prop_requests, flag_within, mutability_request, type_request};
+ghost use Rattle.type_json.specs.Reading.{pairs_of, text_in, id_in, base_in, flag_in, whole_in, list_in, texts_in, number_scalar, scalar_of, scalars_in, choice_of, choices_in, prop_kind, prop_request, prop_requests, flag_within, mutability_request, type_request};
 ghost use Rattle.type_json.specs.Words.{content_of, kind_of, cardinality_of, updatability_of};
 
 use crate::shape::value_at;

@@ -1,10 +1,10 @@
 //! Why a value asks for no type.
-ghost use Rattle.std.specs.Prelude.{◌≡◌, ◌||◌, ◌&&◌, not, List, ℕ, IfOk, map, option_map, unwrap_or, bytes_eq, string_bytes, codes};
+ghost use Rattle.std.specs.Prelude.{◌≡◌, ◌||◌, ◌&&◌, not, IfOk, unwrap_or, bytes_eq, string_bytes, codes};
 ghost use Rattle.std.specs.List.{list_any};
 ghost use Rattle.serde_json.specs.View.{view, members_view};
 ghost use Rattle.cm_base.specs.Judged.{Meets};
 ghost use Rattle.cm_types.specs.Changes.{gives_many, has_wrong_value, made_props};
-ghost use Rattle.type_json.specs.Reading.{pairs_of, text_in, id_in, base_in, props_in, type_keys, prop_keys, has_wrong_key, lacks, lacks_prop_key, lacks_parent, lacks_key, has_other_key, has_wrong_kind, has_wrong_name, has_wrong_names, have_wrong_values, judge_values, judge_type, judge_type_text};
+ghost use Rattle.type_json.specs.Reading.{pairs_of, text_in, id_in, base_in, props_in, prop_keys, has_wrong_key, lacks, lacks_prop_key, lacks_parent, lacks_key, has_other_key, has_wrong_kind, has_wrong_name, has_wrong_names, have_wrong_values, judge_values, judge_type, judge_type_text};
 ghost use Rattle.type_json.specs.Words.{is_query_name};
 
 use crate::asked::{base_in, id_in, props_of, text_in, type_request};

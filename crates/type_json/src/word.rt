@@ -1,5 +1,5 @@
 //! The words of type definitions, and the forms of ids and query names.
-ghost use Rattle.std.specs.Prelude.{◌≡◌, ℕ, List, find, bytes_eq, Option, slice_index};
+ghost use Rattle.std.specs.Prelude.{◌≡◌, ℕ, List, find, Option, slice_index};
 ghost use Rattle.std.specs.Option.{option_copied};
 ghost use Rattle.std.specs.List.{list_all};
 ghost use Rattle.ql_lex.specs.Lexes.{begins_name, is_name_byte};

@@ -1,10 +1,10 @@
 //! Type definitions as JSON.
-ghost use Rattle.std.specs.Prelude.{◌≡◌, ◌++◌, ◌∷◌, [], IfOk, OnOk, codes, fold, map};
+ghost use Rattle.std.specs.Prelude.{◌≡◌, ◌∷◌, [], IfOk, OnOk, fold, map};
 ghost use Rattle.serde_json.specs.Data.{string};
 ghost use Rattle.cm_types.specs.Properties.{scalars_of};
 ghost use Rattle.json_text.specs.Shown.{data_of, fields_of, listed};
 ghost use Rattle.json_text.specs.Build.{with_field};
-ghost use Rattle.type_show.specs.Showing.{text_field, flag_field, scalar_data, choice_data, limit_data, prop_names, prop_words, prop_flags, prop_values, bound_fields, limit_fields, prop_data, prop_field, props_data, mutability_data, type_names, type_flags, type_values, parent_fields, document_fields, relationship_fields, base_fields, props_fields, type_data};
+ghost use Rattle.type_show.specs.Showing.{text_field, flag_field, scalar_data, choice_data, limit_data, prop_names, prop_words, prop_flags, prop_values, bound_fields, limit_fields, prop_data, props_data, mutability_data, type_names, type_flags, type_values, parent_fields, document_fields, relationship_fields, base_fields, props_fields, type_data};
 
 use cm_base::text::Text;
 use cm_base::value::Scalar;

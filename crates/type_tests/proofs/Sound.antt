@@ -1,10 +1,8 @@
 -- The base types are sound: their texts are read as the requests that name them.
-use Rattle.std.proofs.Common.{◌≡◌, ◌∙◌, ℕ, List, [], ◌∷◌, Bool, true, false, not, refl, ap}
-use Rattle.std.specs.Prelude.{ℤ, Option, None, is_none}
+use Rattle.std.proofs.Common.{◌≡◌, ℕ, List, [], ◌∷◌, Bool, true, false, refl}
+use Rattle.std.specs.Prelude.{ℤ, None}
 use Rattle.std.proofs.lemmas.List.Elements.{All-from_recursion}
 use Rattle.ql_lex.specs.Words.{keyword_of}
-use Rattle.cm_base.specs.declared.value.Value.TheVariants.{Unset}
-use Rattle.cm_types.specs.declared.property.PropDef.{PropDef}
 use Rattle.cm_types.specs.declared.property.PropertyKind.{PropertyKind}
 use Rattle.cm_types.specs.declared.property.PropertyKind.TheVariants as kinds
 use Rattle.cm_types.specs.declared.property.Cardinality.{Cardinality}

@@ -1,6 +1,6 @@
 -- What createFolder makes: the room for it, the repository after it, and the folder in it.
 use Rattle.std.specs.Prelude.{◌≡◌, ℕ, ◌+◌, ◌<◌, ◌^◌, false, List, [], ◌∷◌, All, Ok, Some}
-use Rattle.std.proofs.Common.{refl, sym, ap, subst, ◌∙◌, arith}
+use Rattle.std.proofs.Common.{sym, subst, ◌∙◌, arith}
 use Rattle.std.proofs.lemmas.Bool.{ltb-false}
 use Rattle.std.proofs.lemmas.List.Elements.{All-weaker}
 use Rattle.cm_base.specs.declared.number.Oid.{Oid}
@@ -17,7 +17,7 @@ use Rattle.cmis_laws.proofs.Entries.{is_other}
 use Rattle.wr_rules.specs.Rules.{policies_in, new_aces}
 use Rattle.wr_object.specs.CreateFolder.{refusal_create_folder, new_folder, after_create_folder}
 use Rattle.wr_object.specs.Parts.{parent_of}
-use Rattle.wr_object.proofs.CreateFolder.{Passes, passes, keeps_create_folder}
+use Rattle.wr_object.proofs.CreateFolder.{passes, keeps_create_folder}
 
 -- one more step and its cost stay numbers of 64 bits
 pub room_of : (r : Repository) (u : List ℕ) (m : Moment) (cost : ℕ) (call : CreateFolder) → refusal_create_folder r u m cost call ≡ Ok tt

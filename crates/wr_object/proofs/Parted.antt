@@ -1,5 +1,5 @@
 -- The refusal of createFolder is that of its parts.
-use Rattle.std.specs.Prelude.{◌≡◌, ℕ, nat_le, Bool, ◌||◌, not, List, [], Ok, Err}
+use Rattle.std.specs.Prelude.{◌≡◌, ℕ, nat_le, ◌||◌, not, List, [], Ok, Err}
 use Rattle.std.proofs.Common.{refl, sym, ap, ◌∙◌}
 use Rattle.cm_base.specs.declared.number.Moment.{Moment}
 use Rattle.cm_base.specs.declared.object.Object.{Object}
@@ -16,10 +16,10 @@ use Rattle.cm_call.specs.declared.write.CreateFolder.{CreateFolder}
 use Rattle.cm_show.specs.Addressed.{addressed}
 use Rattle.cmis_spec.specs.Repository.{Repository, most_levels, new_number, is_a, depth_of, is_taken}
 use Rattle.cmis_spec.specs.Access.{lacks}
-use Rattle.wr_rules.specs.Rules.{judge_storage, name_in, type_id_in, secondary_in, unknown_type, has_other_secondary, bars_child, unread_cause, has_other_policy, has_unknown_permission}
+use Rattle.wr_rules.specs.Rules.{judge_storage, unknown_type, has_other_secondary, bars_child, unread_cause, has_other_policy, has_unknown_permission}
 use Rattle.wr_object.specs.declared.wanted.Wanted.{Wanted}
 use Rattle.wr_object.specs.CreateFolder.{is_uncontrollable, refusal_create_folder}
-use Rattle.wr_object.specs.Parts.{wanted_in, judge_kinds, judge_place, judge_name, judge_found, refusal_in_parts}
+use Rattle.wr_object.specs.Parts.{wanted_in, judge_name, judge_found, refusal_in_parts}
 
 then_3 : (a b c rest : Judged (Unit {0})) → (a >> (b >> c)) >> rest ≡ a >> (b >> (c >> rest))
 then_3 (Ok x) (Ok y) c rest = refl

@@ -1,5 +1,5 @@
 -- The refusal of createFolder in parts: of where the folder stands, of its type, of its name and access list.
-use Rattle.std.specs.Prelude.{ℕ, nat_le, Bool, ◌||◌, not, List, [], Option, Some, None, Ok, unwrap_or, option_map}
+use Rattle.std.specs.Prelude.{ℕ, nat_le, ◌||◌, not, List, [], unwrap_or, option_map}
 use Rattle.cm_base.specs.declared.number.Oid.{Oid}
 use Rattle.cm_base.specs.declared.object.Object.{Object}
 use Rattle.cm_base.specs.declared.access.Level.TheVariants as levels
@@ -12,14 +12,13 @@ use Rattle.cm_types.specs.declared.given.Given.{Given}
 use Rattle.cm_types.specs.declared.given.PropertyCall.TheVariants as calls
 use Rattle.cm_types.specs.Types.{type_in, same_base, props_of}
 use Rattle.cm_types.specs.Properties.{judge_properties}
-use Rattle.cm_call.specs.declared.write.AceRequest.{AceRequest}
 use Rattle.cm_call.specs.declared.write.CreateFolder.{CreateFolder}
 use Rattle.cm_show.specs.Addressed.{addressed}
 use Rattle.cmis_spec.specs.Repository.{Repository, root, most_levels, new_number, is_a, depth_of, is_taken}
 use Rattle.cmis_spec.specs.Access.{lacks}
 use Rattle.wr_rules.specs.Rules.{judge_storage, name_in, type_id_in, secondary_in, unknown_type, has_other_secondary, bars_child, unread_cause, has_other_policy, has_unknown_permission}
 use Rattle.wr_object.specs.declared.wanted.Wanted.{Wanted}
-use Rattle.wr_object.specs.CreateFolder.{folder_props, is_uncontrollable}
+use Rattle.wr_object.specs.CreateFolder.{is_uncontrollable}
 
 -- what given properties say of a new object, and the definitions of its properties
 abbrev pub wanted_in : List TypeDef → List Given → Wanted

@@ -1,10 +1,9 @@
 //! createFolder (CMIS 1.1, section 2.2.4.3).
-ghost use Rattle.std.specs.Prelude.{◌≡◌, ◌+◌, ◌<◌, ◌^◌, ◌&&◌, not, ℕ, List, [], Some, None, Ok, IfOk, filter, unwrap_or, option_map, is_some, true};
+ghost use Rattle.std.specs.Prelude.{◌≡◌, ◌+◌, ◌<◌, ◌^◌, ◌&&◌, not, [], Some, None, Ok, IfOk, filter, is_some, true};
 ghost use Rattle.cm_base.specs.declared.object.Object.{Object};
 ghost use Rattle.cm_base.specs.Judged.{Leaves, Writes};
 ghost use Rattle.cm_types.specs.declared.given.PropertyCall.TheVariants as calls;
-ghost use Rattle.cm_types.specs.Types.{type_in};
-ghost use Rattle.cm_types.specs.Properties.{judge_properties, kept_values, is_set};
+ghost use Rattle.cm_types.specs.Properties.{kept_values, is_set};
 ghost use Rattle.cm_call.specs.declared.question.PropertyFilter.TheVariants as filters;
 ghost use Rattle.cm_call.specs.declared.reply.Reply.TheVariants as replies;
 ghost use Rattle.cm_show.specs.Addressed.{addressed};
@@ -12,7 +11,7 @@ ghost use Rattle.cm_show.specs.Shown.{shown_object};
 ghost use Rattle.cmis_spec.specs.Repository.{new_number, object_at};
 ghost use Rattle.cmis_spec.specs.Values.{is_apart, kept_beside};
 ghost use Rattle.cmis_spec.specs.Well.{IsWellFormed};
-ghost use Rattle.wr_object.specs.CreateFolder.{folder_props, cost_create_folder, refusal_create_folder, new_folder, after_create_folder, acknowledgement_create_folder};
+ghost use Rattle.wr_object.specs.CreateFolder.{cost_create_folder, refusal_create_folder, new_folder, after_create_folder, acknowledgement_create_folder};
 ghost use Rattle.wr_object.specs.Parts.{wanted_in, judge_found, refusal_in_parts, parent_of};
 
 use crate::folder_rules::{judge_kinds, judge_name, judge_place, judge_values};

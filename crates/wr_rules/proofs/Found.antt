@@ -1,19 +1,15 @@
 -- What is addressed is there, under its number.
-use Rattle.std.specs.Prelude.{◌≡◌, ℕ, Bool, true, false, ◌&&◌, if◌then◌else◌, List, [], ◌∷◌, find, All, Option, Some, None, Ok, Err, option_and_then, bytes_eq}
-use Rattle.std.proofs.Common.{refl, sym, ap, subst, ◌∙◌}
-use Rattle.std.proofs.lemmas.Bool.{both_ways}
-use Rattle.std.proofs.lemmas.List.Elements.{All-nil, All-cons, All-head}
+use Rattle.std.specs.Prelude.{◌≡◌, ℕ, Bool, true, ◌&&◌, if◌then◌else◌, List, [], ◌∷◌, find, Option, Some, None, option_and_then, bytes_eq}
+use Rattle.std.proofs.Common.{sym, ap, subst, ◌∙◌}
 use Rattle.cm_base.specs.declared.number.Oid.{Oid}
 use Rattle.cm_base.specs.declared.object.Object.{Object}
-use Rattle.cm_base.specs.declared.cause.Cause.{Cause}
-use Rattle.cm_base.specs.Judged.{Judged, refuse, find_or, judge_by, first_cause, ◌>>=◌, ◌>>◌}
 use Rattle.cm_call.specs.declared.place.Place.{Place}
 use Rattle.cm_call.specs.declared.place.Place.TheVariants.{Id, Path}
 use Rattle.cm_show.specs.Addressed.{addressed}
 use Rattle.cmis_spec.specs.Repository.{Repository, same, root, object_at, entry_of, entry_name}
-use Rattle.cmis_spec.specs.Access.{reads, read_at, read_named, object_named, oid_named, walk, child_named, is_child, at_path}
-use Rattle.cmis_spec.specs.Well.{Apart, HasNumbers}
-use Rattle.cmis_laws.proofs.Lists.{found_holds, found_passes, none_some, same_eq}
+use Rattle.cmis_spec.specs.Access.{reads, read_at, object_named, oid_named, walk, child_named, is_child}
+use Rattle.cmis_spec.specs.Well.{HasNumbers}
+use Rattle.cmis_laws.proofs.Lists.{found_holds, found_passes, same_eq}
 use Rattle.cmis_laws.proofs.Entries.{all_there}
 use Rattle.cmis_laws.proofs.Passed.{and_then_some, if_some}
 

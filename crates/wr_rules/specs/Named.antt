@@ -1,5 +1,5 @@
 -- What a call names, one after another.
-use Rattle.std.specs.Prelude.{ℕ, Bool, true, false, not, List, Option, Some, None, unwrap_or, option_map}
+use Rattle.std.specs.Prelude.{ℕ, Bool, false, not, List, unwrap_or, option_map}
 use Rattle.cm_base.specs.declared.value.Scalar.{Scalar}
 use Rattle.cm_types.specs.declared.definition.TypeDef.{TypeDef}
 use Rattle.cm_types.specs.declared.definition.BaseType.TheVariants as bases

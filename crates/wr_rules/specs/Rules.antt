@@ -1,5 +1,5 @@
 -- What the refusals and effects of writes share.
-use Rattle.std.specs.Prelude.{ℕ, ◌+◌, ◌-◌, ◌==◌, ◌^◌, nat_lt, nat_le, min, sum, Bool, true, false, ◌&&◌, ◌||◌, not, if◌then◌else◌, List, [], ◌∷◌, ◌++◌, map, filter, filter_map, find, length, Option, Some, None, Ok, is_some, is_none, unwrap_or, option_map, option_and_then, bytes_eq, codes}
+use Rattle.std.specs.Prelude.{ℕ, ◌+◌, ◌-◌, ◌^◌, nat_lt, min, sum, Bool, ◌&&◌, not, if◌then◌else◌, List, [], ◌∷◌, map, filter, filter_map, length, Option, Some, None, is_none, bytes_eq, codes}
 use Rattle.std.specs.List.{list_any, flat_map}
 use Rattle.cm_base.specs.declared.number.Oid.{Oid}
 use Rattle.cm_base.specs.declared.object.Object.{Object}
@@ -11,16 +11,16 @@ use Rattle.cm_base.specs.declared.value.Scalar.TheVariants.{Words}
 use Rattle.cm_base.specs.declared.value.Value.{Value}
 use Rattle.cm_base.specs.declared.cause.Cause.{Cause}
 use Rattle.cm_base.specs.declared.cause.Cause.TheVariants as causes
-use Rattle.cm_base.specs.Judged.{Judged, ◌>>◌, refuse, first_cause}
+use Rattle.cm_base.specs.Judged.{Judged, ◌>>◌, refuse}
 use Rattle.cm_types.specs.declared.definition.TypeDef.{TypeDef}
 use Rattle.cm_types.specs.declared.definition.BaseType.TheVariants as bases
 use Rattle.cm_types.specs.declared.property.PropDef.{PropDef}
 use Rattle.cm_types.specs.declared.given.Given.{Given}
-use Rattle.cm_types.specs.Types.{type_in, is_below, is_below_any, props_of}
+use Rattle.cm_types.specs.Types.{type_in, is_below, is_below_any}
 use Rattle.cm_types.specs.Properties.{value_in, scalars_of, texts_of, given_of, given_texts}
 use Rattle.cm_call.specs.declared.write.AceRequest.{AceRequest}
 use Rattle.cm_acl.specs.Acl.{level_named, changed_aces}
-use Rattle.cmis_spec.specs.Repository.{Repository, most_levels, most_steps, most_cost, is_a, depth_of}
+use Rattle.cmis_spec.specs.Repository.{Repository, most_steps, most_cost, is_a}
 use Rattle.cmis_spec.specs.Access.{read_named}
 
 -- ---- limits

@@ -1,5 +1,5 @@
 //! What the default values cost that a new object takes.
-ghost use Rattle.std.specs.Prelude.{◌≡◌, ◌+◌, [], ◌∷◌, ℕ, length, map, sum, is_none};
+ghost use Rattle.std.specs.Prelude.{◌≡◌, ◌+◌, [], ◌∷◌, map, sum, is_none};
 ghost use Rattle.cm_types.specs.Properties.{given_of};
 ghost use Rattle.wr_rules.specs.Rules.{bounded, scalar_cost, value_cost, defaults_cost};
 

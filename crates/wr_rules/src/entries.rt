@@ -1,6 +1,6 @@
 //! The access control entries that a call asks for (CMIS 1.1, section 2.2.10.2).
-ghost use Rattle.std.specs.Prelude.{◌≡◌, ◌++◌, [], ◌∷◌, IfOk, is_none, map, filter_map, nat_lt, length};
-ghost use Rattle.std.specs.List.{list_any, flat_map};
+ghost use Rattle.std.specs.Prelude.{◌≡◌, ◌++◌, [], ◌∷◌, IfOk, is_none, map};
+ghost use Rattle.std.specs.List.{list_any};
 ghost use Rattle.std.specs.Option.{option_to_list};
 ghost use Rattle.cm_base.specs.declared.access.Level.TheVariants as levels;
 ghost use Rattle.cm_acl.specs.Acl.{level_named};

@@ -1,10 +1,9 @@
 //! The types that a call names.
-ghost use Rattle.std.specs.Prelude.{◌≡◌, ◌&&◌, not, codes, IfOk, is_none, bytes_eq, find, nat_lt, length};
+ghost use Rattle.std.specs.Prelude.{◌≡◌, ◌&&◌, not, IfOk, is_none, bytes_eq, find, nat_lt, length};
 ghost use Rattle.std.specs.Option.{option_copied};
 ghost use Rattle.std.specs.List.{list_any};
 ghost use Rattle.cm_base.specs.Judged.{first_cause};
-ghost use Rattle.cm_types.specs.Types.{type_in, is_below, is_below_any};
-ghost use Rattle.cm_types.specs.Properties.{value_in, scalars_of, texts_of};
+ghost use Rattle.cm_types.specs.Types.{type_in, is_below};
 ghost use Rattle.wr_rules.specs.Rules.{unknown_type, has_other_secondary, bars, bars_child};
 ghost use Rattle.wr_rules.specs.Named.{is_below_scalar};
 

@@ -1,5 +1,5 @@
 //! The policies that a call names.
-ghost use Rattle.std.specs.Prelude.{◌≡◌, not, is_none, IfOk, map, ℕ, List, [], ◌++◌, unwrap_or, option_map, false};
+ghost use Rattle.std.specs.Prelude.{◌≡◌, is_none, IfOk, map, [], ◌++◌, option_map, false};
 ghost use Rattle.std.specs.List.{list_any};
 ghost use Rattle.std.specs.Option.{option_to_list};
 ghost use Rattle.cm_base.specs.Judged.{first_cause};

@@ -1,4 +1,4 @@
-use Rattle.std.proofs.Common.{◌≡◌, ◌≤◌, ℕ, List, length, sym, arith, rules}
+use Rattle.std.proofs.Common.{ℕ, List, length, sym, arith, rules}
 use Rattle.std.proofs.lemmas.List.Sums.{position_or_len_is}
 use Rattle.http_caller.specs.Callers.{is_colon}
 use Rattle.http_caller.proofs.caller.colon.Goals as goal

@@ -1,4 +1,4 @@
-use Rattle.std.proofs.Common.{◌≡◌, ◌++◌, ◌∙◌, ◌∷◌, [], ◌<◌, ◌≤◌, List, ℕ, length, ap, sym, refl, arith, subst}
+use Rattle.std.proofs.Common.{◌≡◌, ◌++◌, ◌∙◌, ◌∷◌, [], ◌≤◌, List, ℕ, length, ap, refl, arith, subst}
 use Rattle.std.specs.Prelude.{codes}
 use Rattle.http_reply.specs.Replies.{media_line, line}
 use Rattle.http_reply.proofs.head.push_media.Goals as goal

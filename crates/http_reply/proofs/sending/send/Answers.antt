@@ -1,7 +1,7 @@
-use Rattle.std.proofs.Common.{◌≡◌, ◌≤◌, ◌+◌, ◌++◌, List, ℕ, length, take, drop, arith, sym, subst, ap, ◌∙◌, Ok}
+use Rattle.std.proofs.Common.{List, ℕ, length, take, drop, arith, sym, subst, ◌∙◌, Ok}
 use Rattle.outside.specs.declared.traits.Failed.{Failed}
 use Rattle.std.proofs.lemmas.List.{take-append-drop, length-drop}
-use Rattle.outside.specs.Outside.{Took, Writes}
+use Rattle.outside.specs.Outside.{Writes}
 use Rattle.outside.proofs.Known.{wrote_more, wrote_no_more}
 use Rattle.http_reply.proofs.sending.send.Goals as goal
 

@@ -1,4 +1,4 @@
-use Rattle.std.proofs.Common.{◌≡◌, ◌≤◌, ◌∙◌, ◌+◌, arith, length}
+use Rattle.std.proofs.Common.{◌∙◌, arith}
 use Rattle.outside.specs.Outside.{Gave}
 use Rattle.outside.proofs.Known.{Gave-none}
 use Rattle.http_wire.proofs.Ranges.{some_gave}

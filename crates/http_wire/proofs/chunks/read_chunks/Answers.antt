@@ -1,4 +1,4 @@
-use Rattle.std.proofs.Common.{◌≡◌, ◌∙◌, arith, refl, ap, length}
+use Rattle.std.proofs.Common.{◌∙◌, arith, refl, ap, length}
 use Rattle.outside.proofs.Known.{Gave-none}
 use Rattle.http_wire.proofs.ChunkReading.{no_chunks, one_more, longer_form, body_done, body_stop}
 use Rattle.http_wire.proofs.chunks.read_chunks.Goals as goal

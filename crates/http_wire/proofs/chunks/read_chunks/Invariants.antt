@@ -1,4 +1,4 @@
-use Rattle.std.proofs.Common.{◌≡◌, ◌≤◌, ◌-◌, ◌++◌, ℕ, List, length}
+use Rattle.std.proofs.Common.{◌≡◌, ◌≤◌, ◌-◌, length}
 use Rattle.http_wire.specs.Windows.{held}
 use Rattle.http_wire.proofs.ChunkReading.{InChunks}
 use Rattle.http_wire.proofs.chunks.read_chunks.Given as goal

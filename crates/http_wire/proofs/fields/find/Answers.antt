@@ -1,4 +1,4 @@
-use Rattle.std.proofs.Common.{◌≡◌, List, ℕ, subst, refl}
+use Rattle.std.proofs.Common.{List, ℕ, subst}
 use Rattle.http_wire.specs.Found.{Finds}
 use Rattle.http_wire.proofs.NamedValues.{values_named-none, values_at-more}
 use Rattle.http_grammar.specs.Fields.{values_named}

@@ -1,4 +1,4 @@
-use Rattle.std.proofs.Common.{◌≡◌, ◌∙◌, List, ℕ, sym}
+use Rattle.std.proofs.Common.{◌∙◌, List, ℕ, sym}
 use Rattle.std.specs.Prelude.{codes}
 use Rattle.http_grammar.specs.Fields.{same_word}
 use Rattle.http_wire.proofs.NamedValues.{any_named}

@@ -1,4 +1,4 @@
-use Rattle.std.proofs.Common.{◌≡◌, ◌∙◌, ap}
+use Rattle.std.proofs.Common.{◌∙◌, ap}
 use Rattle.http_wire.specs.Found.{below_half}
 use Rattle.http_wire.proofs.Digits.{length_is_half}
 use Rattle.http_wire.proofs.fields.length_of_value.Goals as goal

@@ -1,8 +1,7 @@
-use Rattle.std.proofs.Common.{◌≡◌, ◌++◌, ◌∷◌, [], List, ℕ, sym, ap, subst, Bool}
+use Rattle.std.proofs.Common.{◌++◌, ◌∷◌, [], List, ℕ, sym, subst, Bool}
 use Rattle.std.specs.Prelude.{if◌then◌else◌}
 use Rattle.httparse.specs.Spans.{header_bytes}
-use Rattle.http_wire.specs.Found.{Finds, value_named}
-use Rattle.http_wire.specs.declared.fields.Found.{Found}
+use Rattle.http_wire.specs.Found.{Finds}
 use Rattle.http_wire.specs.declared.fields.Found.TheVariants.{Several}
 use Rattle.http_wire.proofs.NamedValues.{finds-one_more, IsThere}
 use Rattle.http_wire.proofs.fields.with_field.Goals as goal

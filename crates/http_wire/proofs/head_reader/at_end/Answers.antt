@@ -1,4 +1,4 @@
-use Rattle.std.proofs.Common.{◌≡◌, ◌∙◌, [], List, ℕ, length, false, ap, sym}
+use Rattle.std.proofs.Common.{◌≡◌, ◌∙◌, [], ℕ, length, false, ap, sym}
 use Rattle.std.proofs.lemmas.Bool.{false≢true}
 use Rattle.std.specs.Prelude.{⊤, ◌==◌}
 use Rattle.http_wire.proofs.HeadReading.{bad_answer, cut_answer}

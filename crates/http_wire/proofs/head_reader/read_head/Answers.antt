@@ -1,4 +1,4 @@
-use Rattle.std.proofs.Common.{◌≡◌, List, ℕ, subst}
+use Rattle.std.proofs.Common.{List, ℕ, subst}
 use Rattle.std.specs.Prelude.{⊤}
 use Rattle.http_wire.specs.Seen.{SeesHead}
 use Rattle.http_wire.specs.HeadAnswers.{HeadAnswer}

@@ -1,4 +1,4 @@
-use Rattle.std.proofs.Common.{◌≡◌, ◌∙◌, ◌≤◌, ◌<◌, length, take, ap, sym, arith, List, ℕ, subst}
+use Rattle.std.proofs.Common.{◌≡◌, ◌∙◌, ◌≤◌, ◌<◌, length, take, ap, sym, arith, ℕ, subst}
 use Rattle.std.proofs.lemmas.List.{length-take, take_all}
 use Rattle.http_grammar.specs.Limits.{head_limit}
 use Rattle.http_grammar.specs.First.{IsOpen, HasNoFuture}

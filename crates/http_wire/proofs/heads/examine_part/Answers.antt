@@ -1,4 +1,4 @@
-use Rattle.std.proofs.Common.{◌≡◌, ◌≢◌, true, false, sym, arith, ap, subst, Err, ℕ}
+use Rattle.std.proofs.Common.{◌≡◌, true, ap, subst, Err, ℕ}
 use Rattle.httparse.specs.Spans.{RequestExceeds}
 use Rattle.http_grammar.specs.Judged.{is_judged}
 use Rattle.http_grammar.proofs.Heads.{open_unjudged, open_partial, never_too_many}

@@ -1,4 +1,4 @@
-use Rattle.std.proofs.Common.{◌≡◌, ◌≤◌, length, ap, Err, ℕ, subst, arith}
+use Rattle.std.proofs.Common.{◌≤◌, length, ap, Err, ℕ, subst}
 use Rattle.httparse.specs.Spans.{SectionExceeds}
 use Rattle.http_grammar.proofs.Heads.{never_too_many_trailers}
 use Rattle.http_wire.proofs.PieceSeeing.{whole_trailers, open_trailers, long_trailers, hopeless_trailers, part_short}

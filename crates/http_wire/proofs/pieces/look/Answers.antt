@@ -1,4 +1,3 @@
-use Rattle.std.proofs.Common.{arith}
 use Rattle.http_wire.proofs.PieceSeeing.{looks_piece}
 use Rattle.http_wire.proofs.pieces.look.Goals as goal
 

@@ -1,9 +1,7 @@
-use Rattle.std.proofs.Common.{◌≡◌, ◌∙◌, List, ℕ, Bool, true, false, Ok, Err, drop, sym, subst}
+use Rattle.std.proofs.Common.{◌≡◌, ◌∙◌, true, false, Ok, Err, sym}
 use Rattle.std.specs.Prelude.{not}
 use Rattle.std.proofs.lemmas.Bool.{false≢true}
 use Rattle.http_grammar.specs.Request.{head_of}
-use Rattle.http_wire.specs.Windows.{held}
-use Rattle.http_wire.specs.Bodies.{ReadsBody}
 use Rattle.http_wire.proofs.RequestReading.{sized_within, no_request, whole_answer, broken_answer, body_wants, put_together}
 use Rattle.http_wire.proofs.reader.read_into.Goals as goal
 use Rattle.http_wire.proofs.reader.read_into.Goals.{else-framed-via-then-framed+else-not-answered, else-framed-via-else-framed}

@@ -1,4 +1,4 @@
-use Rattle.std.proofs.Common.{ℕ, length, sym, arith, rules}
+use Rattle.std.proofs.Common.{length, sym, arith, rules}
 use Rattle.std.proofs.lemmas.List.Sums.{position_or_len_is}
 use Rattle.request_target.specs.Form.{ends_authority}
 use Rattle.request_target.proofs.form.end_of_authority.Goals as goal

@@ -1,4 +1,4 @@
-use Rattle.std.proofs.Common.{◌≡◌, Err, arith, rules, ap}
+use Rattle.std.proofs.Common.{◌≡◌, Err, rules, ap}
 use Rattle.std.proofs.lemmas.Result.{err_from_is_err_and}
 use Rattle.request_target.specs.declared.path.PathStop.TheVariants.{Bad}
 use Rattle.request_target.proofs.Pieces.{Walked-step, Walked-bad, Walked-end}

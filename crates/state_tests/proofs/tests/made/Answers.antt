@@ -1,4 +1,4 @@
-use Rattle.std.proofs.Common.{◌≡◌, ◌<◌, ◌≤◌, sym, subst, ◌∙◌}
+use Rattle.std.proofs.Common.{◌<◌, sym, subst, ◌∙◌}
 use Rattle.state_tests.proofs.Premises.{fits, made_so}
 use Rattle.state_tests.proofs.tests.made.Goals as goal
 

@@ -1,4 +1,4 @@
-use Rattle.std.proofs.Common.{◌≡◌, ◌<◌, ◌≤◌, sym, subst, ◌∙◌}
+use Rattle.std.proofs.Common.{sym, ◌∙◌}
 use Rattle.state_tests.proofs.Premises.{fits, edit_there, renamed_so}
 use Rattle.state_tests.proofs.tests.renamed.Goals as goal
 

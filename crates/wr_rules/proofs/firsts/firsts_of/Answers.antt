@@ -1,5 +1,4 @@
-use Rattle.std.proofs.Common.{◌<◌, length, sym, ap, arith, ◌∙◌}
-use Rattle.wr_rules.specs.Firsts.{with_first}
+use Rattle.std.proofs.Common.{◌<◌, length, arith}
 use Rattle.wr_rules.proofs.Distinct.{distinct_next}
 use Rattle.wr_rules.proofs.firsts.firsts_of.Goals as goal
 

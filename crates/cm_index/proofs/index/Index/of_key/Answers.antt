@@ -3,7 +3,7 @@ use Rattle.std.specs.List.{list_any}
 use Rattle.core.specs.Ordering.{nat_cmp}
 use Rattle.map_keys.specs.Parts.{pointee, within}
 use Rattle.cm_map.specs.Sets.{IsRising}
-use Rattle.cm_index.specs.Pairs.{ids_of, has_pair, pair_order}
+use Rattle.cm_index.specs.Pairs.{ids_of, pair_order}
 use Rattle.cm_index.proofs.Pairing.{range_same, ids_have, ids_rise}
 use Rattle.cm_index.proofs.index.Index.of_key.Goals as goal
 

@@ -1,8 +1,6 @@
 use Rattle.std.proofs.Common.{◌≡◌, ◌<◌, ◌||◌, sym, ap, subst, ◌∙◌}
 use Rattle.core.specs.Ordering.{eq_by_cmp}
-use Rattle.cm_base.specs.declared.number.Oid.{Oid}
 use Rattle.cm_map.specs.Sets.{has_key, with_key}
-use Rattle.cm_index.specs.declared.index_key.IndexKey.{IndexKey}
 use Rattle.cm_index.specs.Pairs.{has_pair, pair_order, AreNumbers}
 use Rattle.cm_index.proofs.Pairing.{numbers_with, has_same, pair_same}
 use Rattle.cm_index.proofs.index.Index.with_pair.Goals as goal

@@ -1,5 +1,4 @@
-use Rattle.std.proofs.Common.{◌≡◌, ◌&&◌, not, sym, ap, subst, ◌∙◌}
-use Rattle.cm_map.specs.Sets.{has_key}
+use Rattle.std.proofs.Common.{◌&&◌, not, sym, ap, subst, ◌∙◌}
 use Rattle.cm_index.specs.Pairs.{has_pair, AreNumbers}
 use Rattle.cm_index.proofs.Pairing.{numbers_without, has_same, pair_same}
 use Rattle.cm_index.proofs.index.Index.without_pair.Goals as goal

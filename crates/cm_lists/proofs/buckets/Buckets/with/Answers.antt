@@ -1,4 +1,4 @@
-use Rattle.std.proofs.Common.{◌≡◌, ◌∙◌, ap}
+use Rattle.std.proofs.Common.{◌∙◌, ap}
 use Rattle.core.specs.Ordering.{nat_cmp}
 use Rattle.core.specs.FinMap.Entries.{put}
 use Rattle.cm_lists.specs.Buckets.{find_in}

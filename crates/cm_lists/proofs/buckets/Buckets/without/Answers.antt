@@ -1,5 +1,4 @@
-use Rattle.std.proofs.Common.{◌≡◌, ◌∙◌, ap}
-use Rattle.core.specs.Ordering.{nat_cmp}
+use Rattle.std.proofs.Common.{◌∙◌, ap}
 use Rattle.cm_lists.specs.Buckets.{find_in, with_bucket}
 use Rattle.cm_lists.proofs.Nested.{find-without}
 use Rattle.cm_lists.proofs.buckets.Buckets.without.Goals as goal

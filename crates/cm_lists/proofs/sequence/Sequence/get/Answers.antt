@@ -1,4 +1,4 @@
-use Rattle.std.proofs.Common.{◌≡◌, ◌∙◌, sym, ap}
+use Rattle.std.proofs.Common.{◌∙◌, ap}
 use Rattle.std.specs.List.{enumerate_from}
 use Rattle.cm_lists.proofs.Places.{place-got}
 use Rattle.cm_lists.proofs.sequence.Sequence.get.Goals as goal

@@ -1,4 +1,4 @@
-use Rattle.std.proofs.Common.{◌≡◌, ◌∙◌, sym, ap, ◌++◌, ◌∷◌, [], map}
+use Rattle.std.proofs.Common.{◌∙◌, sym, ap, ◌++◌, ◌∷◌, [], map}
 use Rattle.std.specs.List.{enumerate_from}
 use Rattle.cm_lists.proofs.Places.{with-end, map-enumerate}
 use Rattle.cm_lists.proofs.sequence.Sequence.with_last.Goals as goal

@@ -1,5 +1,5 @@
 use Rattle.std.specs.Ordering.{nat_cmp}
-use Rattle.std.proofs.Common.{◌≡◌, ◌==◌, ◌∙◌, ap, find}
+use Rattle.std.proofs.Common.{◌==◌, ◌∙◌, ap, find}
 use Rattle.core.specs.FinMap.Entries as entries
 use Rattle.cm_lists.proofs.Tables.{find-keyed}
 use Rattle.cm_lists.proofs.table.Table.get.Goals as goal

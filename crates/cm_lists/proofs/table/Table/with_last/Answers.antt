@@ -1,4 +1,4 @@
-use Rattle.std.proofs.Common.{◌≡◌, ◌<◌, ◌∙◌, sym, ap, subst, ◌++◌, ◌∷◌, [], All}
+use Rattle.std.proofs.Common.{◌<◌, ◌∙◌, sym, ap, subst, ◌++◌, ◌∷◌, [], All}
 use Rattle.cm_lists.proofs.Tables.{with-last, stays_keyed, list_of}
 use Rattle.cm_lists.proofs.table.Table.with_last.Goals as goal
 

@@ -1,5 +1,5 @@
 use Rattle.std.specs.Ordering.{nat_cmp}
-use Rattle.std.proofs.Common.{◌≡◌, ◌==◌, ◌∙◌, ap, filter, not}
+use Rattle.std.proofs.Common.{◌==◌, ◌∙◌, ap, filter, not}
 use Rattle.map_keys.specs.Parts.{without_key}
 use Rattle.cm_lists.proofs.Tables.{without-keyed, stays_keyed, list_of}
 use Rattle.cm_lists.proofs.table.Table.without.Goals as goal

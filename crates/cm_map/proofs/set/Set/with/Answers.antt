@@ -1,6 +1,5 @@
-use Rattle.std.proofs.Common.{◌≡◌, ◌||◌, map, sym, ap, subst, ◌∙◌}
-use Rattle.core.specs.Ordering.{eq_by_cmp}
-use Rattle.cm_map.specs.Sets.{IsRising, has_key, with_key, key_of}
+use Rattle.std.proofs.Common.{map, ap, ◌∙◌}
+use Rattle.cm_map.specs.Sets.{has_key, with_key, key_of}
 use Rattle.cm_map.proofs.Keyed.{keys_put, keys_rise, has_with}
 use Rattle.cm_map.proofs.set.Set.with.Goals as goal
 

@@ -1,4 +1,4 @@
-use Rattle.std.proofs.Common.{◌≡◌, ◌&&◌, map, not, ap, ◌∙◌}
+use Rattle.std.proofs.Common.{map, ap, ◌∙◌}
 use Rattle.cm_map.specs.Sets.{has_key, all_but_key, key_of}
 use Rattle.cm_map.proofs.Keyed.{keys_where, has_without}
 use Rattle.cm_map.proofs.set.Set.without.Goals as goal

@@ -1,4 +1,4 @@
-use Rattle.std.proofs.Common.{◌≡◌, ◌+◌, ◌∙◌, ◌<◌, ◌≤◌, length, take, drop, ap, List, ℕ, ◌++◌, arith, length-drop}
+use Rattle.std.proofs.Common.{◌≡◌, ◌+◌, ◌∙◌, ◌≤◌, length, take, drop, ap, List, ℕ, ◌++◌, arith, length-drop}
 use Rattle.std.proofs.lemmas.List.{length-take}
 use Rattle.outside.proofs.Known.{Gave-none}
 use Rattle.http_wire.proofs.Ranges.{longer_range, same_range, some_gave}
