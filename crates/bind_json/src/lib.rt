@@ -7,4 +7,4 @@ pub mod objects;
 pub mod replies;
 #[cfg(test)]
 mod tests;
-pub mod values;
+pub mod words;

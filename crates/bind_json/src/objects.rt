@@ -4,10 +4,11 @@ ghost use Rattle.json_text.specs.Shown.{data_of};
 ghost use Rattle.json_text.specs.Build.{object_data};
 ghost use Rattle.bind_json.specs.Objects.{property_data, properties_data, values_data, shown_data};
 
-use crate::values::{cardinality_word, kind_word, value_json};
+use crate::words::{cardinality_word, kind_word};
 use cm_base::value::Slot;
 use cm_call::reply::{Properties, ShownObject, ShownProperty};
 use json_text::tree::{Fields, Json};
+use json_text::values::value_json;
 use std::alloc::{AllocError, Global};
 
 #[tactic(auto, unfolding(crate::specs::Objects::property_data))]

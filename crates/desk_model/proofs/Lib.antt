@@ -1,4 +1,3 @@
 pub mod Replays
 pub mod OwnEntries
 pub mod Passes
-pub mod Places

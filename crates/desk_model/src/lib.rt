@@ -5,7 +5,6 @@
 mod clock;
 mod desk;
 mod entry;
-mod journal;
 mod machine;
 mod one;
 mod snapshot;

@@ -4,8 +4,8 @@ ghost use Rattle.desk_model.specs.Halts.{TellsSecond};
 ghost use Rattle.desk_model.specs.Histories.{History, IsLegal, state_of, grown, shown_by};
 
 use crate::entry::Entry;
-use crate::journal::Journal;
 use crate::machine::{Halt, Machine};
+use cm_lists::sequence::Sequence;
 use std::alloc::{AllocError, Global};
 use std::marker::Model;
 use std::sync::Arc;
@@ -14,7 +14,7 @@ use std::sync::Arc;
 #[derive(Drop)]
 pub struct Version<M: Machine> {
     opening: Arc<M::State>,
-    journal: Journal<M::Call>,
+    journal: Sequence<Entry<M::Call>>,
     state: Arc<M::State>,
 }
 
@@ -39,7 +39,7 @@ impl<M: Machine> Version<M> {
         let state = Arc::try_clone(&opening)?;
         Ok(Version {
             opening,
-            journal: Journal::empty(alloc),
+            journal: Sequence::empty(alloc),
             state,
         })
     }
@@ -55,7 +55,7 @@ impl<M: Machine> Version<M> {
         ensures told { TellsSecond (shown_by (M.next (state_of M.next self.now) entry)) result }
     {
         let (state, shown) = M::next(alloc, &*self.state, &entry)?;
-        let journal = self.journal.with(alloc, entry)?;
+        let journal = self.journal.with_last(alloc, entry)?;
         let version = Version {
             opening: Arc::try_clone(&self.opening)?,
             journal,

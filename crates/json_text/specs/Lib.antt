@@ -2,3 +2,4 @@ pub mod Bodies
 pub mod Build
 pub mod Keys
 pub mod Shown
+pub mod Values

@@ -1,4 +1,4 @@
-//! JSON (RFC 8259) over serde_json: values that are written compact with their names in byte order, the bodies of causes,
+//! JSON (RFC 8259) over serde_json: values that are written compact with their names in byte order, values of properties, the bodies of causes,
 //! and what stands at the keys of a text that is read.
 #![tactic(auto)]
 
@@ -9,3 +9,4 @@ pub mod read;
 #[cfg(test)]
 mod tests;
 pub mod tree;
+pub mod values;

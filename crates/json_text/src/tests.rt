@@ -2,8 +2,11 @@
 use crate::cause::cause_body;
 use crate::read::{ReadStop, elements_at, flag_at, members_at, read_value, text_at, whole_at};
 use crate::tree::{Elements, Fields, Json};
+use crate::values::value_json;
 use cm_base::cause::Cause;
+use cm_base::items::Items;
 use cm_base::text::Text;
+use cm_base::value::{Scalar, Value};
 use std::alloc::{AllocError, Global};
 
 fn has_body(alloc: Global, cause: &Cause, text: &str) -> bool {
@@ -63,6 +66,35 @@ fn names_stand_in_byte_order(rt: HostRuntime) {
             Err(_) => false,
         }
     );
+}
+
+fn several(alloc: Global) -> Result<Value, AllocError> {
+    let mut scalars = Items::new(alloc);
+    scalars.push(Scalar::Flag(true))?;
+    scalars.push(Scalar::Whole(-7))?;
+    scalars.push(Scalar::Time(1000))?;
+    scalars.push(Scalar::Words(Text::from_str(alloc, "a\"")?))?;
+    Ok(Value::Many(scalars))
+}
+
+fn is_shown(alloc: Global, value: &Value, text: &str) -> bool {
+    match value_json(alloc, value) {
+        Ok(json) => match json.to_vec(alloc) {
+            Ok(shown) => shown.as_slice() == text.as_bytes(),
+            Err(_) => false,
+        },
+        Err(_) => false,
+    }
+}
+
+#[test]
+fn values_are_shown(rt: HostRuntime) -> Result<(), AllocError> {
+    let alloc = rt.alloc();
+    let all = several(alloc)?;
+    assert!(rt; is_shown(alloc, &all, "[true,-7,1000,\"a\\\"\"]"));
+    assert!(rt; is_shown(alloc, &Value::Unset, "null"));
+    assert!(rt; is_shown(alloc, &Value::One(Scalar::Whole(3)), "3"));
+    Ok(())
 }
 
 #[test]

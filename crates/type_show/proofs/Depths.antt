@@ -17,7 +17,8 @@ use Rattle.cm_types.specs.declared.definition.BaseType.TheVariants as bases
 use Rattle.cm_types.specs.declared.definition.TypeMutability.{TypeMutability}
 use Rattle.cm_types.specs.declared.definition.TypeDef.{TypeDef}
 use Rattle.cm_types.specs.Properties.{scalars_of}
-use Rattle.type_show.specs.Showing.{Field, with_fields, scalar_data, choice_data, limit_data, prop_names, prop_words, prop_flags, prop_values, limit_fields, prop_data, prop_field, props_data, mutability_data, type_names, type_values, type_flags, base_fields, parent_fields, props_fields, texts_data, type_data}
+use Rattle.json_text.specs.Values.{scalar_data}
+use Rattle.type_show.specs.Showing.{Field, with_fields, choice_data, limit_data, prop_names, prop_words, prop_flags, prop_values, limit_fields, prop_data, prop_field, props_data, mutability_data, type_names, type_values, type_flags, base_fields, parent_fields, props_fields, texts_data, type_data}
 use Rattle.type_show.proofs.Putting.{first, second, all_within, depth_fields}
 
 -- values that do not nest

@@ -4,8 +4,7 @@ use Rattle.std.specs.Borrow.{Bor}
 use Rattle.serde_json.specs.Data.{Data, null, boolean, number, string, object, Members, no_members}
 use Rattle.serde_json.specs.Find.{of_integer}
 use Rattle.json_text.specs.Build.{list_data, object_data, with_field}
-use Rattle.cm_base.specs.declared.value.Scalar.{Scalar}
-use Rattle.cm_base.specs.declared.value.Scalar.TheVariants.{Flag, Whole, Time, Words}
+use Rattle.json_text.specs.Values.{scalar_data}
 use Rattle.cm_types.specs.declared.property.Choice.{Choice}
 use Rattle.cm_types.specs.declared.property.PropDef.{PropDef}
 use Rattle.cm_types.specs.declared.property.PropertyKind.{PropertyKind}
@@ -33,13 +32,6 @@ abbrev pub flag_field : Bor (List ℕ) × Bool → Field
 flag_field f = (f.0.now, boolean f.1)
 
 -- ---- property definitions
-
--- a moment is its milliseconds since 1970
-abbrev pub scalar_data : Scalar → Data
-scalar_data (Flag b) = boolean b
-scalar_data (Whole n) = number (of_integer n)
-scalar_data (Time n) = number (of_integer n)
-scalar_data (Words t) = string t
 
 abbrev pub choice_data : Choice → Data
 choice_data c = object_data

@@ -4,15 +4,15 @@ ghost use Rattle.serde_json.specs.Data.{string};
 ghost use Rattle.cm_types.specs.Properties.{scalars_of};
 ghost use Rattle.json_text.specs.Shown.{data_of, fields_of, listed};
 ghost use Rattle.json_text.specs.Build.{with_field};
-ghost use Rattle.type_show.specs.Showing.{text_field, flag_field, scalar_data, choice_data, limit_data, prop_names, prop_words, prop_flags, prop_values, bound_fields, limit_fields, prop_data, props_data, mutability_data, type_names, type_flags, type_values, parent_fields, document_fields, relationship_fields, base_fields, props_fields, type_data};
+ghost use Rattle.type_show.specs.Showing.{text_field, flag_field, choice_data, limit_data, prop_names, prop_words, prop_flags, prop_values, bound_fields, limit_fields, prop_data, props_data, mutability_data, type_names, type_flags, type_values, parent_fields, document_fields, relationship_fields, base_fields, props_fields, type_data};
 
 use cm_base::text::Text;
-use cm_base::value::Scalar;
 use cm_type_list::changes::base_id;
 use cm_types::definition::{BaseType, TypeDef, TypeMutability};
 use cm_types::fault::scalars_of;
 use cm_types::property::{Choice, PropDef, PropertyKind};
 use json_text::tree::{Elements, Fields, Json};
+use json_text::values::{scalar_json, scalars_json};
 use std::alloc::{AllocError, Global};
 use type_json::word::Worded;
 
@@ -32,27 +32,6 @@ fn put_flags(alloc: Global, fields: &mut Fields, flags: &[(&str, bool)]) -> Resu
         fields.put(alloc, flag.0, Json::flag(flag.1))?;
     }
     Ok(())
-}
-
-fn scalar_json(alloc: Global, scalar: &Scalar) -> Result<Json, AllocError>
-    ensures { IfOk result (λ j. data_of j ≡ scalar_data scalar.now) }
-{
-    match scalar {
-        Scalar::Flag(flag) => Ok(Json::flag(*flag)),
-        Scalar::Whole(number) => Ok(Json::whole(*number)),
-        Scalar::Time(moment) => Ok(Json::whole(*moment)),
-        Scalar::Words(text) => Json::text(alloc, text.as_str()),
-    }
-}
-
-fn scalars_json(alloc: Global, scalars: &[Scalar]) -> Result<Elements, AllocError>
-    ensures { IfOk result (λ e. listed e ≡ map scalar_data scalars.now) }
-{
-    let mut elements = Elements::new(alloc);
-    for scalar in scalars {
-        elements.push(scalar_json(alloc, scalar)?)?;
-    }
-    Ok(elements)
 }
 
 fn choice_json(alloc: Global, choice: &Choice) -> Result<Json, AllocError>

@@ -1,7 +1,7 @@
 use Rattle.std.proofs.Common.{◌≡◌, map, take}
 use Rattle.json_text.specs.Shown.{listed}
-use Rattle.bind_json.specs.Values.{scalar_data}
-use Rattle.bind_json.proofs.values.scalars_json.Given as goal
+use Rattle.json_text.specs.Values.{scalar_data}
+use Rattle.json_text.proofs.values.scalars_json.Given as goal
 
 abbrev pub invariant-loop-scalar : goal.invariant-loop-scalar
 invariant-loop-scalar l = listed l.elements ≡ map scalar_data (take l.scalar-index l.scalars)
