@@ -56,7 +56,7 @@ fn bound(alloc: Global, service: Service, names: &Texts, pairs: &Pairs) -> Resul
 
 /// What a request asks, or the first cause why it asks nothing, in this order: the method, the address, the form, the action or
 /// selector, the CMIS-Step field, and the arguments of the call in their order.
-#[tactic(auto, using(crate::proofs::Exits::fails_bind))]
+#[tactic(auto, using(cm_types::proofs::Exits::fails_bind))]
 pub fn call_of(alloc: Global, request: &Request) -> Result<Asked, Fail>
     ensures { Meets (λ a. a) result (call_of_request request.now) }
 {

@@ -15,7 +15,7 @@ use form_args::pairs::Pairs;
 use std::alloc::Global;
 
 /// The question of the selector children, or the first cause of its arguments.
-#[tactic(auto, using(crate::proofs::Exits::fails_bind, crate::proofs::Exits::fails_then))]
+#[tactic(auto, using(cm_types::proofs::Exits::fails_bind, cm_types::proofs::Exits::fails_then))]
 pub fn children_of(alloc: Global, names: &Texts, pairs: &Pairs) -> Result<ReadChildren, Fail>
     ensures { Meets (λ c. c) result (children_of names.now pairs.now) }
 {

@@ -16,7 +16,7 @@ use form_args::properties::{properties, typed};
 use std::alloc::Global;
 
 /// The call that the arguments make, or the first of their causes.
-#[tactic(auto, using(crate::proofs::Exits::fails_bind, crate::proofs::Exits::fails_then))]
+#[tactic(auto, using(cm_types::proofs::Exits::fails_bind, cm_types::proofs::Exits::fails_then))]
 pub fn create_folder_of(alloc: Global, names: &Texts, pairs: &Pairs) -> Result<CreateFolder, Fail>
     ensures { Meets (λ c. c) result (create_folder_of names.now pairs.now) }
 {

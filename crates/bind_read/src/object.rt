@@ -14,7 +14,7 @@ use form_args::pairs::Pairs;
 use std::alloc::Global;
 
 /// The question of the selector object, or the first cause of its arguments.
-#[tactic(auto, using(crate::proofs::Exits::fails_bind, crate::proofs::Exits::fails_then))]
+#[tactic(auto, using(cm_types::proofs::Exits::fails_bind, cm_types::proofs::Exits::fails_then))]
 pub fn object_of(alloc: Global, names: &Texts, pairs: &Pairs) -> Result<ReadObject, Fail>
     ensures { Meets (λ c. c) result (object_of names.now pairs.now) }
 {
@@ -30,7 +30,7 @@ pub fn object_of(alloc: Global, names: &Texts, pairs: &Pairs) -> Result<ReadObje
 }
 
 /// The question of the selector properties, or the first cause of its arguments.
-#[tactic(auto, using(crate::proofs::Exits::fails_bind, crate::proofs::Exits::fails_then))]
+#[tactic(auto, using(cm_types::proofs::Exits::fails_bind, cm_types::proofs::Exits::fails_then))]
 pub fn properties_of(alloc: Global, names: &Texts, pairs: &Pairs) -> Result<ReadProperties, Fail>
     ensures { Meets (λ c. c) result (properties_of names.now pairs.now) }
 {

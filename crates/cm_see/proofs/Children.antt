@@ -1,10 +1,8 @@
 -- The children that a caller reads, by their numbers.
-use Rattle.std.specs.Prelude.{◌≡◌, ℕ, ◌+◌, ◌<◌, Bool, true, false, ◌&&◌, List, [], ◌∷◌, ◌++◌, map, filter, take, get_or, length, All, Option, Some, None}
+use Rattle.std.specs.Prelude.{◌≡◌, ℕ, Bool, true, false, ◌&&◌, List, [], ◌∷◌, map, filter, All, Some}
 use Rattle.std.specs.List.{filter_map}
-use Rattle.std.specs.Option.{option_to_list}
-use Rattle.std.proofs.Common.{refl, sym, ap, ◌∙◌}
-use Rattle.std.proofs.lemmas.List.{take_more}
-use Rattle.std.proofs.lemmas.List.Elements.{All-head, All-tail, filter_map-append}
+use Rattle.std.proofs.Common.{refl, ap, ◌∙◌}
+use Rattle.std.proofs.lemmas.List.Elements.{All-head, All-tail}
 use Rattle.cm_base.specs.declared.number.Oid.{Oid}
 use Rattle.cm_base.specs.declared.object.Object.{Object}
 use Rattle.cmis_spec.specs.Repository.{Repository, object_at, is_filed, entry_of}
@@ -13,17 +11,6 @@ use Rattle.cmis_spec.specs.Well.{IsWellFormed}
 use Rattle.cmis_laws.proofs.Lists.{by_test}
 use Rattle.cmis_laws.proofs.Entries.{all_there}
 use Rattle.cm_state.specs.Looks.{numbers_in}
-
-one_more : {A B : Type 0} (h : A → Option B) (x : A) (o : Option B) → h x ≡ o → option_to_list o ≡ filter_map h (x ∷ [])
-one_more h x None e = rw e refl
-one_more h x (Some y) e = rw e refl
-
-pub filter_map_more : {A B : Type 0} (h : A → Option B) (xs : List A) (i : ℕ) (d : A) → i < length xs
-    → filter_map h (take i xs) ++ option_to_list (h (get_or xs i d)) ≡ filter_map h (take (i + 1) xs)
-filter_map_more h xs i d lt =
-    ap (λ l. filter_map h (take i xs) ++ l) (one_more h (get_or xs i d) (h (get_or xs i d)) refl)
-    ∙ sym (filter_map-append h (take i xs) (get_or xs i d ∷ []))
-    ∙ ap (filter_map h) (sym (take_more xs i d lt))
 
 read_among : (r : Repository) (u : List ℕ) (q : Object → Bool) (xs : List Object) → All (λ x. object_at r x.id ≡ Some x) xs
     → filter_map (read_at r u) (map (λ x. x.id) (filter q xs)) ≡ filter (λ x. q x && reads r u x) xs

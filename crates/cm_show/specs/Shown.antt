@@ -9,9 +9,9 @@ use Rattle.cm_base.specs.declared.value.Slot.{Slot}
 use Rattle.cm_base.specs.declared.series.DocumentVersion.{DocumentVersion}
 use Rattle.cm_base.specs.declared.series.Label.{Label}
 use Rattle.cm_base.specs.declared.content.Content.{Content}
-use Rattle.cm_types.specs.declared.definition.BaseType.{BaseType}
 use Rattle.cm_types.specs.declared.definition.BaseType.TheVariants as bases
 use Rattle.cm_types.specs.declared.property.PropDef.{PropDef}
+use Rattle.cm_types.specs.Changes.{base_id}
 use Rattle.cm_types.specs.Types.{base_of, props_of}
 use Rattle.cm_types.specs.Properties.{value_in}
 use Rattle.cm_call.specs.declared.question.PropertyFilter.{PropertyFilter}
@@ -37,14 +37,6 @@ number n = One (Whole (pos n))
 
 abbrev pub words_or_unset : Option (List ℕ) → Value
 words_or_unset o = unwrap_or (option_map words o) Unset
-
-abbrev pub base_word : BaseType → List ℕ
-base_word bases.Document = codes "cmis:document"
-base_word bases.Folder = codes "cmis:folder"
-base_word bases.Relationship = codes "cmis:relationship"
-base_word bases.Policy = codes "cmis:policy"
-base_word bases.Item = codes "cmis:item"
-base_word bases.Secondary = codes "cmis:secondary"
 
 -- the parent of a folder; the root has none, and nothing else has one
 abbrev pub parent_value : Repository → Object → Value
@@ -113,7 +105,7 @@ length_value r x = unwrap_or (option_map (λ c. number (length c.stream.pieces))
 abbrev pub system_value : Repository → List ℕ → Object → SystemProperty → Value
 system_value r u x properties.Name = words (name_of r x)
 system_value r u x properties.ObjectId = words (decimal x.id.0)
-system_value r u x properties.BaseTypeId = words_or_unset (option_map base_word (base_of r.types x.kind))
+system_value r u x properties.BaseTypeId = words_or_unset (option_map base_id (base_of r.types x.kind))
 system_value r u x properties.ObjectTypeId = words x.kind
 system_value r u x properties.SecondaryObjectTypeIds = texts x.secondary
 system_value r u x properties.CreatedBy = words x.maker

@@ -7,10 +7,11 @@ ghost use Rattle.cm_types.specs.Types.{base_of};
 ghost use Rattle.cm_types.specs.Properties.{value_in};
 ghost use Rattle.cmis_spec.specs.Repository.{name_of, series_of};
 ghost use Rattle.cmis_spec.specs.Values.{words};
-ghost use Rattle.cm_show.specs.Shown.{base_word, content_of, length_value, number, parent_value, path_value, property_value, system_value, words_or_unset};
+ghost use Rattle.cm_types.specs.Changes.{base_id};
+ghost use Rattle.cm_show.specs.Shown.{content_of, length_value, number, parent_value, path_value, property_value, system_value, words_or_unset};
 
 use crate::system::{SystemProperty, find_system};
-use crate::value::{base_word, flag, number_or_unset, number_words, texts, words};
+use crate::value::{flag, number_or_unset, number_words, texts, words};
 use crate::version::{
     checked_out_by, checked_out_id, checked_out_owner, is_immutable, is_latest_major,
     is_latest_version, is_major_version, version_label,
@@ -49,10 +50,10 @@ fn name(alloc: Global, state: &State, x: &Object) -> Result<Value, AllocError>
 }
 
 fn base(alloc: Global, state: &State, x: &Object) -> Result<Value, AllocError>
-    ensures { IfOk result (λ v. v ≡ words_or_unset (option_map base_word (base_of state.now.types x.now.kind))) }
+    ensures { IfOk result (λ v. v ≡ words_or_unset (option_map base_id (base_of state.now.types x.now.kind))) }
 {
     match state.type_named(&x.kind) {
-        Some(def) => words(alloc, base_word(def.base)),
+        Some(def) => words(alloc, def.base.id()),
         None => Ok(Value::Unset),
     }
 }

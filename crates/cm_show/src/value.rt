@@ -3,13 +3,12 @@ ghost use Rattle.std.specs.Prelude.{◌≡◌, ◌∷◌, decimal, IfOk, Option,
 ghost use Rattle.cm_base.specs.declared.value.Scalar.TheVariants.{Words};
 ghost use Rattle.cm_base.specs.declared.value.Value.TheVariants.{Unset};
 ghost use Rattle.cmis_spec.specs.Values.{words, texts};
-ghost use Rattle.cm_show.specs.Shown.{flag, words_or_unset, base_word};
+ghost use Rattle.cm_show.specs.Shown.{flag, words_or_unset};
 
 use cm_base::copies::Copies;
 use cm_base::items::Items;
 use cm_base::text::Text;
 use cm_base::value::{Scalar, Scalars, Value};
-use cm_types::definition::BaseType;
 use std::alloc::{AllocError, Global};
 
 pub(crate) fn flag(on: bool) -> Value
@@ -72,18 +71,5 @@ pub(crate) fn texts(alloc: Global, items: &[Text]) -> Result<Value, AllocError>
             let all = scalars(alloc, items)?;
             Ok(Value::Many(all))
         }
-    }
-}
-
-pub(crate) fn base_word(base: BaseType) -> &'static str
-    ensures { result.now ≡ base_word base }
-{
-    match base {
-        BaseType::Document => "cmis:document",
-        BaseType::Folder => "cmis:folder",
-        BaseType::Relationship => "cmis:relationship",
-        BaseType::Policy => "cmis:policy",
-        BaseType::Item => "cmis:item",
-        BaseType::Secondary => "cmis:secondary",
     }
 }

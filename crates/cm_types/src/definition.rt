@@ -1,5 +1,6 @@
 //! Definitions of types (CMIS 1.1, section 2.1.3.2).
 ghost use Rattle.std.specs.Prelude.{◌≡◌};
+ghost use Rattle.cm_types.specs.Changes.{base_id};
 
 use crate::property::PropDefs;
 use cm_base::copies::Copies;
@@ -16,6 +17,22 @@ pub enum BaseType {
     Policy,
     Item,
     Secondary,
+}
+
+impl BaseType {
+    /// The id of the base type.
+    pub fn id(self) -> &'static str
+        ensures { result.now ≡ base_id self }
+    {
+        match self {
+            BaseType::Document => "cmis:document",
+            BaseType::Folder => "cmis:folder",
+            BaseType::Relationship => "cmis:relationship",
+            BaseType::Policy => "cmis:policy",
+            BaseType::Item => "cmis:item",
+            BaseType::Secondary => "cmis:secondary",
+        }
+    }
 }
 
 /// Whether a document may, must or must not have content.

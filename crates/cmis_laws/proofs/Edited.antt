@@ -1,10 +1,10 @@
 -- An object changed in its place: its name, its values, its secondary types, its change token and its last change are others.
-use Rattle.std.specs.Prelude.{◌≡◌, ℕ, ◌≤◌, ◌<◌, Bool, true, false, not, ◌&&◌, if◌then◌else◌, ◌⊎◌, List, [], ◌∷◌, ◌++◌, map, find, count_by, All, Contains, Option, Some, None, IfSome, is_some, unwrap_or, option_map, option_and_then, bytes_eq, codes}
+use Rattle.std.specs.Prelude.{◌≡◌, ℕ, ◌≤◌, ◌<◌, Bool, true, false, not, ◌&&◌, if◌then◌else◌, ◌⊎◌, List, [], ◌∷◌, ◌++◌, map, count_by, All, Contains, Option, Some, None, IfSome, is_some, unwrap_or, option_map, option_and_then, bytes_eq, codes}
 use Rattle.std.specs.List.{list_any}
 use Rattle.std.proofs.Common.{refl, sym, ap, subst, ◌∙◌, inl, inr, ⊎_elim}
 use Rattle.std.proofs.lemmas.Bool.{both_ways}
 use Rattle.std.proofs.lemmas.Slice.Eq.{bytes_eq-Decides}
-use Rattle.std.proofs.lemmas.List.Elements.{All-head, All-tail, All-map, All-weaker, All-contains, All-contains_itself}
+use Rattle.std.proofs.lemmas.List.Elements.{All-map, All-weaker, All-contains, All-contains_itself}
 use Rattle.cm_base.specs.declared.number.Oid.{Oid}
 use Rattle.cm_base.specs.declared.object.Object.{Object}
 use Rattle.cm_base.specs.declared.series.Series.{Series}
@@ -20,7 +20,7 @@ use Rattle.cmis_spec.specs.Repository.{Repository, same, root, object_at, series
 use Rattle.cmis_spec.specs.Access.{oid_named}
 use Rattle.cmis_spec.specs.Changes.{edited, stepped, noted}
 use Rattle.cmis_spec.specs.Well.{Apart, IsThere, IsBaseAt, IsEntryAt, HasWay, IsPair, Differ, Belongs, members, IsMember, HasSome, IsAlone, is_plain, is_version, IsEnd, HasEnds, IsRendition, IsAccess, IsTyped, IsKept, IsWellFormed}
-use Rattle.cmis_laws.proofs.Lists.{by_test, none_some, some_eq, found_holds, same_eq, same_refl, all_zip, all_from_any, apart_weaker, apart_map}
+use Rattle.cmis_laws.proofs.Lists.{by_test, find_alike, bytes_turned, none_some, some_eq, found_holds, same_eq, same_refl, all_zip, all_from_any, apart_weaker, apart_map}
 use Rattle.cmis_laws.proofs.Entries.{not_both, number_found, all_there, one_there, kept_by_name}
 use Rattle.cmis_laws.proofs.Kept.{find_mapped}
 use Rattle.cmis_laws.proofs.Steps.{HasRoom, step_keeps, note_keeps}
@@ -46,17 +46,10 @@ record Alike (z v : Object) : Type 0 where
   series : v.series ≡ z.series
   named : is_some v.name ≡ is_some z.name
 
-find_like : {A : Type 0} (p q : A → Bool) (xs : List A) → All (λ x. p x ≡ q x) xs → find p xs ≡ find q xs
-find_like p q [] h = refl
-find_like p q (x ∷ xs) h = rw (All-head (λ x. p x ≡ q x) x xs h, find_like p q xs (All-tail (λ x. p x ≡ q x) x xs h)) refl
-
 third : (a b c : Bool) → a ≡ true → b ≡ true → a && b && c ≡ false → c ≡ false
 third true true c x y h = h
 third true false c x y h = absurd (both_ways false refl y)
 third false b c x y h = absurd (both_ways false refl x)
-
-bytes_turned : (xs ys : List ℕ) → bytes_eq xs ys ≡ false → bytes_eq ys xs ≡ false
-bytes_turned xs ys h = by_test (bytes_eq ys xs) (λ e. absurd (both_ways (bytes_eq xs ys) h ((bytes_eq-Decides xs ys).1 (sym ((bytes_eq-Decides ys xs).0 e))))) (λ e. e)
 
 bytes_self : (xs : List ℕ) → bytes_eq xs xs ≡ true
 bytes_self xs = (bytes_eq-Decides xs xs).1 refl
@@ -104,7 +97,7 @@ module _ (r : Repository) (x : Object) (change : Object → Object) (w : IsWellF
 
   object_put : (n : Oid) → object_at after n ≡ option_map put (object_at r n)
   object_put n = find_mapped put (λ z. same z.id n) r.objects
-      ∙ ap (option_map put) (find_like (λ z. same (put z).id n) (λ z. same z.id n) r.objects
+      ∙ ap (option_map put) (find_alike (λ z. same (put z).id n) (λ z. same z.id n) r.objects
       (All-weaker (λ z. object_at r z.id ≡ Some z) (λ z. same (put z).id n ≡ same z.id n) (λ z h. ap (λ i. same i n) (alike z h).id) r.objects all_found))
 
   object_found : (n : Oid) (z : Object) → object_at r n ≡ Some z → object_at after n ≡ Some (put z)

@@ -1,8 +1,9 @@
 -- Lists: what is found, what is apart, after an element more, a map and a filter.
-use Rattle.std.specs.Prelude.{◌≡◌, ◌+◌, ◌<◌, ◌≤◌, Bool, true, false, cond, List, [], ◌∷◌, ◌++◌, map, find, All, count_by, Some, None}
+use Rattle.std.specs.Prelude.{◌≡◌, ℕ, ◌+◌, ◌<◌, ◌≤◌, Bool, true, false, cond, List, [], ◌∷◌, ◌++◌, map, find, All, count_by, Some, None, bytes_eq}
 use Rattle.std.specs.List.{list_any}
 use Rattle.std.proofs.Common.{refl, sym, ap, subst, ◌∙◌, arith}
 use Rattle.std.proofs.lemmas.Bool.{eqb-true, eq-eqb, both_ways}
+use Rattle.std.proofs.lemmas.Slice.Eq.{bytes_eq-Decides}
 use Rattle.std.proofs.lemmas.List.Elements.{All-nil, All-cons, All-head, All-tail, All-push, All-map}
 use Rattle.std.proofs.lemmas.List.Sums.{sum_by-cons, sum_by_push}
 use Rattle.cm_base.specs.declared.number.Oid.{Oid}
@@ -30,6 +31,13 @@ find_yes p x xs h = rw h refl
 
 pub find_no : {A : Type 0} (p : A → Bool) (x : A) (xs : List A) → p x ≡ false → find p (x ∷ xs) ≡ find p xs
 find_no p x xs h = rw h refl
+
+pub find_alike : {A : Type 0} (p q : A → Bool) (xs : List A) → All (λ x. p x ≡ q x) xs → find p xs ≡ find q xs
+find_alike p q [] h = refl
+find_alike p q (x ∷ xs) h = rw (All-head (λ x. p x ≡ q x) x xs h, find_alike p q xs (All-tail (λ x. p x ≡ q x) x xs h)) refl
+
+pub bytes_turned : (xs ys : List ℕ) → bytes_eq xs ys ≡ false → bytes_eq ys xs ≡ false
+bytes_turned xs ys h = by_test (bytes_eq ys xs) (λ e. absurd (both_ways (bytes_eq xs ys) h ((bytes_eq-Decides xs ys).1 (sym ((bytes_eq-Decides ys xs).0 e))))) (λ e. e)
 
 pub none_some : {A : Type 0} (x : A) → None ≡ Some x → ⊥
 none_some x h = both_ways false refl (ap (λ o. elim o [ None ↦ false | Some y ↦ true ]) h)

@@ -3,7 +3,6 @@ use Rattle.std.specs.Prelude.{◌≡◌, ℕ, zero, suc, ◌+◌, ◌-◌, ◌�
 use Rattle.std.specs.List.{list_any}
 use Rattle.std.proofs.Common.{refl, sym, ap, subst, ◌∙◌, inl, inr, ⊎_elim, arith}
 use Rattle.std.proofs.lemmas.Bool.{both_ways, ltb-false}
-use Rattle.std.proofs.lemmas.Slice.Eq.{bytes_eq-Decides}
 use Rattle.std.proofs.lemmas.List.Elements.{All-map, All-weaker}
 use Rattle.cm_base.specs.declared.number.Oid.{Oid}
 use Rattle.cm_base.specs.declared.object.Object.{Object}
@@ -12,7 +11,7 @@ use Rattle.cm_types.specs.declared.definition.BaseType.TheVariants as bases
 use Rattle.cmis_spec.specs.Repository.{Repository, same, root, most_levels, levels_up, object_at, is_a, entry_of, entry_name, parent_in, upwards, is_filed, is_taken, is_under, depth_of}
 use Rattle.cmis_spec.specs.Changes.{refiled, moved}
 use Rattle.cmis_spec.specs.Well.{HasNumbers, IsBaseAt, IsEntryAt, Climbs, HasWay, HasRoot, HasWays, HasOneParent, HasPairs, IsPair, HasNames, Differ, Belongs, IsWellFormed}
-use Rattle.cmis_laws.proofs.Lists.{by_test, found_holds, none_some, same_eq, same_refl, differ, all_zip, all_from_any, apart_weaker, apart_map, count_cons}
+use Rattle.cmis_laws.proofs.Lists.{by_test, bytes_turned, found_holds, none_some, same_eq, same_refl, differ, all_zip, all_from_any, apart_weaker, apart_map, count_cons}
 use Rattle.cmis_laws.proofs.Tree.{climbs_beside, climbs_through, upwards_length}
 use Rattle.cmis_laws.proofs.Entries.{all_there, entry_folder, entry_other}
 use Rattle.cmis_laws.proofs.Paired.{way_of}
@@ -153,9 +152,6 @@ moved_cases n s t p = by_test (same p.folder s)
     (λ b. inl (same_eq p.folder s a, same_eq p.child n b, ap (λ q. q.folder) (refiled_one n s t p a b)))
     (λ b. inr (refiled_other n s t p b)))
     (λ a. inr (rw a refl))
-
-bytes_turned : (xs ys : List ℕ) → bytes_eq xs ys ≡ false → bytes_eq ys xs ≡ false
-bytes_turned xs ys h = by_test (bytes_eq ys xs) (λ e. absurd (both_ways (bytes_eq xs ys) h ((bytes_eq-Decides xs ys).1 (sym ((bytes_eq-Decides ys xs).0 e))))) (λ e. e)
 
 abbrev Free : Repository → Oid → Oid → Filed → Type 0
 Free r n t p = (same p.folder t && same p.child n ≡ false) × (same p.folder t && not (same p.child n) && bytes_eq (entry_name r p.child) (entry_name r n) ≡ false)

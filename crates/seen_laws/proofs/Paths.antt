@@ -2,7 +2,7 @@
 use Rattle.std.specs.Prelude.{◌≡◌, ℕ, zero, suc, ◌≤◌, Bool, true, false, ◌&&◌, ◌||◌, if◌then◌else◌, List, [], ◌∷◌, ◌++◌, map, filter, find, All, Option, Some, None, unwrap_or, option_map, codes, count_by}
 use Rattle.std.proofs.Common.{refl, sym, ap, subst, ◌∙◌, arith}
 use Rattle.std.proofs.lemmas.Bool.{both_ways}
-use Rattle.std.proofs.lemmas.List.Elements.{All-head, All-tail, All-weaker}
+use Rattle.std.proofs.lemmas.List.Elements.{All-weaker}
 use Rattle.cm_base.specs.declared.number.Oid.{Oid}
 use Rattle.cm_base.specs.declared.object.Object.{Object}
 use Rattle.cm_base.specs.declared.access.Level.TheVariants as levels
@@ -11,7 +11,7 @@ use Rattle.cmis_spec.specs.Repository.{Repository, same, root, levels_up, object
 use Rattle.cmis_spec.specs.Access.{is_at_least, level_by_list, reads, reads_up, read_at, parents_of}
 use Rattle.cmis_spec.specs.Seen.{Seen, seen, seen_object}
 use Rattle.cmis_spec.specs.Well.{Belongs, IsBaseAt, IsWellFormed}
-use Rattle.cmis_laws.proofs.Lists.{by_test, found_holds, same_eq}
+use Rattle.cmis_laws.proofs.Lists.{find_alike, by_test, found_holds, same_eq}
 use Rattle.cmis_laws.proofs.Entries.{all_there, number_found, not_both, entry_folder}
 use Rattle.cmis_laws.proofs.Moved.{parent_folder}
 use Rattle.seen_laws.proofs.Lists.{filed_in}
@@ -52,10 +52,6 @@ folder_read r u f k h =
     (id, (subst (λ m. object_at r m ≡ Some k.0) (sym id) k.1, folder_reads r u k.0 k.2 ∙ subst (λ g. reads_up levels_up r u g ≡ true) (sym id) h))
 
 -- ---- the parent
-
-find_alike : {A : Type 0} (p q : A → Bool) (xs : List A) → All (λ x. p x ≡ q x) xs → find p xs ≡ find q xs
-find_alike p q [] h = refl
-find_alike p q (x ∷ xs) h = rw (All-head (λ x. p x ≡ q x) x xs h, find_alike p q xs (All-tail (λ x. p x ≡ q x) x xs h)) refl
 
 first_passing : (q : Object → Bool) (xs : List Object) → first_of (map (λ y. y.id) (filter q xs)) ≡ option_map (λ y. y.id) (find q xs)
 first_passing q [] = refl

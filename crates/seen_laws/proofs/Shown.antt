@@ -9,6 +9,7 @@ use Rattle.cm_base.specs.declared.series.WorkingCopy.{WorkingCopy}
 use Rattle.cm_base.specs.declared.value.Value.TheVariants.{Unset}
 use Rattle.cm_types.specs.declared.definition.BaseType.TheVariants as bases
 use Rattle.cm_types.specs.declared.property.PropDef.{PropDef}
+use Rattle.cm_types.specs.Changes.{base_id}
 use Rattle.cm_types.specs.Types.{base_of, is_of_base, props_of}
 use Rattle.cm_types.specs.Properties.{value_in}
 use Rattle.cm_call.specs.declared.question.PropertyFilter.{PropertyFilter}
@@ -21,7 +22,7 @@ use Rattle.cmis_laws.proofs.Lists.{by_test, same_eq}
 use Rattle.cm_show.specs.declared.system.SystemProperty.{SystemProperty}
 use Rattle.cm_show.specs.declared.system.SystemProperty.TheVariants as properties
 use Rattle.cm_show.specs.System.{system_named}
-use Rattle.cm_show.specs.Shown.{base_word, checked_out_by, checked_out_id, content_of, flag, is_immutable, is_latest_major, is_latest_version, is_major, label_text, last_major, number, parent_value, passes, path_value, property_value, shown_defs, shown_object, shown_properties, shown_property, shown_slot, system_value, version_of, words_or_unset}
+use Rattle.cm_show.specs.Shown.{checked_out_by, checked_out_id, content_of, flag, is_immutable, is_latest_major, is_latest_version, is_major, label_text, last_major, number, parent_value, passes, path_value, property_value, shown_defs, shown_object, shown_properties, shown_property, shown_slot, system_value, version_of, words_or_unset}
 use Rattle.seen_laws.proofs.Lists.{map_same}
 use Rattle.seen_laws.proofs.Looks.{seen_name, first_of}
 use Rattle.seen_laws.proofs.Objects.{IsHere, here_read, read_here, sees_name}
@@ -145,7 +146,7 @@ module _ (r other : Repository) (u : List ℕ) (a : AreAlike r other u) (x : Obj
   system_alike : (p : SystemProperty) → system_value r u x p ≡ system_value other u x p
   system_alike properties.Name = ap words name_alike
   system_alike properties.ObjectId = refl
-  system_alike properties.BaseTypeId = ap (λ ts. words_or_unset (option_map base_word (base_of ts x.kind))) types_alike
+  system_alike properties.BaseTypeId = ap (λ ts. words_or_unset (option_map base_id (base_of ts x.kind))) types_alike
   system_alike properties.ObjectTypeId = refl
   system_alike properties.SecondaryObjectTypeIds = refl
   system_alike properties.CreatedBy = refl

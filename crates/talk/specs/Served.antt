@@ -1,12 +1,10 @@
 -- What a session needs of a machine, and what a request asks of it.
-use Rattle.std.specs.Prelude.{◌≡◌, ℕ, Bool, List, Result, Ok, Err}
+use Rattle.std.specs.Prelude.{ℕ, Bool, List, Result, Ok, Err}
 use Rattle.cm_base.specs.declared.cause.Cause.{Cause}
 use Rattle.cm_base.specs.declared.shown.Shown.{Shown}
 use Rattle.cm_base.specs.declared.user.User.{User}
 use Rattle.http_grammar.specs.Request.{Request}
 use Rattle.desk_model.specs.declared.entry.Entry.{Entry}
-use Rattle.cm_base.specs.declared.fail.Fail.{Fail}
-use Rattle.cm_base.specs.declared.fail.Fail.TheVariants.{Refused, Memory}
 use Rattle.talk.specs.declared.asked.Asked.{Asked}
 use Rattle.talk.specs.declared.asked.Asked.TheVariants.{Write, Question}
 use Rattle.http_grammar.specs.Request.{Head}
@@ -49,9 +47,3 @@ wire_of user least closes = record {
   least_of = least;
   closes = closes;
 }
-
--- reading something of a request: the answer is what is due, or that memory is wanted
-abbrev pub Judges : {A : Type 0} → Result A Cause → Result A Fail → Type 0
-Judges due (Ok x) = due ≡ Ok x
-Judges due (Err (Refused cause)) = due ≡ Err cause
-Judges due (Err Memory) = Unit {0}

@@ -6,7 +6,7 @@ ghost use Rattle.cm_base.specs.declared.shown.Shown.{Shown};
 ghost use Rattle.cm_base.specs.declared.user.User.{User};
 ghost use Rattle.desk_model.specs.declared.entry.Entry.{Entry};
 ghost use Rattle.talk.specs.declared.asked.Asked.{Asked};
-ghost use Rattle.talk.specs.Served.{Judges};
+ghost use Rattle.cm_base.specs.Judged.{Meets};
 
 use crate::asked::Asked;
 use cm_base::cause::Cause;
@@ -34,11 +34,11 @@ pub trait Served: Machine<Shown = Shown, Cause = Cause> {
 
     /// Reads a request into a call.
     fn call_of(alloc: Global, request: &Request) -> Result<Asked<Self::Call, Self::Question>, Fail>
-        ensures { Judges (call request.now) result };
+        ensures { Meets (λ x. x) result (call request.now) };
 
     /// Reads the user of a head.
     fn user_of(alloc: Global, head: &Head, users: &Users) -> Result<Text, Fail>
-        ensures { Judges (user head.now users.now) result };
+        ensures { Meets (λ x. x) result (user head.now users.now) };
 
     /// Reads the least step number that a head asks for.
     fn least_of(head: &Head) -> u64

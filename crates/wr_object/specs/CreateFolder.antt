@@ -19,14 +19,14 @@ use Rattle.cm_call.specs.declared.write.CreateFolder.{CreateFolder}
 use Rattle.cm_call.specs.declared.write.Write.TheVariants as writes
 use Rattle.cm_call.specs.declared.reply.Reply.{Reply}
 use Rattle.cm_call.specs.declared.reply.Reply.TheVariants as replies
-use Rattle.cm_call.specs.Weight.{weight_of}
+use Rattle.cm_call.specs.Weight.{bounded, weight_of}
 use Rattle.cm_show.specs.Addressed.{addressed}
 use Rattle.cm_show.specs.Shown.{shown_object}
 use Rattle.cmis_spec.specs.Repository.{Repository, root, most_levels, new_number, is_a, depth_of, is_taken}
 use Rattle.cmis_spec.specs.Access.{lacks}
 use Rattle.cmis_spec.specs.Values.{kept_beside}
 use Rattle.cmis_spec.specs.Changes.{stepped, noted, with_object, with_pair}
-use Rattle.wr_rules.specs.Rules.{bounded, judge_storage, name_in, type_id_in, secondary_in, unknown_type, has_other_secondary, bars_child, unread_cause, has_other_policy, policies_in, has_unknown_permission, has_entries, new_aces, defaults_cost}
+use Rattle.wr_rules.specs.Rules.{judge_storage, name_in, type_id_in, secondary_in, unknown_type, has_other_secondary, bars_child, unread_cause, has_other_policy, policies_in, has_unknown_permission, has_entries, new_aces, defaults_cost}
 
 -- ---- words of the call
 

@@ -1,5 +1,5 @@
 -- What the refusals and effects of writes share.
-use Rattle.std.specs.Prelude.{ℕ, ◌+◌, ◌-◌, ◌^◌, nat_lt, min, sum, Bool, ◌&&◌, not, if◌then◌else◌, List, [], ◌∷◌, map, filter, filter_map, length, Option, Some, None, is_none, bytes_eq, codes}
+use Rattle.std.specs.Prelude.{ℕ, ◌+◌, nat_lt, sum, Bool, ◌&&◌, not, if◌then◌else◌, List, [], ◌∷◌, map, filter, filter_map, length, Option, Some, None, is_none, bytes_eq, codes}
 use Rattle.std.specs.List.{list_any, flat_map}
 use Rattle.cm_base.specs.declared.number.Oid.{Oid}
 use Rattle.cm_base.specs.declared.object.Object.{Object}
@@ -24,10 +24,6 @@ use Rattle.cmis_spec.specs.Repository.{Repository, most_steps, most_cost, is_a}
 use Rattle.cmis_spec.specs.Access.{read_named}
 
 -- ---- limits
-
--- a number that is kept in 64 bits; a greater one counts as the greatest
-abbrev pub bounded : ℕ → ℕ
-bounded n = min n (2 ^ 64 - 1)
 
 -- the steps, and then the bytes
 abbrev pub judge_storage : Repository → ℕ → Judged (Unit {0})

@@ -1,6 +1,6 @@
 use Rattle.std.proofs.Common.{◌<◌, length, arith}
 use Rattle.cm_types.specs.Properties.{scalar_of_text}
-use Rattle.cm_rules.proofs.Lists.{filter_map_more}
+use Rattle.cm_types.proofs.Lists.{filter_map_more}
 use Rattle.cm_rules.proofs.text.scalars_of_texts.Goals as goal
 
 pub loop-text-preserved : goal.loop-text-preserved

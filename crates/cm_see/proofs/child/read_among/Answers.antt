@@ -1,6 +1,6 @@
 use Rattle.std.proofs.Common.{◌<◌, length}
 use Rattle.cmis_spec.specs.Access.{read_at}
-use Rattle.cm_see.proofs.Children.{filter_map_more}
+use Rattle.cm_types.proofs.Lists.{filter_map_more}
 use Rattle.cm_see.proofs.child.read_among.Goals as goal
 
 pub loop-n-preserved : goal.loop-n-preserved

@@ -1,5 +1,6 @@
 use Rattle.std.proofs.Common.{◌≡◌, ◌+◌, take}
-use Rattle.wr_rules.specs.Rules.{bounded, defaults_cost}
+use Rattle.cm_call.specs.Weight.{bounded}
+use Rattle.wr_rules.specs.Rules.{defaults_cost}
 use Rattle.wr_rules.proofs.costs.with_defaults.Given as goal
 
 abbrev pub invariant-loop-def : goal.invariant-loop-def

@@ -1,6 +1,7 @@
 use Rattle.std.proofs.Common.{◌≡◌, ◌+◌, map, take}
 use Rattle.std.specs.Prelude.{sum}
-use Rattle.wr_rules.specs.Rules.{bounded, scalar_cost}
+use Rattle.cm_call.specs.Weight.{bounded}
+use Rattle.wr_rules.specs.Rules.{scalar_cost}
 use Rattle.wr_rules.proofs.costs.with_scalars.Given as goal
 
 abbrev pub invariant-loop-scalar : goal.invariant-loop-scalar
