@@ -16,7 +16,8 @@ use cm_types::given::{Given, PropertyCall};
 use cm_types::property::{PropDef, PropDefs, PropertyKind};
 use std::alloc::{AllocError, Global};
 
-fn is_set(value: &Value) -> bool
+/// Whether a value is set.
+pub fn is_set(value: &Value) -> bool
     ensures { result ≡ is_set value.now }
 {
     match value {

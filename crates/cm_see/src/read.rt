@@ -96,7 +96,8 @@ fn reads_value(state: &State, user: &Text, value: &Value) -> bool
     }
 }
 
-fn find_slot<'a>(slots: &'a [Slot], id: &str) -> Option<&'a Slot>
+/// The slot of a property. Takes no memory.
+pub fn find_slot<'a>(slots: &'a [Slot], id: &str) -> Option<&'a Slot>
     ensures { option_copied result ≡ find (λ s. bytes_eq s.id id.now) slots.now }
 {
     slots.iter().find(|s| s.id.is_str(id))

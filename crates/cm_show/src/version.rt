@@ -1,16 +1,17 @@
 //! Where a document stands in its version series (CMIS 1.1, section 2.1.13). Nothing here takes memory but a label's text.
 ghost use Rattle.std.specs.Prelude.{◌≡◌, decimal, find, if◌then◌else◌, IfOk, Option, Some, None, option_map};
 ghost use Rattle.std.specs.Option.{option_copied};
-ghost use Rattle.cmis_spec.specs.Repository.{same, is_latest};
+ghost use Rattle.cmis_spec.specs.Repository.{same};
 ghost use Rattle.cm_show.specs.Shown.{version_of, is_major, last_major, is_latest_version, is_major_version, is_latest_major, is_immutable, label_text, checked_out_by, checked_out_id, words_or_unset, label_of};
 
 use crate::value::words;
 use cm_base::number::Oid;
 use cm_base::object::Object;
-use cm_base::series::{DocumentVersion, Label, Series};
+use cm_base::series::{DocumentVersion, Label};
 use cm_base::text::Text;
 use cm_base::value::{Scalar, Value};
 use cm_see::read::read_at;
+use cm_state::look::is_latest;
 use cm_state::state::State;
 use std::alloc::{AllocError, Global};
 
@@ -34,15 +35,6 @@ fn is_major(version: &DocumentVersion) -> bool
 {
     match version.label {
         Some(label) => label.minor == 0,
-        None => false,
-    }
-}
-
-fn is_latest(series: &Series, n: Oid) -> bool
-    ensures { result ≡ is_latest series.now n }
-{
-    match series.versions.as_slice().last() {
-        Some(version) => version.object == n,
         None => false,
     }
 }

@@ -22,7 +22,8 @@ use cm_types::definition::{BaseType, TypeDef};
 use std::alloc::{AllocError, Global};
 use std::sync::ledger::Ledger;
 
-fn is_last(series: &Series, n: Oid) -> bool
+/// Whether the object is the latest version of the series (CMIS 1.1, section 2.1.13.1). Takes no memory.
+pub fn is_latest(series: &Series, n: Oid) -> bool
     ensures { result ≡ is_latest series.now n }
 {
     match series.versions.as_slice().last() {
@@ -147,7 +148,7 @@ impl State {
         ensures { result ≡ stands self.now x.now }
     {
         match self.series_of(x) {
-            Some(series) => is_last(series, x.id),
+            Some(series) => is_latest(series, x.id),
             None => true,
         }
     }

@@ -23,11 +23,12 @@ use cm_base::items::Items;
 use cm_base::number::{Moment, Oid};
 use cm_base::object::Object;
 use cm_base::text::Text;
-use cm_base::value::{Slot, Value, Values};
+use cm_base::value::{Slot, Values};
 use cm_call::question::PropertyFilter;
 use cm_call::reply::{ObjectReply, Reply};
 use cm_call::weight::weight_of_create_folder;
 use cm_call::write::CreateFolder;
+use cm_rules::kept::is_set;
 use cm_show::address::addressed;
 use cm_show::shown::shown_object;
 use cm_state::state::State;
@@ -121,15 +122,6 @@ fn is_apart(id: &Text) -> bool
     id.is_str("cmis:name")
         || id.is_str("cmis:objectTypeId")
         || id.is_str("cmis:secondaryObjectTypeIds")
-}
-
-fn is_set(value: &Value) -> bool
-    ensures { result ≡ is_set value.now }
-{
-    match value {
-        Value::Unset => false,
-        _ => true,
-    }
 }
 
 fn is_beside(slot: &Slot) -> bool

@@ -1,6 +1,5 @@
 //! The types that a call names.
-ghost use Rattle.std.specs.Prelude.{◌≡◌, ◌&&◌, not, IfOk, is_none, bytes_eq, find, nat_lt, length};
-ghost use Rattle.std.specs.Option.{option_copied};
+ghost use Rattle.std.specs.Prelude.{◌≡◌, ◌&&◌, not, IfOk, is_none, nat_lt, length};
 ghost use Rattle.std.specs.List.{list_any};
 ghost use Rattle.cm_base.specs.Judged.{first_cause};
 ghost use Rattle.cm_types.specs.Types.{type_in, is_below};
@@ -10,7 +9,8 @@ ghost use Rattle.wr_rules.specs.Named.{is_below_scalar};
 use cm_base::cause::Cause;
 use cm_base::object::Object;
 use cm_base::text::Text;
-use cm_base::value::{Scalar, Slot, Value};
+use cm_base::value::{Scalar, Value};
+use cm_see::read::find_slot;
 use cm_state::state::State;
 use cm_type_list::types::Types;
 use std::alloc::{AllocError, Global};
@@ -81,12 +81,6 @@ fn bars(types: &Types, kind: &Text, value: &Value) -> bool
         Value::One(scalar) => bars_scalar(types, kind, scalar),
         Value::Many(scalars) => bars_by(types, kind, scalars.as_slice()),
     }
-}
-
-fn find_slot<'a>(slots: &'a [Slot], id: &str) -> Option<&'a Slot>
-    ensures { option_copied result ≡ find (λ s. bytes_eq s.id id.now) slots.now }
-{
-    slots.iter().find(|s| s.id.is_str(id))
 }
 
 /// Whether the folder bars children of the type (cmis:allowedChildObjectTypeIds, CMIS 1.1, section 2.1.5.4.2). Takes no memory.
