@@ -1,15 +1,15 @@
 //! Reading constants and lists of them.
-ghost use Rattle.std.specs.Prelude.{◌≡◌, [], ◌∷◌, IfOk};
 ghost use Rattle.ql_grammar.specs.Grammar as grammar;
 ghost use Rattle.ql_grammar.specs.Reads.{Reads, IsStart};
 
+use crate::parts::alone;
 use crate::reader::{at, at_number, at_quoted, digits, moment, none_begins, past, quoted, word};
 use crate::stop::Stop;
 use cm_base::items::Items;
 use ql_lex::token::Token;
 use ql_lex::word::Word;
 use ql_tree::tree::Literal;
-use std::alloc::{AllocError, Global};
+use std::alloc::Global;
 
 /// `FALSE | TIMESTAMP text`
 fn false_or_time<'a>(
@@ -93,15 +93,7 @@ pub fn literal<'a>(
     if at_literal(tokens) {
         return served_literal(alloc, tokens);
     }
-    Err(none_begins(tokens))
-}
-
-fn one_literal(alloc: Global, literal: Literal) -> Result<Items<Literal>, AllocError>
-    ensures { IfOk result (λ xs. xs ≡ literal ∷ []) }
-{
-    let mut found = Items::new(alloc);
-    found.push(literal)?;
-    Ok(found)
+    Err(Stop::At(none_begins(tokens)))
 }
 
 fn literals<'a>(
@@ -111,7 +103,7 @@ fn literals<'a>(
     ensures { Reads (grammar.list_of grammar.literal) (λ x. (x.0, x.1.now)) tokens.now result }
 {
     let (begin, mut rest) = literal(alloc, tokens)?;
-    let mut found = one_literal(alloc, begin)?;
+    let mut found = alone(alloc, begin)?;
     'commas: loop {
         match past(rest, Word::Comma) {
             Some(after) => {

@@ -1,5 +1,4 @@
 //! Reading columns and aliases.
-ghost use Rattle.std.specs.Prelude.{◌≡◌};
 ghost use Rattle.ql_grammar.specs.Grammar as grammar;
 ghost use Rattle.ql_grammar.specs.Reads.{Reads, IsStart};
 

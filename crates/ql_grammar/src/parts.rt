@@ -1,7 +1,10 @@
 //! Parts of trees, as they are read before the whole is known.
+ghost use Rattle.std.specs.Prelude.{◌≡◌, [], ◌∷◌, IfOk};
+
 use cm_base::items::Items;
 use cm_base::text::Text;
 use ql_tree::tree::{Comparison, Literal};
+use std::alloc::{AllocError, Global};
 
 /// What may stand behind the first name of an item.
 #[derive(Drop)]
@@ -35,4 +38,13 @@ pub struct Among {
 pub struct Placed {
     pub table: Option<Text>,
     pub text: Text,
+}
+
+/// The list of one item, to which more are added as they are read.
+pub fn alone<T: Drop>(alloc: Global, item: T) -> Result<Items<T>, AllocError>
+    ensures { IfOk result (λ xs. xs ≡ item ∷ []) }
+{
+    let mut found = Items::new(alloc);
+    found.push(item)?;
+    Ok(found)
 }

@@ -5,7 +5,7 @@ ghost use Rattle.ql_grammar.specs.Grammar as grammar;
 ghost use Rattle.ql_grammar.specs.Reads.{Reads, Finds, IsPast, IsSplit, IsNoBeginning, IsStart};
 
 use crate::plain::plain_text;
-use crate::stop::Stop;
+use crate::stop::{Halt, Stop};
 use cm_base::text::Text;
 use ql_lex::token::{Kind, Piece, Token};
 use ql_lex::word::{Word, is_left_out};
@@ -56,12 +56,26 @@ pub fn at<'a>(tokens: &'a [Token<'a>], word: Word) -> bool
 }
 
 /// The tokens after a word that must stand at the front.
-pub fn word<'a>(tokens: &'a [Token<'a>], word: Word) -> Result<&'a [Token<'a>], Stop<'a>>
+pub fn word<'a>(tokens: &'a [Token<'a>], word: Word) -> Result<&'a [Token<'a>], Halt<'a>>
     ensures { Finds (grammar.keyword word) (λ x. (tt {0}, x.now)) tokens.now result }
 {
     match past(tokens, word) {
         Some(rest) => Ok(rest),
-        None => Err(Stop::Here(tokens)),
+        None => Err(Halt::Here(tokens)),
+    }
+}
+
+/// What a word that must stand at the front stands for.
+pub fn meaning<'a, A: Copy>(
+    tokens: &'a [Token<'a>],
+    word: Word,
+    value: A,
+) -> Result<(A, &'a [Token<'a>]), Halt<'a>>
+    ensures { Finds (grammar.meaning word value) (λ x. (x.0, x.1.now)) tokens.now result }
+{
+    match past(tokens, word) {
+        Some(rest) => Ok((value, rest)),
+        None => Err(Halt::Here(tokens)),
     }
 }
 
@@ -159,30 +173,30 @@ pub fn at_number<'a>(tokens: &'a [Token<'a>]) -> bool
 }
 
 /// Why nothing can begin here that the language has: the token is one that it leaves out, or any other.
-pub fn none_begins<'a>(tokens: &'a [Token<'a>]) -> Stop<'a>
+pub fn none_begins<'a>(tokens: &'a [Token<'a>]) -> Halt<'a>
     ensures { IsNoBeginning tokens.now result }
 {
     match split(tokens) {
         Some((token, _)) => {
             if is_left_out_token(token) {
-                Stop::LeftOut(tokens)
+                Halt::LeftOut(tokens)
             } else {
-                Stop::Here(tokens)
+                Halt::Here(tokens)
             }
         }
-        None => Stop::Here(tokens),
+        None => Halt::Here(tokens),
     }
 }
 
-fn name_at<'a>(tokens: &'a [Token<'a>]) -> Result<(&'a str, &'a [Token<'a>]), Stop<'a>>
-    ensures { Reads grammar.name (λ x. (x.0.now, x.1.now)) tokens.now result }
+fn name_at<'a>(tokens: &'a [Token<'a>]) -> Result<(&'a str, &'a [Token<'a>]), Halt<'a>>
+    ensures { Finds grammar.name (λ x. (x.0.now, x.1.now)) tokens.now result }
 {
     match split(tokens) {
         Some((token, rest)) => match name_of(token) {
             Some(text) => Ok((text, rest)),
-            None => Err(Stop::Here(tokens)),
+            None => Err(Halt::Here(tokens)),
         },
-        None => Err(Stop::Here(tokens)),
+        None => Err(Halt::Here(tokens)),
     }
 }
 
@@ -194,15 +208,15 @@ pub fn name<'a>(alloc: Global, tokens: &'a [Token<'a>]) -> Result<(Text, &'a [To
     Ok((Text::from_str(alloc, text)?, rest))
 }
 
-fn plain_at<'a>(tokens: &'a [Token<'a>]) -> Result<(&'a str, &'a [Token<'a>]), Stop<'a>>
-    ensures { Reads grammar.plain_name (λ x. (x.0.now, x.1.now)) tokens.now result }
+fn plain_at<'a>(tokens: &'a [Token<'a>]) -> Result<(&'a str, &'a [Token<'a>]), Halt<'a>>
+    ensures { Finds grammar.plain_name (λ x. (x.0.now, x.1.now)) tokens.now result }
 {
     match split(tokens) {
         Some((token, rest)) => match plain_of(token) {
             Some(text) => Ok((text, rest)),
-            None => Err(Stop::Here(tokens)),
+            None => Err(Halt::Here(tokens)),
         },
-        None => Err(Stop::Here(tokens)),
+        None => Err(Halt::Here(tokens)),
     }
 }
 
@@ -217,15 +231,15 @@ pub fn plain<'a>(
     Ok((Text::from_str(alloc, text)?, rest))
 }
 
-fn pattern_at<'a>(tokens: &'a [Token<'a>]) -> Result<(&'a str, &'a [Token<'a>]), Stop<'a>>
-    ensures { Reads grammar.pattern (λ x. (x.0.now, x.1.now)) tokens.now result }
+fn pattern_at<'a>(tokens: &'a [Token<'a>]) -> Result<(&'a str, &'a [Token<'a>]), Halt<'a>>
+    ensures { Finds grammar.pattern (λ x. (x.0.now, x.1.now)) tokens.now result }
 {
     match split(tokens) {
         Some((token, rest)) => match quoted_of(token) {
             Some(text) => Ok((text, rest)),
-            None => Err(Stop::Here(tokens)),
+            None => Err(Halt::Here(tokens)),
         },
-        None => Err(Stop::Here(tokens)),
+        None => Err(Halt::Here(tokens)),
     }
 }
 
@@ -240,15 +254,15 @@ pub fn pattern<'a>(
     Ok((Text::from_str(alloc, raw)?, rest))
 }
 
-fn digits_at<'a>(tokens: &'a [Token<'a>]) -> Result<(&'a str, &'a [Token<'a>]), Stop<'a>>
-    ensures { Reads grammar.number (λ x. (x.0.now, x.1.now)) tokens.now result }
+fn digits_at<'a>(tokens: &'a [Token<'a>]) -> Result<(&'a str, &'a [Token<'a>]), Halt<'a>>
+    ensures { Finds grammar.number (λ x. (x.0.now, x.1.now)) tokens.now result }
 {
     match split(tokens) {
         Some((token, rest)) => match number_of(token) {
             Some(text) => Ok((text, rest)),
-            None => Err(Stop::Here(tokens)),
+            None => Err(Halt::Here(tokens)),
         },
-        None => Err(Stop::Here(tokens)),
+        None => Err(Halt::Here(tokens)),
     }
 }
 
@@ -293,8 +307,8 @@ pub fn moment<'a>(
                     rest,
                 ))
             }
-            None => Err(Stop::Here(tokens)),
+            None => Err(Stop::At(Halt::Here(tokens))),
         },
-        None => Err(Stop::Here(tokens)),
+        None => Err(Stop::At(Halt::Here(tokens))),
     }
 }

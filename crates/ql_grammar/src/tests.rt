@@ -1,13 +1,13 @@
 //! Reading tests: conditions without AND, OR, NOT and parentheses.
 ghost use Rattle.std.specs.Prelude.{◌≡◌, true, false};
 ghost use Rattle.ql_grammar.specs.Grammar as grammar;
-ghost use Rattle.ql_grammar.specs.Reads.{Reads, IsStart};
+ghost use Rattle.ql_grammar.specs.Reads.{Reads, Finds, IsStart};
 
 use crate::literals::{at_literal, in_list, literal, served_literal};
 use crate::names::{column, test_column};
 use crate::parts::{Among, Placed, TestRest};
-use crate::reader::{at, at_name, at_plain, name, past, pattern, quoted, word};
-use crate::stop::Stop;
+use crate::reader::{at, at_name, at_plain, meaning, name, past, pattern, quoted, word};
+use crate::stop::{Halt, Stop};
 use cm_base::text::Text;
 use ql_lex::token::Token;
 use ql_lex::word::Word;
@@ -23,24 +23,18 @@ fn like<'a>(alloc: Global, tokens: &'a [Token<'a>]) -> Result<(Text, &'a [Token<
 }
 
 /// `[NOT] NULL`
-fn nullness<'a>(tokens: &'a [Token<'a>]) -> Result<(bool, &'a [Token<'a>]), Stop<'a>>
-    ensures { Reads grammar.nullness (λ x. (x.0, x.1.now)) tokens.now result }
+fn nullness<'a>(tokens: &'a [Token<'a>]) -> Result<(bool, &'a [Token<'a>]), Halt<'a>>
+    ensures { Finds grammar.nullness (λ x. (x.0, x.1.now)) tokens.now result }
 {
     match past(tokens, Word::Not) {
-        Some(rest) => {
-            let rest = word(rest, Word::Null)?;
-            Ok((true, rest))
-        }
-        None => {
-            let rest = word(tokens, Word::Null)?;
-            Ok((false, rest))
-        }
+        Some(rest) => meaning(rest, Word::Null, true),
+        None => meaning(tokens, Word::Null, false),
     }
 }
 
 /// `IS [NOT] NULL`
-fn is_null<'a>(tokens: &'a [Token<'a>]) -> Result<(TestRest, &'a [Token<'a>]), Stop<'a>>
-    ensures { Reads grammar.is_null (λ x. (x.0, x.1.now)) tokens.now result }
+fn is_null<'a>(tokens: &'a [Token<'a>]) -> Result<(TestRest, &'a [Token<'a>]), Halt<'a>>
+    ensures { Finds grammar.is_null (λ x. (x.0, x.1.now)) tokens.now result }
 {
     let rest = word(tokens, Word::Is)?;
     let (negated, rest) = nullness(rest)?;
@@ -48,21 +42,18 @@ fn is_null<'a>(tokens: &'a [Token<'a>]) -> Result<(TestRest, &'a [Token<'a>]), S
 }
 
 /// `<= | >=`
-fn at_most<'a>(tokens: &'a [Token<'a>]) -> Result<(Comparison, &'a [Token<'a>]), Stop<'a>>
-    ensures { Reads grammar.at_most (λ x. (x.0, x.1.now)) tokens.now result }
+fn at_most<'a>(tokens: &'a [Token<'a>]) -> Result<(Comparison, &'a [Token<'a>]), Halt<'a>>
+    ensures { Finds grammar.at_most (λ x. (x.0, x.1.now)) tokens.now result }
 {
     match past(tokens, Word::LessEqual) {
         Some(rest) => Ok((Comparison::LessEqual, rest)),
-        None => {
-            let rest = word(tokens, Word::GreaterEqual)?;
-            Ok((Comparison::GreaterEqual, rest))
-        }
+        None => meaning(tokens, Word::GreaterEqual, Comparison::GreaterEqual),
     }
 }
 
 /// `> | <= | >=`
-fn greater<'a>(tokens: &'a [Token<'a>]) -> Result<(Comparison, &'a [Token<'a>]), Stop<'a>>
-    ensures { Reads grammar.greater (λ x. (x.0, x.1.now)) tokens.now result }
+fn greater<'a>(tokens: &'a [Token<'a>]) -> Result<(Comparison, &'a [Token<'a>]), Halt<'a>>
+    ensures { Finds grammar.greater (λ x. (x.0, x.1.now)) tokens.now result }
 {
     match past(tokens, Word::Greater) {
         Some(rest) => Ok((Comparison::Greater, rest)),
@@ -71,8 +62,8 @@ fn greater<'a>(tokens: &'a [Token<'a>]) -> Result<(Comparison, &'a [Token<'a>]),
 }
 
 /// `< | > | <= | >=`
-fn less<'a>(tokens: &'a [Token<'a>]) -> Result<(Comparison, &'a [Token<'a>]), Stop<'a>>
-    ensures { Reads grammar.less (λ x. (x.0, x.1.now)) tokens.now result }
+fn less<'a>(tokens: &'a [Token<'a>]) -> Result<(Comparison, &'a [Token<'a>]), Halt<'a>>
+    ensures { Finds grammar.less (λ x. (x.0, x.1.now)) tokens.now result }
 {
     match past(tokens, Word::Less) {
         Some(rest) => Ok((Comparison::Less, rest)),
@@ -81,8 +72,8 @@ fn less<'a>(tokens: &'a [Token<'a>]) -> Result<(Comparison, &'a [Token<'a>]), St
 }
 
 /// `<> | < | > | <= | >=`
-fn unequal<'a>(tokens: &'a [Token<'a>]) -> Result<(Comparison, &'a [Token<'a>]), Stop<'a>>
-    ensures { Reads grammar.unequal (λ x. (x.0, x.1.now)) tokens.now result }
+fn unequal<'a>(tokens: &'a [Token<'a>]) -> Result<(Comparison, &'a [Token<'a>]), Halt<'a>>
+    ensures { Finds grammar.unequal (λ x. (x.0, x.1.now)) tokens.now result }
 {
     match past(tokens, Word::NotEqual) {
         Some(rest) => Ok((Comparison::NotEqual, rest)),
@@ -91,8 +82,8 @@ fn unequal<'a>(tokens: &'a [Token<'a>]) -> Result<(Comparison, &'a [Token<'a>]),
 }
 
 /// `= | <> | < | > | <= | >=`
-fn comparison<'a>(tokens: &'a [Token<'a>]) -> Result<(Comparison, &'a [Token<'a>]), Stop<'a>>
-    ensures { Reads grammar.comparison (λ x. (x.0, x.1.now)) tokens.now result }
+fn comparison<'a>(tokens: &'a [Token<'a>]) -> Result<(Comparison, &'a [Token<'a>]), Halt<'a>>
+    ensures { Finds grammar.comparison (λ x. (x.0, x.1.now)) tokens.now result }
 {
     match past(tokens, Word::Equal) {
         Some(rest) => Ok((Comparison::Equal, rest)),
@@ -138,7 +129,8 @@ fn positive<'a>(
     if at_among_or_like(tokens) {
         return among_or_like(alloc, false, tokens);
     }
-    is_null(tokens)
+    let (test, rest) = is_null(tokens)?;
+    Ok((test, rest))
 }
 
 /// Whether IN or LIKE stands at the front.

@@ -7,8 +7,8 @@ use Rattle.ql_lex.specs.declared.word.Word.TheVariants as words
 use Rattle.ql_lex.specs.declared.token.Token.{Token}
 use Rattle.ql_tree.specs.declared.tree.Cond.{Cond}
 use Rattle.ql_grammar.specs.Grammar as g
-use Rattle.ql_grammar.specs.Reads.{Stopped, IsNoBeginning}
-use Rattle.ql_grammar.specs.declared.stop.Stop.{Stop}
+use Rattle.ql_grammar.specs.Reads.{Halted, IsNoBeginning}
+use Rattle.ql_grammar.specs.declared.stop.Halt.{Halt}
 use Rattle.ql_grammar.proofs.Exits.{nothing_begins}
 use Rattle.ql_grammar.proofs.Facts.{simple_standing}
 use Rattle.ql_grammar.proofs.Levels.{test_standing, served_test_choice, negated_choice}
@@ -31,10 +31,10 @@ module _ (ts : List Token) where
       choice_right (served_test_choice d) (standing_in (test_standing d) (whole_within (g.level (suc d)).test ts) (starts_right (g.group (g.cond d)).first g.simple.first ts begins)) stop
 
   -- no test begins
-  pub no_test : (d : ℕ) (e : Stop) → (d ≡ 0) ⊎ Stops (g.keyword words.Open).first ts → Stops g.simple.first ts → IsNoBeginning ts e → Stopped (g.level d).test ts e
-  no_test zero e h stop none = nothing_begins simple_standing ts e stop none
-  no_test (suc d) e (inl f) stop none = absurd cc
-  no_test (suc d) e (inr h) stop none = nothing_begins (test_standing d) ts e (stops_both (g.group (g.cond d)).first g.simple.first ts h stop) none
+  pub no_test : (d : ℕ) (halt : Halt) → (d ≡ 0) ⊎ Stops (g.keyword words.Open).first ts → Stops g.simple.first ts → IsNoBeginning ts halt → Halted (g.level d).test ts halt
+  no_test zero halt h stop none = nothing_begins simple_standing ts halt stop none
+  no_test (suc d) halt (inl f) stop none = absurd cc
+  no_test (suc d) halt (inr h) stop none = nothing_begins (test_standing d) ts halt (stops_both (g.group (g.cond d)).first g.simple.first ts h stop) none
 
   -- NOT
   pub denied : (d below : ℕ) → d ≡ suc below → Starts (g.keyword words.Not).first ts → Within (g.level d).negated (g.not_then (g.level below).test) (λ x. x) ts ts

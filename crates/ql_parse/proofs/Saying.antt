@@ -13,6 +13,7 @@ use Rattle.ql_lex.specs.declared.token.Token.{Token}
 use Rattle.ql_tree.specs.declared.tree.Query.{Query}
 use Rattle.ql_grammar.specs.Grammar as g
 use Rattle.ql_parse.specs.Wholes.{IsLeftWord, IsWhole, IsRefusal}
+use Rattle.ql_grammar.specs.declared.stop.Halt.TheVariants as halts
 use Rattle.ql_grammar.specs.declared.stop.Stop.{Stop}
 use Rattle.ql_grammar.specs.declared.stop.Stop.TheVariants as stops
 use Rattle.ql_parse.specs.Texts.{longest, deepest, Spells, GoesWrong, RunsOver, LeftOut, Says, Refuses, offset, left_word}
@@ -130,17 +131,17 @@ module _ (text : List ℕ) (ts : List Token) (lexed : Lexes longest 0 text ts) w
   -- what is answered where reading stopped
   pub stopped_refuses : (stop : Stop) (e : Fail) → IsWhole (g.query deepest) ts (Err stop) → IsRefusal (length text) stop e → Refuses text e
   stopped_refuses stops.Memory e fault h = let P : Fail → Type 0 = Refuses text in subst P (sym h) tt
-  stopped_refuses (stops.Here rest) e fault h =
+  stopped_refuses (stops.At (halts.Here rest)) e fault h =
       let P : Fail → Type 0 = Refuses text in
       subst P (sym h) (inl (min (offset (length text) rest.now) longest, inl (rest.now, goes_wrong false rest.now fault, refl), refl))
-  stopped_refuses (stops.LeftOut rest) e fault (inl h) = let P : Fail → Type 0 = Refuses text in subst P (sym h) tt
-  stopped_refuses (stops.LeftOut rest) e fault (inr (word, left, h)) = let P : Fail → Type 0 = Refuses text in subst P (sym h) (inr (word, left_out rest.now fault word left, refl))
+  stopped_refuses (stops.At (halts.LeftOut rest)) e fault (inl h) = let P : Fail → Type 0 = Refuses text in subst P (sym h) tt
+  stopped_refuses (stops.At (halts.LeftOut rest)) e fault (inr (word, left, h)) = let P : Fail → Type 0 = Refuses text in subst P (sym h) (inr (word, left_out rest.now fault word left, refl))
 
   pub stopped_meets : (stop : Stop) (e : Fail) → IsWhole (g.query deepest) ts (Err stop) → IsRefusal (length text) stop e → (judged : Judged Query) → Says text judged → Meets {X = Query} (λ q. q) (Err e) judged
   stopped_meets stops.Memory e fault h judged says = let P : Fail → Type 0 = λ f. Fails f judged in subst P (sym h) tt
-  stopped_meets (stops.Here rest) e fault h judged says = let P : Fail → Type 0 = λ f. Fails f judged in subst P (sym h) (only_fault rest.now fault judged says)
-  stopped_meets (stops.LeftOut rest) e fault (inl h) judged says = let P : Fail → Type 0 = λ f. Fails f judged in subst P (sym h) tt
-  stopped_meets (stops.LeftOut rest) e fault (inr (word, left, h)) judged says = let P : Fail → Type 0 = λ f. Fails f judged in subst P (sym h) (only_left rest.now fault word left judged says)
+  stopped_meets (stops.At (halts.Here rest)) e fault h judged says = let P : Fail → Type 0 = λ f. Fails f judged in subst P (sym h) (only_fault rest.now fault judged says)
+  stopped_meets (stops.At (halts.LeftOut rest)) e fault (inl h) judged says = let P : Fail → Type 0 = λ f. Fails f judged in subst P (sym h) tt
+  stopped_meets (stops.At (halts.LeftOut rest)) e fault (inr (word, left, h)) judged says = let P : Fail → Type 0 = λ f. Fails f judged in subst P (sym h) (only_left rest.now fault word left judged says)
 
   -- and where a query was read
   module _ (q : Query) (w : (g.query deepest).is ts q × ((other : Query) → (g.query deepest).is ts other → other ≡ q)) where

@@ -67,7 +67,7 @@ fn test<'a>(
             if at_simple(tokens) {
                 return simple(alloc, tokens);
             }
-            Err(none_begins(tokens))
+            Err(Stop::At(none_begins(tokens)))
         }
     }
 }

@@ -1,27 +1,24 @@
 //! Reading what rows are ordered by.
-ghost use Rattle.std.specs.Prelude.{◌≡◌, [], ◌∷◌, IfOk};
 ghost use Rattle.ql_grammar.specs.Grammar as grammar;
-ghost use Rattle.ql_grammar.specs.Reads.{Reads, IsStart};
+ghost use Rattle.ql_grammar.specs.Reads.{Reads, Finds, IsStart};
 
 use cm_base::items::Items;
 use ql_grammar::names::column;
-use ql_grammar::reader::{at, past, word};
-use ql_grammar::stop::Stop;
+use ql_grammar::parts::alone;
+use ql_grammar::reader::{at, meaning, past, word};
+use ql_grammar::stop::{Halt, Stop};
 use ql_lex::token::Token;
 use ql_lex::word::Word;
 use ql_tree::tree::Key;
-use std::alloc::{AllocError, Global};
+use std::alloc::Global;
 
 /// `ASC | DESC`: whether DESC is said.
-fn direction<'a>(tokens: &'a [Token<'a>]) -> Result<(bool, &'a [Token<'a>]), Stop<'a>>
-    ensures { Reads grammar.direction (λ x. (x.0, x.1.now)) tokens.now result }
+fn direction<'a>(tokens: &'a [Token<'a>]) -> Result<(bool, &'a [Token<'a>]), Halt<'a>>
+    ensures { Finds grammar.direction (λ x. (x.0, x.1.now)) tokens.now result }
 {
     match past(tokens, Word::Asc) {
         Some(rest) => Ok((false, rest)),
-        None => {
-            let rest = word(tokens, Word::Desc)?;
-            Ok((true, rest))
-        }
+        None => meaning(tokens, Word::Desc, true),
     }
 }
 
@@ -56,14 +53,6 @@ fn key<'a>(alloc: Global, tokens: &'a [Token<'a>]) -> Result<(Key, &'a [Token<'a
     ))
 }
 
-fn one_key(alloc: Global, key: Key) -> Result<Items<Key>, AllocError>
-    ensures { IfOk result (λ xs. xs ≡ key ∷ []) }
-{
-    let mut found = Items::new(alloc);
-    found.push(key)?;
-    Ok(found)
-}
-
 /// `key {, key}`
 fn keys<'a>(
     alloc: Global,
@@ -72,7 +61,7 @@ fn keys<'a>(
     ensures { Reads (grammar.list_of grammar.key) (λ x. (x.0, x.1.now)) tokens.now result }
 {
     let (begin, mut rest) = key(alloc, tokens)?;
-    let mut found = one_key(alloc, begin)?;
+    let mut found = alone(alloc, begin)?;
     'commas: loop {
         match past(rest, Word::Comma) {
             Some(after) => {

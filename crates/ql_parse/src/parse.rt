@@ -12,7 +12,7 @@ use crate::query::whole;
 use cm_base::cause::Cause;
 use cm_base::fail::Fail;
 use cm_base::text::Text;
-use ql_grammar::stop::Stop;
+use ql_grammar::stop::{Halt, Stop};
 use ql_lex::token::{Kind, Token};
 use ql_lex::tokens::tokens;
 use ql_tree::tree::Query;
@@ -70,8 +70,8 @@ fn refusal(alloc: Global, text: &Text, stop: Stop<'_>) -> Fail
 {
     match stop {
         Stop::Memory => Fail::Memory,
-        Stop::Here(rest) => Fail::Refused(Cause::QueryText(place(text.len(), rest))),
-        Stop::LeftOut(rest) => match left_out_word(alloc, rest) {
+        Stop::At(Halt::Here(rest)) => Fail::Refused(Cause::QueryText(place(text.len(), rest))),
+        Stop::At(Halt::LeftOut(rest)) => match left_out_word(alloc, rest) {
             Ok(word) => Fail::Refused(Cause::QueryLeft(word)),
             Err(_) => Fail::Memory,
         },

@@ -10,7 +10,7 @@ use crate::order::order;
 use crate::select::{selection, table};
 use cm_base::items::Items;
 use ql_grammar::reader::{at, past, split, word};
-use ql_grammar::stop::Stop;
+use ql_grammar::stop::{Halt, Stop};
 use ql_lex::token::Token;
 use ql_lex::word::Word;
 use ql_tree::tree::{Cond, Key, Query, Selection, Table};
@@ -128,6 +128,6 @@ pub fn whole<'a>(alloc: Global, tokens: &'a [Token<'a>]) -> Result<Query, Stop<'
     let (found, rest) = front(alloc, tokens)?;
     match split(rest) {
         None => Ok(found),
-        Some(_) => Err(Stop::Here(rest)),
+        Some(_) => Err(Stop::At(Halt::Here(rest))),
     }
 }

@@ -1,18 +1,18 @@
 //! Reading what a query shows, and its table.
-ghost use Rattle.std.specs.Prelude.{◌≡◌, [], ◌∷◌, IfOk};
+ghost use Rattle.std.specs.Prelude.{◌≡◌};
 ghost use Rattle.ql_grammar.specs.Grammar as grammar;
 ghost use Rattle.ql_grammar.specs.Reads.{Reads, IsStart};
 
 use cm_base::items::Items;
 use cm_base::text::Text;
 use ql_grammar::names::{alias, at_alias};
-use ql_grammar::parts::ItemRest;
+use ql_grammar::parts::{ItemRest, alone};
 use ql_grammar::reader::{at, at_plain, name, none_begins, past, plain};
 use ql_grammar::stop::Stop;
 use ql_lex::token::Token;
 use ql_lex::word::Word;
 use ql_tree::tree::{Column, Item, Selection, Table};
-use std::alloc::{AllocError, Global};
+use std::alloc::Global;
 
 /// `name [[AS] name]`, behind a point.
 fn dotted<'a>(
@@ -118,7 +118,7 @@ fn item<'a>(alloc: Global, tokens: &'a [Token<'a>]) -> Result<(Item, &'a [Token<
     if at_plain(tokens) {
         return served_item(alloc, tokens);
     }
-    Err(none_begins(tokens))
+    Err(Stop::At(none_begins(tokens)))
 }
 
 fn items<'a>(
@@ -128,7 +128,7 @@ fn items<'a>(
     ensures { Reads (grammar.list_of grammar.item) (λ x. (x.0, x.1.now)) tokens.now result }
 {
     let (begin, mut rest) = item(alloc, tokens)?;
-    let mut found = one_item(alloc, begin)?;
+    let mut found = alone(alloc, begin)?;
     'commas: loop {
         match past(rest, Word::Comma) {
             Some(after) => {
@@ -139,14 +139,6 @@ fn items<'a>(
             None => return Ok((found, rest)),
         }
     }
-}
-
-fn one_item(alloc: Global, item: Item) -> Result<Items<Item>, AllocError>
-    ensures { IfOk result (λ xs. xs ≡ item ∷ []) }
-{
-    let mut found = Items::new(alloc);
-    found.push(item)?;
-    Ok(found)
 }
 
 /// `* | item {, item}`
@@ -195,5 +187,5 @@ pub fn table<'a>(
     if at_plain(tokens) {
         return served_table(alloc, tokens);
     }
-    Err(none_begins(tokens))
+    Err(Stop::At(none_begins(tokens)))
 }

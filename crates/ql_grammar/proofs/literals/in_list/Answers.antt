@@ -1,24 +1,24 @@
-use Rattle.grammar_rules.proofs.Within.{second}
+use Rattle.grammar_rules.proofs.Within.{second, stuck_first}
 use Rattle.ql_grammar.specs.Grammar as g
-use Rattle.ql_grammar.proofs.Exits.{exit, halted, start, out, out_first}
+use Rattle.ql_grammar.proofs.Exits.{exit, halted, start, stopped}
 use Rattle.ql_grammar.proofs.Facts.{closed_literals_joint, group_literals_joint, in_list_joint}
 use Rattle.ql_grammar.proofs.literals.in_list.Goals as goal
 
 pub returns-in_err-rest : goal.returns-in_err-rest
-returns-in_err-rest c = exit g.in_list (λ x. (x.0, x.1.now)) c.args.tokens.now _ _ c.from_residual.ensures.1
-    (out_first in_list_joint (start g.in_list c.args.tokens.now) _ (halted _ _ _ c.in_err-rest.ensures))
+returns-in_err-rest c = exit _ _ _ _ _ c.from_residual.ensures.1
+    (halted (stuck_first in_list_joint (start g.in_list c.args.tokens.now)) _ c.in_err-rest.ensures)
 
 pub returns-in_err-rest-2 : goal.returns-in_err-rest-2
-returns-in_err-rest-2 c = exit g.in_list (λ x. (x.0, x.1.now)) c.args.tokens.now _ _ c.from_residual-in_err-rest-2.ensures.1
-    (out_first group_literals_joint (second in_list_joint (start g.in_list c.args.tokens.now) c.in_ok-rest.ensures) _ (halted _ _ _ c.in_err-rest-2.ensures))
+returns-in_err-rest-2 c = exit _ _ _ _ _ c.from_residual-in_err-rest-2.ensures.1
+    (halted (stuck_first group_literals_joint (second in_list_joint (start g.in_list c.args.tokens.now) c.in_ok-rest.ensures)) _ c.in_err-rest-2.ensures)
 
 pub returns-in_err-found : goal.returns-in_err-found
-returns-in_err-found c = exit g.in_list (λ x. (x.0, x.1.now)) c.args.tokens.now _ _ c.from_residual-in_err-found.ensures.1
-    (out_first closed_literals_joint (second group_literals_joint (second in_list_joint (start g.in_list c.args.tokens.now) c.in_ok-rest.ensures) c.in_ok-rest-2.ensures) _ c.in_err-found.ensures)
+returns-in_err-found c = exit _ _ _ _ _ c.from_residual-in_err-found.ensures.1
+    (stopped (stuck_first closed_literals_joint (second group_literals_joint (second in_list_joint (start g.in_list c.args.tokens.now) c.in_ok-rest.ensures) c.in_ok-rest-2.ensures)) _ c.in_err-found.ensures)
 
 pub returns-in_err-rest-3 : goal.returns-in_err-rest-3
-returns-in_err-rest-3 c = exit g.in_list (λ x. (x.0, x.1.now)) c.args.tokens.now _ _ c.from_residual-in_err-rest-3.ensures.1
-    (out (second closed_literals_joint (second group_literals_joint (second in_list_joint (start g.in_list c.args.tokens.now) c.in_ok-rest.ensures) c.in_ok-rest-2.ensures) c.in_ok-found.ensures) _ (halted _ _ _ c.in_err-rest-3.ensures))
+returns-in_err-rest-3 c = exit _ _ _ _ _ c.from_residual-in_err-rest-3.ensures.1
+    (halted (second closed_literals_joint (second group_literals_joint (second in_list_joint (start g.in_list c.args.tokens.now) c.in_ok-rest.ensures) c.in_ok-rest-2.ensures) c.in_ok-found.ensures).stuck _ c.in_err-rest-3.ensures)
 
 pub returns : goal.returns
 returns c = (second closed_literals_joint (second group_literals_joint (second in_list_joint (start g.in_list c.args.tokens.now) c.in_ok-rest.ensures) c.in_ok-rest-2.ensures) c.in_ok-found.ensures).took _ _ c.in_ok-rest-3.ensures

@@ -1,7 +1,6 @@
-use Rattle.std.proofs.Common.{refl}
 use Rattle.grammar_rules.proofs.Within.{choice_left, choice_right, inside}
 use Rattle.ql_grammar.specs.Grammar as g
-use Rattle.ql_grammar.proofs.Exits.{start, last}
+use Rattle.ql_grammar.proofs.Exits.{start, last_found}
 use Rattle.ql_grammar.proofs.Facts.{less_choice}
 use Rattle.ql_lex.specs.declared.word.Word.TheVariants as words
 use Rattle.ql_tree.specs.declared.tree.Comparison.TheVariants as comparisons
@@ -11,4 +10,4 @@ pub returns-in-Some : goal.returns-in-Some
 returns-in-Some c = (inside (g.keyword words.Less) (λ _. comparisons.Less) (choice_left less_choice (start g.less c.args.tokens.now) c.in-Some.ensures.0)).took _ _ c.in-Some.ensures.1
 
 pub returns-in-None : goal.returns-in-None
-returns-in-None c = last (choice_right less_choice (start g.less c.args.tokens.now) c.in-None.ensures) (λ x. (x.0, x.1.now)) (λ x. (x.0, x.1.now)) (λ x. refl) c.greater.result c.greater.ensures
+returns-in-None c = last_found (choice_right less_choice (start g.less c.args.tokens.now) c.in-None.ensures) _ _ c.greater.ensures

@@ -1,24 +1,24 @@
-use Rattle.grammar_rules.proofs.Within.{second}
+use Rattle.grammar_rules.proofs.Within.{second, stuck_first}
 use Rattle.ql_grammar.specs.Grammar as g
-use Rattle.ql_grammar.proofs.Exits.{exit, halted, start, out, out_first}
+use Rattle.ql_grammar.proofs.Exits.{exit, halted, start, stopped}
 use Rattle.ql_grammar.proofs.Facts.{any_column_joint, equal_any_joint, of_literal_joint}
 use Rattle.ql_grammar.proofs.tests.of_literal.Goals as goal
 
 pub returns-in_err-constant : goal.returns-in_err-constant
-returns-in_err-constant c = exit g.of_literal (λ x. (x.0, x.1.now)) c.args.tokens.now _ _ c.from_residual.ensures.1
-    (out_first of_literal_joint (start g.of_literal c.args.tokens.now) _ c.in_err-constant.ensures)
+returns-in_err-constant c = exit _ _ _ _ _ c.from_residual.ensures.1
+    (stopped (stuck_first of_literal_joint (start g.of_literal c.args.tokens.now)) _ c.in_err-constant.ensures)
 
 pub returns-in_err-rest : goal.returns-in_err-rest
-returns-in_err-rest c = exit g.of_literal (λ x. (x.0, x.1.now)) c.args.tokens.now _ _ c.from_residual-in_err-rest.ensures.1
-    (out_first equal_any_joint (second of_literal_joint (start g.of_literal c.args.tokens.now) c.in_ok-constant.ensures) _ (halted _ _ _ c.in_err-rest.ensures))
+returns-in_err-rest c = exit _ _ _ _ _ c.from_residual-in_err-rest.ensures.1
+    (halted (stuck_first equal_any_joint (second of_literal_joint (start g.of_literal c.args.tokens.now) c.in_ok-constant.ensures)) _ c.in_err-rest.ensures)
 
 pub returns-in_err-rest-2 : goal.returns-in_err-rest-2
-returns-in_err-rest-2 c = exit g.of_literal (λ x. (x.0, x.1.now)) c.args.tokens.now _ _ c.from_residual-in_err-rest-2.ensures.1
-    (out_first any_column_joint (second equal_any_joint (second of_literal_joint (start g.of_literal c.args.tokens.now) c.in_ok-constant.ensures) c.in_ok-rest.ensures) _ (halted _ _ _ c.in_err-rest-2.ensures))
+returns-in_err-rest-2 c = exit _ _ _ _ _ c.from_residual-in_err-rest-2.ensures.1
+    (halted (stuck_first any_column_joint (second equal_any_joint (second of_literal_joint (start g.of_literal c.args.tokens.now) c.in_ok-constant.ensures) c.in_ok-rest.ensures)) _ c.in_err-rest-2.ensures)
 
 pub returns-in_err-found : goal.returns-in_err-found
-returns-in_err-found c = exit g.of_literal (λ x. (x.0, x.1.now)) c.args.tokens.now _ _ c.from_residual-in_err-found.ensures.1
-    (out (second any_column_joint (second equal_any_joint (second of_literal_joint (start g.of_literal c.args.tokens.now) c.in_ok-constant.ensures) c.in_ok-rest.ensures) c.in_ok-rest-2.ensures) _ c.in_err-found.ensures)
+returns-in_err-found c = exit _ _ _ _ _ c.from_residual-in_err-found.ensures.1
+    (stopped (second any_column_joint (second equal_any_joint (second of_literal_joint (start g.of_literal c.args.tokens.now) c.in_ok-constant.ensures) c.in_ok-rest.ensures) c.in_ok-rest-2.ensures).stuck _ c.in_err-found.ensures)
 
 pub returns : goal.returns
 returns c = (second any_column_joint (second equal_any_joint (second of_literal_joint (start g.of_literal c.args.tokens.now) c.in_ok-constant.ensures) c.in_ok-rest.ensures) c.in_ok-rest-2.ensures).took _ _ c.in_ok-found.ensures

@@ -1,4 +1,3 @@
-use Rattle.std.proofs.Common.{refl}
 use Rattle.grammar_rules.proofs.Within.{standing_in}
 use Rattle.ql_grammar.specs.Grammar as g
 use Rattle.ql_grammar.proofs.Exits.{start, last, nothing_begins}
@@ -6,7 +5,7 @@ use Rattle.ql_grammar.proofs.Facts.{table_standing}
 use Rattle.ql_parse.proofs.select.table.Goals as goal
 
 pub returns-then-at_plain : goal.returns-then-at_plain
-returns-then-at_plain c = last (standing_in table_standing (start g.table c.args.tokens.now) c.if-at_plain.ensures) (λ x. (x.0, x.1.now)) (λ x. (x.0, x.1.now)) (λ x. refl) c.served_table.result c.served_table.ensures
+returns-then-at_plain c = last (standing_in table_standing (start g.table c.args.tokens.now) c.if-at_plain.ensures) _ _ c.served_table.ensures
 
 pub returns : goal.returns
 returns c = nothing_begins table_standing c.args.tokens.now _ c.if-at_plain.ensures c.none_begins.ensures
