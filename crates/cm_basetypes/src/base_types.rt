@@ -7,12 +7,12 @@ ghost use Rattle.cm_basetypes.specs.BaseTypes.{common_props, version_props, cont
 use crate::props::{common_props, document_props, folder_props, policy_props, relationship_props};
 use cm_base::items::Items;
 use cm_base::text::Text;
-use cm_type_list::changes::base_id;
-use cm_type_list::placed::sorted_props;
 use cm_type_list::types::Types;
 use cm_types::definition::{BaseType, ContentAllowed, TypeDef, TypeDefs, TypeMutability};
 use cm_types::property::PropDefs;
 use std::alloc::{AllocError, Global};
+use type_requests::changes::base_id;
+use type_requests::placed::sorted_props;
 
 fn base_def(
     alloc: Global,

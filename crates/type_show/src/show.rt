@@ -8,13 +8,13 @@ ghost use Rattle.type_show.specs.Showing.{text_field, flag_field, scalar_data, c
 
 use cm_base::text::Text;
 use cm_base::value::Scalar;
-use cm_type_list::changes::base_id;
 use cm_types::definition::{BaseType, TypeDef, TypeMutability};
 use cm_types::fault::scalars_of;
 use cm_types::property::{Choice, PropDef, PropertyKind};
 use json_text::tree::{Elements, Fields, Json};
 use std::alloc::{AllocError, Global};
-use type_json::word::Worded;
+use type_keys::word::Worded;
+use type_requests::changes::base_id;
 
 fn put_texts(alloc: Global, fields: &mut Fields, texts: &[(&str, &Text)]) -> Result<(), AllocError>
     ensures { OnOk result (fields_of fields.new ≡ fold with_field (fields_of fields.old) (map text_field texts.now)) }
