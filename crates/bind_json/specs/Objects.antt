@@ -8,7 +8,7 @@ use Rattle.cm_call.specs.declared.reply.Properties.{Properties}
 use Rattle.cm_call.specs.declared.reply.Properties.TheVariants as shown
 use Rattle.cm_call.specs.declared.reply.ShownObject.{ShownObject}
 use Rattle.json_text.specs.Values.{value_data}
-use Rattle.bind_json.specs.Words.{kind_word, cardinality_word}
+use Rattle.type_keys.specs.Words.{kind_word, cardinality_word}
 
 -- a property in full
 unfoldable pub property_data : ShownProperty → Data

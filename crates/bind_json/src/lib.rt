@@ -7,4 +7,3 @@ pub mod objects;
 pub mod replies;
 #[cfg(test)]
 mod tests;
-pub mod words;

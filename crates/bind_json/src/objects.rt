@@ -4,12 +4,12 @@ ghost use Rattle.json_text.specs.Shown.{data_of};
 ghost use Rattle.json_text.specs.Build.{object_data};
 ghost use Rattle.bind_json.specs.Objects.{property_data, properties_data, values_data, shown_data};
 
-use crate::words::{cardinality_word, kind_word};
 use cm_base::value::Slot;
 use cm_call::reply::{Properties, ShownObject, ShownProperty};
 use json_text::tree::{Fields, Json};
 use json_text::values::value_json;
 use std::alloc::{AllocError, Global};
+use type_keys::word::Worded;
 
 #[tactic(auto, unfolding(crate::specs::Objects::property_data))]
 fn property_json(alloc: Global, property: &ShownProperty) -> Result<Json, AllocError>
@@ -32,11 +32,11 @@ fn property_json(alloc: Global, property: &ShownProperty) -> Result<Json, AllocE
         "queryName",
         Json::text(alloc, property.query_name.as_str())?,
     )?;
-    fields.put(alloc, "type", Json::text(alloc, kind_word(property.kind))?)?;
+    fields.put(alloc, "type", Json::text(alloc, property.kind.word())?)?;
     fields.put(
         alloc,
         "cardinality",
-        Json::text(alloc, cardinality_word(property.cardinality))?,
+        Json::text(alloc, property.cardinality.word())?,
     )?;
     fields.put(alloc, "value", value_json(alloc, &property.value)?)?;
     Ok(Json::object(fields))

@@ -7,12 +7,11 @@ ghost use Rattle.cm_basetypes.specs.BaseTypes.{common_props, version_props, cont
 use crate::props::{common_props, document_props, folder_props, policy_props, relationship_props};
 use cm_base::items::Items;
 use cm_base::text::Text;
-use cm_type_list::changes::base_id;
-use cm_type_list::placed::sorted_props;
 use cm_type_list::types::Types;
 use cm_types::definition::{BaseType, ContentAllowed, TypeDef, TypeDefs, TypeMutability};
 use cm_types::property::PropDefs;
 use std::alloc::{AllocError, Global};
+use type_requests::placed::sorted_props;
 
 fn base_def(
     alloc: Global,
@@ -26,7 +25,7 @@ fn base_def(
 ) -> Result<TypeDef, AllocError>
     ensures { IfOk result (λ t. t ≡ base_def base creatable fileable usable versionable content_allowed properties) }
 {
-    let id = base_id(base);
+    let id = base.id();
     let sorted = sorted_props(alloc, properties.as_slice())?;
     Ok(TypeDef {
         id: Text::from_str(alloc, id)?,

@@ -1,5 +1,2 @@
-mod Clashing
 mod Firsting
-mod Keyed
 mod Looping
-mod Pointwise

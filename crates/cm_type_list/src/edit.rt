@@ -1,116 +1,28 @@
 //! What createType, updateType and deleteType make of the list of types (CMIS 1.1, sections 2.2.2.6 to 2.2.2.8).
-ghost use Rattle.std.specs.Prelude.{◌≡◌, ◌||◌, ◌++◌, OnOk, IfOk, nat_le, length, option_and_then};
+ghost use Rattle.std.specs.Prelude.{◌≡◌, ◌||◌, IfOk, nat_le, length, option_and_then};
 ghost use Rattle.std.specs.Option.{option_copied};
 ghost use Rattle.std.specs.List.{list_any};
 ghost use Rattle.cm_base.specs.Judged.{Meets};
 ghost use Rattle.cm_types.specs.Types.{type_in, chain, longest_chain, is_child_type};
-ghost use Rattle.cm_types.specs.Changes.{placed_type, without_type, sorted_types, lacks_parent, is_taken, text_or, is_given_as, breaks_attribute_rule, breaks_type_rule, breaks_def_rule, has_wrong_value, is_wrongly_ordered, is_taken_prop, gives_many, judge_below, judge_change_of, judge_removal_of, judge_new_type, judge_with_type, breaks_change_rule, judge_changed_type, judge_with_change, judge_removed_type, judge_without_type, new_props, changed_type, base_id, made_props};
+ghost use Rattle.cm_types.specs.Changes.{placed_type, without_type, sorted_types, lacks_parent, is_taken, breaks_type_rule, breaks_def_rule, is_taken_prop, judge_below, judge_change_of, judge_removal_of, judge_new_type, judge_with_type, breaks_change_rule, judge_changed_type, judge_with_change, judge_removed_type, judge_without_type, new_props, made_props};
 
-use crate::changes::{base_id, changes_attributes, changes_old_props};
-use crate::clash::has_clash;
-use crate::made::{changed_type, is_new, is_secondary, made_new, made_prop, made_type};
-use crate::placed::sorted_props;
-use crate::rules::{gives_many, has_wrong_value, is_wrongly_ordered};
 use crate::scan::{has_child, is_name_taken, is_prop_taken};
 use crate::types::{Types, longest_chain};
 use cm_base::cause::Cause;
 use cm_base::copies::Copies;
 use cm_base::fail::Fail;
-use cm_base::items::Items;
 use cm_base::text::Text;
 use cm_types::definition::{TypeDef, TypeDefs};
-use cm_types::property::{PropDef, PropDefs};
-use cm_types::request::{PropRequest, TypeRequest};
+use cm_types::property::PropDef;
+use cm_types::request::TypeRequest;
 use std::alloc::{AllocError, Global};
-
-fn are_wrong(defs: &[PropDef]) -> bool
-    ensures { result ≡ list_any has_wrong_value defs.now }
-{
-    defs.iter().any(|d| has_wrong_value(d))
-}
-
-fn are_wrongly_ordered(defs: &[PropDef]) -> bool
-    ensures { result ≡ list_any is_wrongly_ordered defs.now }
-{
-    defs.iter().any(|d| is_wrongly_ordered(d))
-}
-
-fn give_many(requests: &[PropRequest]) -> bool
-    ensures { result ≡ list_any gives_many requests.now }
-{
-    requests.iter().any(|r| gives_many(r))
-}
-
-fn new_give_many(defs: &[PropDef], requests: &[PropRequest]) -> bool
-    ensures { result ≡ list_any gives_many (new_props defs.now requests.now) }
-{
-    requests
-        .iter()
-        .filter(|r| is_new(defs, *r))
-        .any(|r| gives_many(r))
-}
-
-fn are_required(defs: &[PropDef]) -> bool
-    ensures { result ≡ list_any (λ d. d.required) defs.now }
-{
-    defs.iter().any(|d| d.required)
-}
-
-fn is_given_as(flag: bool, given: Option<bool>) -> bool
-    ensures { result ≡ is_given_as flag given }
-{
-    match given {
-        Some(given) => flag == given,
-        None => false,
-    }
-}
-
-fn breaks_attribute_rule(parent: &TypeDef, request: &TypeRequest) -> bool
-    ensures { result ≡ breaks_attribute_rule parent.now request.now }
-{
-    is_given_as(!parent.fileable, request.fileable)
-        || is_secondary(parent.base) && is_given_as(true, request.creatable)
-        || is_given_as(true, request.fulltext_indexed)
-}
-
-fn query_name_of(request: &TypeRequest) -> &Text
-    ensures { result.now ≡ text_or request.now.id request.now.query_name }
-{
-    match &request.query_name {
-        Some(name) => name,
-        None => &request.id,
-    }
-}
-
-fn made_all(alloc: Global, requests: &[PropRequest]) -> Result<PropDefs, AllocError>
-    ensures { IfOk result (λ all. all ≡ made_props requests.now) }
-{
-    let mut all = Items::new(alloc);
-    for request in requests {
-        let def = made_prop(alloc, request)?;
-        all.push(def)?;
-    }
-    Ok(all)
-}
-
-fn add_copies(alloc: Global, all: &mut PropDefs, defs: &[PropDef]) -> Result<(), AllocError>
-    ensures { OnOk result (all.new ≡ all.old ++ defs.now) }
-{
-    for def in defs {
-        let copy = def.copied(alloc)?;
-        all.push(copy)?;
-    }
-    Ok(())
-}
-
-fn joined(alloc: Global, first: &[PropDef], second: &[PropDef]) -> Result<PropDefs, AllocError>
-    ensures { IfOk result (λ all. all ≡ first.now ++ second.now) }
-{
-    let mut all = Items::new(alloc);
-    add_copies(alloc, &mut all, first)?;
-    add_copies(alloc, &mut all, second)?;
-    Ok(all)
-}
+use type_requests::changes::{base_id, changes_attributes, changes_old_props};
+use type_requests::clash::has_clash;
+use type_requests::made::{changed_type, made_all, made_new, made_type, query_name_of};
+use type_requests::placed::{joined, sorted_props};
+use type_requests::rules::{
+    are_required, are_wrong, are_wrongly_ordered, breaks_attribute_rule, give_many, new_give_many,
+};
 
 impl Types {
     // With the type in its place, instead of one of its id.
@@ -211,7 +123,7 @@ impl Types {
         requires { made.now ≡ made_props request.now.properties }
         ensures { IfOk result (λ b. b ≡ breaks_type_rule self.now parent.now request.now) }
     {
-        if !request.base.is_str(base_id(parent.base))
+        if !request.base.is_str(parent.base.id())
             || self.has_full_chain(parent)
             || breaks_attribute_rule(parent, request)
             || give_many(request.properties.as_slice())

@@ -3,12 +3,6 @@
 
 ghost use Rattle.std.specs.Prelude.{◌≡◌};
 
-pub mod changes;
-pub mod clash;
 pub mod edit;
-pub mod made;
-pub mod placed;
-pub mod rules;
-pub mod same;
 pub mod scan;
 pub mod types;

@@ -4,14 +4,14 @@ ghost use Rattle.std.specs.List.{list_any};
 ghost use Rattle.map_keys.specs.Parts.{pointee};
 ghost use Rattle.cm_types.specs.Types.{is_child_type};
 ghost use Rattle.cm_types.specs.Changes.{clashes};
-ghost use Rattle.cm_type_list.specs.Keys.{values_of};
+ghost use Rattle.type_requests.specs.Keys.{values_of};
 
-use crate::rules::clashes;
 use cm_base::text::Text;
 use cm_map::map::Map;
 use cm_types::definition::TypeDef;
 use cm_types::property::PropDef;
 use std::alloc::{AllocError, Global};
+use type_requests::rules::clashes;
 
 fn either(a: bool, b: bool) -> bool
     ensures { result ≡ (a || b) }

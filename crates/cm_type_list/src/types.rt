@@ -6,7 +6,7 @@ ghost use Rattle.cm_types.specs.Types.{type_in, chain_of, chain, is_below, is_be
 ghost use denote.Ref.{Bor};
 ghost use Rattle.map_keys.specs.Parts.{pointee};
 ghost use Rattle.cm_type_list.specs.Firsts.{with_first};
-ghost use Rattle.cm_type_list.specs.Keys.{IsKeyed, values_of};
+ghost use Rattle.type_requests.specs.Keys.{IsKeyed, values_of};
 
 use crate::scan::all_of;
 use cm_base::copies::Copies;
@@ -14,9 +14,10 @@ use cm_base::items::Items;
 use cm_base::text::Text;
 use cm_map::map::Map;
 use cm_types::definition::TypeDef;
-use cm_types::property::{PropDef, PropDefs};
+use cm_types::property::PropDefs;
 use std::alloc::{AllocError, Global};
 use std::marker::Model;
+use type_requests::placed::add_copies;
 
 #[tactic(auto, unfolding(cm_types::specs::Types::longest_chain))]
 pub(crate) fn longest_chain() -> u64
@@ -60,22 +61,12 @@ fn first_of_each<'a>(alloc: Global, all: &[&'a TypeDef]) -> Result<Vec<&'a TypeD
     Ok(types)
 }
 
-fn add_props(all: &mut PropDefs, defs: &[PropDef], alloc: Global) -> Result<(), AllocError>
-    ensures { OnOk result (all.new ≡ all.old ++ defs.now) }
-{
-    for def in defs {
-        let copy = def.copied(alloc)?;
-        all.push(copy)?;
-    }
-    Ok(())
-}
-
 fn props_in(alloc: Global, types: &[&TypeDef]) -> Result<PropDefs, AllocError>
     ensures { IfOk result (λ all. all ≡ flat_map (λ t. t.properties) (map pointee types.now)) }
 {
     let mut all = Items::new(alloc);
     for def in types {
-        add_props(&mut all, def.properties.as_slice(), alloc)?;
+        add_copies(alloc, &mut all, def.properties.as_slice())?;
     }
     Ok(all)
 }
@@ -91,7 +82,7 @@ pub struct Types {
 impl Model for Types {
     ghost use Rattle.std.specs.Prelude.{ℕ, List};
     ghost use Rattle.cm_types.specs.declared.definition.TypeDef.{TypeDef};
-    ghost use Rattle.cm_type_list.specs.Keys.{IsKeyed, values_of};
+    ghost use Rattle.type_requests.specs.Keys.{IsKeyed, values_of};
 
     ghost Value = { List TypeDef };
 

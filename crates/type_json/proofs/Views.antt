@@ -1,30 +1,18 @@
 -- Arrays and objects seen as lists.
-use Rattle.std.proofs.Common.{◌≡◌, ◌∙◌, sym, ◌+◌, ◌<◌, Bool, ◌&&◌, ◌||◌, List, [], ◌∷◌, ◌++◌, map, take, length, get_or, refl, ap}
+use Rattle.std.proofs.Common.{◌≡◌, ◌∙◌, sym, ◌+◌, ◌<◌, Bool, ◌||◌, List, [], ◌∷◌, ◌++◌, map, take, length, get_or, refl, ap}
 use Rattle.std.specs.Prelude.{ℕ, Option, filter_map, string_bytes, String}
 use Rattle.std.proofs.lemmas.List.{take_more, map-append}
 use Rattle.std.proofs.lemmas.List.Elements.{filter_map-append}
-use Rattle.std.specs.List.{list_all, list_any, cons_option}
+use Rattle.std.specs.List.{list_any}
 use Rattle.std.specs.declared.alloc.Global.{Global}
 use Rattle.serde_json.specs.Data.{Data}
 use Rattle.serde_json.specs.View.{view, items_view, members_view}
 use Rattle.serde_json.specs.declared.value.Value.{Value}
-use Rattle.type_json.specs.Reading.{list_of, pairs_of}
+use Rattle.type_keys.specs.Keys.{list_of, pairs_of}
 
 pub list_view : (vs : List Value) → list_of (items_view vs) ≡ map view vs
 list_view [] = refl
 list_view (v ∷ vs) = ap (λ ds. view v ∷ ds) (list_view vs)
-
-pub all_view : (p : Data → Bool) (vs : List Value) → list_all p (list_of (items_view vs)) ≡ list_all (λ v. p (view v)) vs
-all_view p [] = refl
-all_view p (v ∷ vs) = ap (λ b. p (view v) && b) (all_view p vs)
-
-pub found_view : {A : Type 0} (f : Data → Option A) (vs : List Value) → filter_map f (list_of (items_view vs)) ≡ filter_map (λ v. f (view v)) vs
-found_view f [] = refl
-found_view f (v ∷ vs) = ap (cons_option (f (view v))) (found_view f vs)
-
-pub all_members : (p : List ℕ × Data → Bool) (ms : List (String Global × Value)) → list_all p (pairs_of (members_view ms)) ≡ list_all (λ m. p (string_bytes m.0, view m.1)) ms
-all_members p [] = refl
-all_members p (m ∷ ms) = ap (λ b. p (string_bytes m.0, view m.1) && b) (all_members p ms)
 
 pub map_members : {A : Type 0} (f : List ℕ × Data → A) (ms : List (String Global × Value)) → map f (pairs_of (members_view ms)) ≡ map (λ m. f (string_bytes m.0, view m.1)) ms
 map_members f [] = refl

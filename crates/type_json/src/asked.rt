@@ -3,11 +3,10 @@ ghost use Rattle.std.specs.Prelude.{◌≡◌, ◌++◌, ◌∷◌, [], IfOk, On
 ghost use Rattle.serde_json.specs.Find.{as_str, as_bool, as_array, as_object};
 ghost use Rattle.serde_json.specs.View.{view, items_view, members_view};
 ghost use Rattle.json_text.specs.Keys.{value_at, as_whole};
-ghost use Rattle.type_json.specs.Reading.{pairs_of, text_in, id_in, base_in, flag_in, whole_in, list_in, texts_in, number_scalar, scalar_of, scalars_in, choice_of, choices_in, prop_kind, prop_request, prop_requests, flag_within, mutability_request, type_request};
-ghost use Rattle.type_json.specs.Words.{content_of, kind_of, cardinality_of, updatability_of};
+ghost use Rattle.type_json.specs.Reading.{text_in, id_in, base_in, flag_in, whole_in, list_in, texts_in, number_scalar, scalar_of, scalars_in, choice_of, choices_in, prop_kind, prop_request, prop_requests, flag_within, mutability_request, type_request};
+ghost use Rattle.type_keys.specs.Keys.{pairs_of};
+ghost use Rattle.type_keys.specs.Words.{content_of, kind_of, cardinality_of, updatability_of};
 
-use crate::shape::value_at;
-use crate::word::{cardinality_of, content_of, kind_of, updatability_of};
 use cm_base::items::Items;
 use cm_base::text::{Text, Texts};
 use cm_base::value::{Scalar, Scalars};
@@ -16,6 +15,8 @@ use cm_types::property::{Cardinality, Choice, Choices, PropertyKind, Updatabilit
 use cm_types::request::{MutabilityRequest, PropRequest, PropRequests, TypeRequest};
 use serde_json::{Map, Value};
 use std::alloc::{AllocError, Global};
+use type_keys::shape::value_at;
+use type_keys::word::{cardinality_of, content_of, kind_of, updatability_of};
 
 fn text_of(value: &Value) -> Option<&str>
     ensures { option_map (λ s. s.now) result ≡ as_str (view value.now) }

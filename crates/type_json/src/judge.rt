@@ -3,23 +3,21 @@ ghost use Rattle.std.specs.Prelude.{◌≡◌, ◌||◌, ◌&&◌, not, IfOk, un
 ghost use Rattle.std.specs.List.{list_any};
 ghost use Rattle.serde_json.specs.View.{view, members_view};
 ghost use Rattle.cm_base.specs.Judged.{Meets};
-ghost use Rattle.cm_types.specs.Changes.{gives_many, has_wrong_value, made_props};
-ghost use Rattle.type_json.specs.Reading.{pairs_of, text_in, id_in, base_in, props_in, prop_keys, has_wrong_key, lacks, lacks_prop_key, lacks_parent, lacks_key, has_other_key, has_wrong_kind, has_wrong_name, has_wrong_names, have_wrong_values, judge_values, judge_type, judge_type_text};
-ghost use Rattle.type_json.specs.Words.{is_query_name};
+ghost use Rattle.cm_types.specs.Changes.{has_wrong_value, made_props};
+ghost use Rattle.type_json.specs.Reading.{text_in, id_in, base_in, props_in, lacks, lacks_prop_key, lacks_parent, lacks_key, has_other_key, has_wrong_kind, has_wrong_name, has_wrong_names, have_wrong_values, judge_values, judge_type, judge_type_text};
+ghost use Rattle.type_keys.specs.Keys.{pairs_of, prop_keys, has_wrong_key};
 
 use crate::asked::{base_in, id_in, props_of, text_in, type_request};
-use crate::shape::{has_wrong_prop_key, has_wrong_type_key, is_object, value_at};
-use crate::word::{is_id, is_query_name};
 use cm_base::cause::Cause;
 use cm_base::fail::Fail;
-use cm_base::items::Items;
-use cm_type_list::made::made_prop;
-use cm_type_list::rules::{gives_many, has_wrong_value};
-use cm_types::property::{PropDef, PropDefs};
 use cm_types::request::{PropRequest, TypeRequest};
 use json_text::read::{ReadStop, read_value};
 use serde_json::{Map, Value};
 use std::alloc::{AllocError, Global};
+use type_keys::shape::{has_wrong_prop_key, has_wrong_type_key, is_object, value_at};
+use type_keys::word::{is_id, is_query_name};
+use type_requests::made::made_all;
+use type_requests::rules::{are_wrong, give_many};
 
 fn lacks(value: &Value, key: &str) -> bool
     ensures { result ≡ lacks key.now (view value.now) }
@@ -167,29 +165,6 @@ fn has_wrong_names(value: &Value) -> bool
     ensures { result ≡ has_wrong_names (view value.now) }
 {
     has_wrong_name(value) || prop_has_wrong_name(value)
-}
-
-fn give_many(requests: &[PropRequest]) -> bool
-    ensures { result ≡ list_any gives_many requests.now }
-{
-    requests.iter().any(|r| gives_many(r))
-}
-
-fn are_wrong(defs: &[PropDef]) -> bool
-    ensures { result ≡ list_any has_wrong_value defs.now }
-{
-    defs.iter().any(|d| has_wrong_value(d))
-}
-
-fn made_all(alloc: Global, requests: &[PropRequest]) -> Result<PropDefs, AllocError>
-    ensures { IfOk result (λ all. all ≡ made_props requests.now) }
-{
-    let mut all = Items::new(alloc);
-    for request in requests {
-        let def = made_prop(alloc, request)?;
-        all.push(def)?;
-    }
-    Ok(all)
 }
 
 fn made_wrong(alloc: Global, requests: &[PropRequest]) -> Result<bool, AllocError>

@@ -5,6 +5,3 @@ ghost use Rattle.std.specs.Prelude.{◌≡◌};
 
 pub mod asked;
 pub mod judge;
-pub mod kind;
-pub mod shape;
-pub mod word;

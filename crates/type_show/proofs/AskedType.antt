@@ -15,9 +15,10 @@ use Rattle.cm_types.specs.declared.definition.BaseType.TheVariants as bases
 use Rattle.cm_types.specs.declared.definition.TypeMutability.{TypeMutability}
 use Rattle.cm_types.specs.declared.definition.TypeDef.{TypeDef}
 use Rattle.cm_types.specs.Changes.{is_before, made_props, has_wrong_value, gives_many, if_kept, is_document, is_relationship, base_id}
-use Rattle.type_json.specs.Words.{content_word, content_of}
-use Rattle.type_json.specs.declared.kind.KeyKind.TheVariants as keys
-use Rattle.type_json.specs.Reading.{pairs_of, is_object, is_text, is_objects, is_mutability, has_kind, wrong_at, has_wrong_key, type_keys, prop_keys, text_in, id_in, base_in, flag_in, list_of, texts_in, props_in, prop_request, prop_requests, mutability_request, type_request, lacks, lacks_parent, lacks_prop_key, lacks_key, has_other_key, has_wrong_kind, has_wrong_name, has_wrong_names, have_wrong_values, judge_type}
+use Rattle.type_keys.specs.Words.{content_word, content_of}
+use Rattle.type_keys.specs.declared.kind.KeyKind.TheVariants as keys
+use Rattle.type_keys.specs.Keys.{pairs_of, is_object, is_text, is_objects, is_mutability, has_kind, wrong_at, has_wrong_key, type_keys, prop_keys, list_of}
+use Rattle.type_json.specs.Reading.{text_in, id_in, base_in, flag_in, texts_in, props_in, prop_request, prop_requests, mutability_request, type_request, lacks, lacks_parent, lacks_prop_key, lacks_key, has_other_key, has_wrong_kind, has_wrong_name, has_wrong_names, have_wrong_values, judge_type}
 use Rattle.type_show.specs.Showing.{with_fields, prop_data, prop_field, props_data, mutability_data, type_names, type_values, type_flags, base_fields, parent_fields, props_fields, texts_data, type_data}
 use Rattle.type_show.specs.ReadBack.{asked_prop, asked_type, IsSoundProp, IsSoundType, ascend}
 use Rattle.type_show.proofs.Putting.{both, first, second, ascending, put_ascending}

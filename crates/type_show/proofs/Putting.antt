@@ -5,7 +5,7 @@ use Rattle.std.specs.Ordering.{nat_cmp, match_ordering, is_lt, ordering_reverse}
 use Rattle.std.specs.Cmp.Lexicographic.{slice_cmp, nat_list_cmp_total}
 use Rattle.std.proofs.lemmas.List.{append-nil}
 use Rattle.serde_json.specs.Data.{Data, Members, no_members, member, put, depth, members_depth}
-use Rattle.type_json.specs.Reading.{pairs_of}
+use Rattle.type_keys.specs.Keys.{pairs_of}
 use Rattle.type_show.specs.Showing.{Field, with_fields}
 
 abbrev cmp : List ℕ → List ℕ → Ordering

@@ -13,7 +13,7 @@ use Rattle.cm_types.specs.declared.request.PropRequest.{PropRequest}
 use Rattle.cm_types.specs.declared.request.TypeRequest.{TypeRequest}
 use Rattle.cm_types.specs.Properties.{scalars_of}
 use Rattle.cm_types.specs.Changes.{of_kind, if_kept, is_document, is_relationship, is_before, base_id, has_wrong_value}
-use Rattle.type_json.specs.Words.{is_id, is_query_name}
+use Rattle.type_keys.specs.Words.{is_id, is_query_name}
 
 -- each attribute of the definition is asked for; limits of its kind alone
 abbrev pub asked_prop : PropDef → PropRequest

@@ -15,7 +15,7 @@ use Rattle.cm_types.specs.declared.definition.TypeMutability.{TypeMutability}
 use Rattle.cm_types.specs.declared.definition.TypeDef.{TypeDef}
 use Rattle.cm_types.specs.Properties.{scalars_of}
 use Rattle.cm_types.specs.Changes.{base_id}
-use Rattle.type_json.specs.Words.{content_word, kind_word, cardinality_word, updatability_word}
+use Rattle.type_keys.specs.Words.{content_word, kind_word, cardinality_word, updatability_word}
 
 -- a name and what stands at it
 abbrev pub Field : Type 0

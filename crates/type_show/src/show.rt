@@ -7,14 +7,13 @@ ghost use Rattle.json_text.specs.Build.{with_field};
 ghost use Rattle.type_show.specs.Showing.{text_field, flag_field, choice_data, limit_data, prop_names, prop_words, prop_flags, prop_values, bound_fields, limit_fields, prop_data, props_data, mutability_data, type_names, type_flags, type_values, parent_fields, document_fields, relationship_fields, base_fields, props_fields, type_data};
 
 use cm_base::text::Text;
-use cm_type_list::changes::base_id;
 use cm_types::definition::{BaseType, TypeDef, TypeMutability};
 use cm_types::fault::scalars_of;
 use cm_types::property::{Choice, PropDef, PropertyKind};
 use json_text::tree::{Elements, Fields, Json};
 use json_text::values::{scalar_json, scalars_json};
 use std::alloc::{AllocError, Global};
-use type_json::word::Worded;
+use type_keys::word::Worded;
 
 fn put_texts(alloc: Global, fields: &mut Fields, texts: &[(&str, &Text)]) -> Result<(), AllocError>
     ensures { OnOk result (fields_of fields.new ≡ fold with_field (fields_of fields.old) (map text_field texts.now)) }
@@ -270,7 +269,7 @@ fn put_type_values(alloc: Global, fields: &mut Fields, def: &TypeDef) -> Result<
     ensures { OnOk result (fields_of fields.new ≡ fold with_field (fields_of fields.old) (type_values def.now)) }
 {
     let mutability = mutability_json(alloc, def.mutability)?;
-    fields.put(alloc, "baseId", Json::text(alloc, base_id(def.base))?)?;
+    fields.put(alloc, "baseId", Json::text(alloc, def.base.id())?)?;
     fields.put(alloc, "typeMutability", mutability)?;
     Ok(())
 }

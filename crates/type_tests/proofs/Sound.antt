@@ -11,7 +11,7 @@ use Rattle.cm_types.specs.declared.property.Updatability.{Updatability}
 use Rattle.cm_types.specs.declared.definition.BaseType.TheVariants as bases
 use Rattle.cm_types.specs.Changes.{of_kind, has_wrong_value}
 use Rattle.cm_basetypes.specs.BaseTypes.{prop, base_row}
-use Rattle.type_json.specs.Words.{is_id, is_query_name}
+use Rattle.type_keys.specs.Words.{is_id, is_query_name}
 use Rattle.type_show.specs.ReadBack.{IsSoundProp, IsSoundType}
 
 no_length : (kind : PropertyKind) → of_kind {A = ℤ} kinds.String kind None ≡ None

@@ -4,11 +4,11 @@ use cm_base::copies::Copies;
 use cm_base::items::Items;
 use cm_base::text::Text;
 use cm_basetypes::base_types::base_types;
-use cm_type_list::changes::{base_id, changes_attributes, changes_old_props};
-use cm_type_list::made::{changed_type, is_document, is_relationship, is_secondary, made_type};
 use cm_types::definition::{BaseType, TypeDef};
 use std::alloc::{AllocError, Global};
 use type_json::judge::read_type;
+use type_requests::changes::{base_id, changes_attributes, changes_old_props};
+use type_requests::made::{changed_type, is_document, is_relationship, is_secondary, made_type};
 
 const FOLDER: &str =
     "{\"id\":\"t:f\",\"baseId\":\"cmis:folder\",\"parentId\":\"cmis:folder\",\"versionable\":true,\"description\":\"k\"}";

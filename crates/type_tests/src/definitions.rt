@@ -3,17 +3,17 @@ use cm_base::copies::Copies;
 use cm_base::items::Items;
 use cm_base::text::Text;
 use cm_base::value::{Scalar, Scalars, Value};
-use cm_type_list::clash::has_clash;
-use cm_type_list::made::{
-    cardinality_of, is_new, is_single, limit_of, made_new, made_prop, prop_of, scalars_asked,
-};
-use cm_type_list::placed::sorted_props;
-use cm_type_list::rules::{clashes, gives_many, has_wrong_value, is_wrongly_ordered};
-use cm_type_list::same::{Same, all_same};
 use cm_types::fault::scalars_of;
 use cm_types::property::{Cardinality, Choice, PropDef, PropDefs, PropertyKind, Updatability};
 use cm_types::request::{PropRequest, PropRequests};
 use std::alloc::{AllocError, Global};
+use type_requests::clash::has_clash;
+use type_requests::made::{
+    cardinality_of, is_new, is_single, limit_of, made_new, made_prop, prop_of, scalars_asked,
+};
+use type_requests::placed::sorted_props;
+use type_requests::rules::{clashes, gives_many, has_wrong_value, is_wrongly_ordered};
+use type_requests::same::{Same, all_same};
 
 // A request for a property that gives its id and its kind alone.
 fn asked(alloc: Global, id: &str, kind: PropertyKind) -> Result<PropRequest, AllocError> {

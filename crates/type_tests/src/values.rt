@@ -4,7 +4,7 @@ use json_text::read::read_value;
 use serde_json::Value;
 use std::alloc::Global;
 use type_json::asked::{base_in, id_in, props_of, text_in, type_request};
-use type_json::shape::{has_wrong_prop_key, has_wrong_type_key, is_object, value_at};
+use type_keys::shape::{has_wrong_prop_key, has_wrong_type_key, is_object, value_at};
 
 const TYPE: &str =
     "{\"id\":\"a\",\"baseId\":\"b\",\"localName\":null,\"creatable\":true,\"propertyDefinitions\":{\"p\":{\"id\":\"p\",\"propertyType\":\"id\"}}}";

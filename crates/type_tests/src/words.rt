@@ -1,7 +1,7 @@
 //! The words of type definitions, and the forms of ids and query names.
 use cm_types::definition::ContentAllowed;
 use cm_types::property::{Cardinality, PropertyKind, Updatability};
-use type_json::word::{
+use type_keys::word::{
     Worded, cardinality_of, content_of, is_id, is_query_name, kind_of, updatability_of,
 };
 

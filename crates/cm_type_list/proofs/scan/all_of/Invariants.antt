@@ -1,6 +1,6 @@
 use Rattle.std.proofs.Common.{◌≡◌, map}
 use Rattle.map_keys.specs.Parts.{pointee}
-use Rattle.cm_type_list.specs.Keys.{values_of}
+use Rattle.type_requests.specs.Keys.{values_of}
 use Rattle.cm_type_list.proofs.scan.all_of.Given as goal
 
 abbrev pub invariant-loop-entry : goal.invariant-loop-entry

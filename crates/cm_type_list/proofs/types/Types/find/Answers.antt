@@ -1,6 +1,6 @@
 use Rattle.std.proofs.Common.{◌∙◌, ap}
 use Rattle.cm_types.specs.Types.{type_in}
-use Rattle.cm_type_list.proofs.Keyed.{find_name}
+use Rattle.type_requests.proofs.Keyed.{find_name}
 use Rattle.cm_type_list.proofs.types.Types.find.Goals as goal
 
 pub returns : goal.returns

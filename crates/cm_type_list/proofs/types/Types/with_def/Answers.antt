@@ -3,8 +3,8 @@ use Rattle.core.specs.Ordering.{nat_cmp}
 use Rattle.core.specs.Cmp.Lexicographic.{slice_cmp}
 use Rattle.core.specs.FinMap.Entries.{put}
 use Rattle.cm_types.specs.Changes.{placed_type}
-use Rattle.cm_type_list.specs.Keys.{IsKeyed, values_of}
-use Rattle.cm_type_list.proofs.Keyed.{keyed_put, put_placed}
+use Rattle.type_requests.specs.Keys.{IsKeyed, values_of}
+use Rattle.type_requests.proofs.Keyed.{keyed_put, put_placed}
 use Rattle.cm_type_list.proofs.types.Types.with_def.Goals as goal
 
 pub invariant_of-result : goal.invariant_of-result

@@ -1,7 +1,7 @@
 use Rattle.std.proofs.Common.{◌∙◌, ap, sym, subst}
 use Rattle.cm_types.specs.Changes.{without_type}
-use Rattle.cm_type_list.specs.Keys.{IsKeyed, values_of}
-use Rattle.cm_type_list.proofs.Keyed.{keyed_without, without_name}
+use Rattle.type_requests.specs.Keys.{IsKeyed, values_of}
+use Rattle.type_requests.proofs.Keyed.{keyed_without, without_name}
 use Rattle.cm_type_list.proofs.types.Types.without_def.Goals as goal
 
 pub invariant_of-result : goal.invariant_of-result

@@ -1,0 +1,3 @@
+mod Clashing
+pub mod Keyed
+mod Pointwise
