@@ -16,7 +16,7 @@ use cm_types::definition::{TypeDef, TypeDefs};
 use cm_types::property::PropDef;
 use cm_types::request::TypeRequest;
 use std::alloc::{AllocError, Global};
-use type_requests::changes::{base_id, changes_attributes, changes_old_props};
+use type_requests::changes::{changes_attributes, changes_old_props};
 use type_requests::clash::has_clash;
 use type_requests::made::{changed_type, made_all, made_new, made_type, query_name_of};
 use type_requests::placed::{joined, sorted_props};
