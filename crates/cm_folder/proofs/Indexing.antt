@@ -1,50 +1,33 @@
 -- The indexes after an entry more, one less, and the change of a child's entries.
-use Rattle.std.proofs.Common.{◌≡◌, ℕ, ◌+◌, ◌≤◌, ◌==◌, ◌||◌, not, Bool, true, false, cond, List, [], ◌∷◌, ◌++◌, map, filter_map, Option, None, Some, is_some, option_and_then, unwrap_or, sym, ap, subst, refl, ◌∙◌, arith, T}
+use Rattle.std.proofs.Common.{◌≡◌, ℕ, ◌+◌, ◌≤◌, ◌==◌, ◌||◌, ◌&&◌, Bool, true, false, cond, List, [], ◌∷◌, ◌++◌, map, filter_map, Option, None, Some, is_some, option_map, option_and_then, unwrap_or, sym, ap, subst, refl, ◌∙◌, arith, T, if◌then◌else◌}
 use Rattle.std.specs.List.{list_any}
 use Rattle.core.specs.Ordering.{nat_cmp, eq_by_cmp}
-use Rattle.core.specs.Cmp.{nat_cmp_total, unsigned_tied}
-use Rattle.core.specs.FinMap.Entries.{put, find, is_sorted, is_sorted-put, is_sorted-where_key}
+use Rattle.core.specs.Cmp.{unsigned_tied}
+use Rattle.core.specs.FinMap.Entries.{put, find, is_sorted}
 use Rattle.std.proofs.lemmas.Bool.{eqb-true}
-use Rattle.map_keys.specs.Parts.{without_key}
 use Rattle.cm_base.specs.declared.number.Oid.{Oid}
 use Rattle.cmis_spec.specs.Repository.{same}
+use Rattle.cm_lists.specs.Buckets.{find_in}
 use Rattle.cm_folder.specs.declared.entry.FilingEntry.{FilingEntry}
 use Rattle.cm_folder.specs.declared.edit.Edit.{Edit}
 use Rattle.cm_folder.specs.Filings.{edit_of, edit_child}
-use Rattle.cm_folder.specs.Places.{bucket_by, value_at, name_order, name_key, child_key, folder_key, IsIndexed}
-use Rattle.cm_folder.proofs.Placing.{by_test, find-put_at, find-without_at, tells_with, tells_without, changed_is, values_changed}
+use Rattle.cm_folder.specs.Places.{value_at, name_order, name_key, child_key, folder_key, IsIndexed}
+use Rattle.cm_folder.proofs.Placing.{by_test, find_under, find-put_at, Turns, tells_changed, changed_is, values_changed}
 
--- an entry more keeps the indexes
-pub indexed_with : (es fs : List (ℕ × FilingEntry)) (n : ℕ) (e : FilingEntry) (children more inside inner : List (ℕ × List (ℕ × Oid))) (names others : List ((ℕ × List ℕ) × List (ℕ × Oid)))
-    → IsIndexed es children inside names → find nat_cmp n es ≡ None → fs ≡ put nat_cmp n e es
-    → ((q : ℕ) → bucket_by nat_cmp more q ≡ cond (eq_by_cmp nat_cmp q e.child.0) (put nat_cmp n e.folder (bucket_by nat_cmp children q)) (bucket_by nat_cmp children q))
-    → ((q : ℕ) → bucket_by nat_cmp inner q ≡ cond (eq_by_cmp nat_cmp q e.folder.0) (put nat_cmp n e.child (bucket_by nat_cmp inside q)) (bucket_by nat_cmp inside q))
-    → ((q : ℕ × List ℕ) → bucket_by name_order others q ≡ cond (eq_by_cmp name_order q (e.folder.0, e.name)) (put nat_cmp n e.child (bucket_by name_order names q)) (bucket_by name_order names q))
+-- an entry that comes or goes keeps the indexes
+pub indexed_changed : (es fs : List (ℕ × FilingEntry)) (n : ℕ) (e : FilingEntry) (now : Option FilingEntry) (children more inside inner : List (ℕ × List (ℕ × Oid))) (names others : List ((ℕ × List ℕ) × List (ℕ × Oid)))
+    → IsIndexed es children inside names → Turns e (find nat_cmp n es) now → T (is_sorted nat_cmp fs)
+    → ((p : ℕ) → find nat_cmp p fs ≡ cond (p == n) now (find nat_cmp p es))
+    → ((c p : ℕ) → find_in nat_cmp nat_cmp more c p ≡ (if eq_by_cmp nat_cmp c e.child.0 && eq_by_cmp nat_cmp p n then option_map (λ d. d.folder) now else find_in nat_cmp nat_cmp children c p))
+    → ((f p : ℕ) → find_in nat_cmp nat_cmp inner f p ≡ (if eq_by_cmp nat_cmp f e.folder.0 && eq_by_cmp nat_cmp p n then option_map (λ d. d.child) now else find_in nat_cmp nat_cmp inside f p))
+    → ((k : ℕ × List ℕ) (p : ℕ) → find_in name_order nat_cmp others k p ≡ (if eq_by_cmp name_order k (e.folder.0, e.name) && eq_by_cmp nat_cmp p n then option_map (λ d. d.child) now else find_in name_order nat_cmp names k p))
     → IsIndexed fs more inner others
-indexed_with es fs n e children more inside inner names others w free at c i k =
-    let found : (p : ℕ) → find nat_cmp p fs ≡ cond (p == n) (Some e) (find nat_cmp p es) = λ p. ap (find nat_cmp p) at ∙ find-put_at p n e es in
-    record {
-      sorted = subst (λ l. T (is_sorted nat_cmp l)) (sym at) (is_sorted-put nat_cmp nat_cmp_total n e es w.sorted);
-      children = tells_with nat_cmp child_key (λ d. d.folder) es fs n e children more w.children free found c;
-      folders = tells_with nat_cmp folder_key (λ d. d.child) es fs n e inside inner w.folders free found i;
-      names = tells_with name_order name_key (λ d. d.child) es fs n e names others w.names free found k;
-    }
-
--- and one less
-pub indexed_without : (es fs : List (ℕ × FilingEntry)) (n : ℕ) (e : FilingEntry) (children less inside inner : List (ℕ × List (ℕ × Oid))) (names others : List ((ℕ × List ℕ) × List (ℕ × Oid)))
-    → IsIndexed es children inside names → find nat_cmp n es ≡ Some e → fs ≡ without_key nat_cmp n es
-    → ((q : ℕ) → bucket_by nat_cmp less q ≡ cond (eq_by_cmp nat_cmp q e.child.0) (without_key nat_cmp n (bucket_by nat_cmp children q)) (bucket_by nat_cmp children q))
-    → ((q : ℕ) → bucket_by nat_cmp inner q ≡ cond (eq_by_cmp nat_cmp q e.folder.0) (without_key nat_cmp n (bucket_by nat_cmp inside q)) (bucket_by nat_cmp inside q))
-    → ((q : ℕ × List ℕ) → bucket_by name_order others q ≡ cond (eq_by_cmp name_order q (e.folder.0, e.name)) (without_key nat_cmp n (bucket_by name_order names q)) (bucket_by name_order names q))
-    → IsIndexed fs less inner others
-indexed_without es fs n e children less inside inner names others w there at c i k =
-    let found : (p : ℕ) → find nat_cmp p fs ≡ cond (p == n) None (find nat_cmp p es) = λ p. ap (find nat_cmp p) at ∙ find-without_at p n es in
-    record {
-      sorted = subst (λ l. T (is_sorted nat_cmp l)) (sym at) (is_sorted-where_key nat_cmp (λ x. not (eq_by_cmp nat_cmp n x)) es w.sorted);
-      children = tells_without nat_cmp child_key (λ d. d.folder) es fs n e children less w.children there found c;
-      folders = tells_without nat_cmp folder_key (λ d. d.child) es fs n e inside inner w.folders there found i;
-      names = tells_without name_order name_key (λ d. d.child) es fs n e names others w.names there found k;
-    }
+indexed_changed es fs n e now children more inside inner names others w turns sorted found c f k = record {
+  sorted = sorted;
+  children = tells_changed nat_cmp child_key (λ d. d.folder) es fs n e now children more w.children turns found c;
+  folders = tells_changed nat_cmp folder_key (λ d. d.child) es fs n e now inside inner w.folders turns found f;
+  names = tells_changed name_order name_key (λ d. d.child) es fs n e now names others w.names turns found k;
+}
 
 self_test : (n : ℕ) → (n == n) ≡ true
 self_test n = grind arith
@@ -101,7 +84,7 @@ pub changed_child : (edit : Edit) (c : Oid) (es : List (ℕ × FilingEntry)) (ch
     → (p : ℕ) → cond (list_any (λ e. p == e.0) (unwrap_or o [])) (option_and_then (edit_of edit) (find nat_cmp p es)) (find nat_cmp p es) ≡ option_and_then (edit_child edit c) (find nat_cmp p es)
 changed_child edit c es children inside names w o at p =
     ap (λ b. cond b (option_and_then (edit_of edit) (find nat_cmp p es)) (find nat_cmp p es))
-    (has_place p (unwrap_or o []) ∙ ap (λ m. is_some (find nat_cmp p (unwrap_or m []))) at ∙ ap is_some (w.children c.0 p))
+    (has_place p (unwrap_or o []) ∙ ap (λ m. is_some (find nat_cmp p (unwrap_or m []))) at ∙ ap is_some (find_under nat_cmp children c.0 p ∙ w.children c.0 p))
     ∙ by (find nat_cmp p es)
   where
     flip : (a b : ℕ) → (b == a) ≡ (a == b)

@@ -10,9 +10,10 @@ use Rattle.std.proofs.lemmas.Map.Text.{is_eq-slice_cmp}
 use Rattle.cm_base.specs.declared.number.Oid.{Oid}
 use Rattle.cm_base.specs.declared.filing.Filed.{Filed}
 use Rattle.cmis_spec.specs.Repository.{same, root, path_by}
+use Rattle.cm_lists.specs.Buckets.{bucket_of}
 use Rattle.cm_folder.specs.declared.entry.FilingEntry.{FilingEntry}
 use Rattle.cm_folder.specs.Filings.{pair_of, is_entry, is_filed_in, is_name_taken, folder_of, folders_up_in}
-use Rattle.cm_folder.specs.Places.{bucket_by, placed, name_order, name_key, child_key, folder_key, is_folder_at, IsIndexed}
+use Rattle.cm_folder.specs.Places.{placed, name_order, name_key, child_key, folder_key, is_folder_at, IsIndexed}
 use Rattle.cm_folder.specs.Trees.{is_folder_in}
 use Rattle.cm_folder.proofs.Placing.{any_placed, any_at, placed_at, bucket_is}
 
@@ -61,23 +62,23 @@ taken_same f c name es =
     (map (λ e. e.1) es)
 
 -- the folders of a child, by their places
-pub bucket_of : (es : List (ℕ × FilingEntry)) (children inside : List (ℕ × List (ℕ × Oid))) (names : List ((ℕ × List ℕ) × List (ℕ × Oid))) → IsIndexed es children inside names
+pub folders_of : (es : List (ℕ × FilingEntry)) (children inside : List (ℕ × List (ℕ × Oid))) (names : List ((ℕ × List ℕ) × List (ℕ × Oid))) → IsIndexed es children inside names
     → (c : ℕ) (o : Option (List (ℕ × Oid))) → o ≡ find nat_cmp c children → T (is_sorted nat_cmp (unwrap_or o [])) → unwrap_or o [] ≡ placed nat_cmp child_key (λ e. e.folder) c es
-bucket_of es children inside names w c o e rising =
+folders_of es children inside names w c o e rising =
     ap (λ m. unwrap_or m []) e
-    ∙ bucket_is nat_cmp child_key (λ e. e.folder) c es (bucket_by nat_cmp children c) w.sorted (subst (λ m. T (is_sorted nat_cmp (unwrap_or m []))) e rising) (w.children c)
+    ∙ bucket_is nat_cmp child_key (λ e. e.folder) c es children w.sorted (subst (λ m. T (is_sorted nat_cmp (unwrap_or m []))) e rising) (w.children c)
 
 -- the children of a folder under a name, by their places
 pub names_of : (es : List (ℕ × FilingEntry)) (children inside : List (ℕ × List (ℕ × Oid))) (names : List ((ℕ × List ℕ) × List (ℕ × Oid))) → IsIndexed es children inside names
-    → (k : ℕ × List ℕ) → T (is_sorted nat_cmp (bucket_by name_order names k)) → bucket_by name_order names k ≡ placed name_order name_key (λ e. e.child) k es
-names_of es children inside names w k rising = bucket_is name_order name_key (λ e. e.child) k es (bucket_by name_order names k) w.sorted rising (w.names k)
+    → (k : ℕ × List ℕ) → T (is_sorted nat_cmp (bucket_of name_order names k)) → bucket_of name_order names k ≡ placed name_order name_key (λ e. e.child) k es
+names_of es children inside names w k rising = bucket_is name_order name_key (λ e. e.child) k es names w.sorted rising (w.names k)
 
 -- the children of a folder, by their places
 pub children_of : (es : List (ℕ × FilingEntry)) (children inside : List (ℕ × List (ℕ × Oid))) (names : List ((ℕ × List ℕ) × List (ℕ × Oid))) → IsIndexed es children inside names
     → (f : ℕ) (o : Option (List (ℕ × Oid))) → o ≡ find nat_cmp f inside → T (is_sorted nat_cmp (unwrap_or o [])) → unwrap_or o [] ≡ placed nat_cmp folder_key (λ e. e.child) f es
 children_of es children inside names w f o e rising =
     ap (λ m. unwrap_or m []) e
-    ∙ bucket_is nat_cmp folder_key (λ e. e.child) f es (bucket_by nat_cmp inside f) w.sorted (subst (λ m. T (is_sorted nat_cmp (unwrap_or m []))) e rising) (w.folders f)
+    ∙ bucket_is nat_cmp folder_key (λ e. e.child) f es inside w.sorted (subst (λ m. T (is_sorted nat_cmp (unwrap_or m []))) e rising) (w.folders f)
 
 -- a test of the children of a folder
 pub any_inside : (f : Oid) (t : Oid → Bool) (es : List (ℕ × FilingEntry)) → list_any (λ e. t e.1) (placed nat_cmp folder_key (λ e. e.child) f.0 es) ≡ list_any (λ e. same e.folder f && t e.child) (map (λ e. e.1) es)

@@ -1,15 +1,17 @@
 -- Indexes by place: look-ups, and what changes make of them.
-use Rattle.std.proofs.Common.{◌≡◌, ℕ, option_map, option_and_then, ◌<◌, ◌≤◌, ◌==◌, ◌&&◌, ◌||◌, Bool, true, false, not, cond, List, [], ◌∷◌, ◌++◌, map, filter, filter_map, nat_lt, length, if◌then◌else◌, Option, None, Some, is_some, unwrap_or, sym, ap, refl, ◌∙◌, subst, arith, T, Ordering, Less, Equal, Greater, is_eq}
+use Rattle.std.proofs.Common.{◌≡◌, ℕ, option_map, option_and_then, ◌<◌, ◌≤◌, ◌==◌, ◌&&◌, ◌||◌, Bool, true, false, not, cond, List, [], ◌∷◌, ◌++◌, map, filter, filter_map, nat_lt, if◌then◌else◌, Option, None, Some, is_some, unwrap_or, sym, ap, refl, ◌∙◌, subst, arith, T, Ordering, Less, Equal, Greater, is_eq, ◌⊎◌, inl, inr}
 use Rattle.std.specs.List.{list_any, find as find_by}
 use Rattle.core.specs.List.{AllByRecursion, cons_option}
-use Rattle.core.specs.Ordering.{nat_cmp, is_lt, eq_by_cmp, ordering_reverse}
-use Rattle.core.specs.Cmp.{IsTotalOrder, nat_cmp_is, nat_cmp_total, unsigned_tied, alike_right}
-use Rattle.core.specs.FinMap.Entries.{put, find, is_sorted, below_all, find-put, find-where_key, find_tied, same_entries, by_order}
-use Rattle.std.proofs.lemmas.Bool.{both_ways, eqb-true, ltb-true, ltb-false}
+use Rattle.core.specs.Ordering.{nat_cmp, is_lt, eq_by_cmp}
+use Rattle.core.specs.Cmp.{nat_cmp_is, nat_cmp_total, unsigned_tied}
+use Rattle.core.specs.FinMap.Entries.{put, find, is_sorted, below_all, find-put, find-where_key, same_entries, by_order}
+use Rattle.std.proofs.Math.Bool.{and-true}
+use Rattle.std.proofs.lemmas.Bool.{both_ways, eqb-true, ltb-true, ltb-false, and_right}
 use Rattle.std.proofs.lemmas.Map.Lookups.{exact_unsigned}
 use Rattle.map_keys.specs.Parts.{without_key}
 use mathlib.Core.List.{map-append}
-use Rattle.cm_folder.specs.Places.{bucket_by, placed, value_at}
+use Rattle.cm_lists.specs.Buckets.{find_in, bucket_of}
+use Rattle.cm_folder.specs.Places.{placed, value_at}
 
 pub by_test : {A : Type 0} (b : Bool) → (b ≡ true → A) → (b ≡ false → A) → A
 by_test true f g = f refl
@@ -27,47 +29,9 @@ second : (a b : Bool) → T (a && b) → T b
 second true b p = p
 second false b p = absurd p
 
-equal_of : (r : Ordering) → is_eq r ≡ true → r ≡ Equal
-equal_of Less e = absurd (cc e)
-equal_of Equal e = refl
-equal_of Greater e = absurd (cc e)
-
--- a map under a key with one value more
-pub bucket_with : {K X : Type 0} (R : K → K → Ordering) (o : IsTotalOrder R) (buckets : List (K × List (ℕ × X))) (key : K) (p : ℕ) (x : X) (q : K)
-    → bucket_by R (put R key (put nat_cmp p x (bucket_by R buckets key)) buckets) q ≡ cond (eq_by_cmp R q key) (put nat_cmp p x (bucket_by R buckets q)) (bucket_by R buckets q)
-bucket_with R o buckets key p x q =
-    ap (λ m. unwrap_or m []) (find-put R o q key (put nat_cmp p x (bucket_by R buckets key)) buckets)
-    ∙ elim (eq_by_cmp R q key) as (λ b. eq_by_cmp R q key ≡ b → unwrap_or (cond b (Some (put nat_cmp p x (bucket_by R buckets key))) (find R q buckets)) [] ≡ cond b (put nat_cmp p x (bucket_by R buckets q)) (bucket_by R buckets q)) [
-      | true ↦ λ e. ap (λ m. put nat_cmp p x (unwrap_or m [])) (find_tied R o q key (equal_of (R q key) e) buckets)
-      | false ↦ λ _. refl
-    ] refl
-
--- a map under a key, and under the others the old ones
-pub bucket_under : {K X : Type 0} (R : K → K → Ordering) (o : IsTotalOrder R) (buckets : List (K × List (ℕ × X))) (key : K) (m : List (ℕ × X)) (q : K)
-    → bucket_by R (put R key m buckets) q ≡ cond (eq_by_cmp R q key) m (bucket_by R buckets q)
-bucket_under R o buckets key m q =
-    ap (λ m. unwrap_or m []) (find-put R o q key m buckets)
-    ∙ elim (eq_by_cmp R q key) as (λ b. unwrap_or (cond b (Some m) (find R q buckets)) [] ≡ cond b m (bucket_by R buckets q)) [ true ↦ refl | false ↦ refl ]
-
--- and none under it
-pub bucket_cleared : {K X : Type 0} (R : K → K → Ordering) (o : IsTotalOrder R) (buckets : List (K × List (ℕ × X))) (key : K) (q : K)
-    → bucket_by R (without_key R key buckets) q ≡ cond (eq_by_cmp R q key) [] (bucket_by R buckets q)
-bucket_cleared R o buckets key q =
-    ap (λ m. unwrap_or m []) (find-where_key R (λ x. not (eq_by_cmp R key x)) q (λ x e. ap (λ r. not (is_eq r)) (sym (alike_right o q x key e))) buckets)
-    ∙ (ap (λ b. unwrap_or (cond (not b) (find R q buckets) None) []) (turned_test R o key q)
-    ∙ elim (eq_by_cmp R q key) as (λ b. unwrap_or (cond (not b) (find R q buckets) None) [] ≡ cond b [] (bucket_by R buckets q)) [ true ↦ refl | false ↦ refl ])
-  where
-    turned : (r : Ordering) → is_eq (ordering_reverse r) ≡ is_eq r
-    turned Less = refl
-    turned Equal = refl
-    turned Greater = refl
-
-    turned_test : {K : Type 0} (R : K → K → Ordering) (o : IsTotalOrder R) (a b : K) → eq_by_cmp R a b ≡ eq_by_cmp R b a
-    turned_test R o a b = ap is_eq (o.antisymm a b) ∙ turned (R b a)
-
--- tied keys have one map
-pub bucket_tied : {K X : Type 0} (R : K → K → Ordering) (o : IsTotalOrder R) (buckets : List (K × List (ℕ × X))) (key q : K) → eq_by_cmp R q key ≡ true → bucket_by R buckets key ≡ bucket_by R buckets q
-bucket_tied R o buckets key q e = ap (λ m. unwrap_or m []) (find_tied R o q key (equal_of (R q key) e) buckets)
+-- what a place has in the map under a key
+pub find_under : {K X : Type 0} (R : K → K → Ordering) (buckets : List (K × List (ℕ × X))) (q : K) (p : ℕ) → find nat_cmp p (bucket_of R buckets q) ≡ find_in R nat_cmp buckets q p
+find_under R buckets q p = elim (find R q buckets) as (λ o. find nat_cmp p (unwrap_or o []) ≡ option_and_then (find nat_cmp p) o) [ None ↦ refl | Some m ↦ refl ]
 
 put_last : {X : Type 0} (n : ℕ) (x : X) (es : List (ℕ × X)) → AllByRecursion (λ e. e.0 < n) es → put nat_cmp n x es ≡ es ++ (n, x) ∷ []
 put_last n x [] h = refl
@@ -76,10 +40,6 @@ put_last n x (e ∷ es) h =
 
 pub put_entry : {X : Type 0} (n : ℕ) (x : X) (es : List (ℕ × X)) → AllByRecursion (λ e. e.0 < n) es → map (λ e. e.1) (put nat_cmp n x es) ≡ map (λ e. e.1) es ++ x ∷ []
 put_entry n x es h = ap (map (λ e. e.1)) (put_last n x es h) ∙ map-append (λ (e : ℕ × _). e.1) es ((n, x) ∷ [])
-
-pub none_left : {X : Type 0} (xs : List X) → length xs ≡ 0 → xs ≡ []
-none_left [] h = refl
-none_left (x ∷ xs) h = absurd (omega (arith, h))
 
 -- ---- what stands in a place
 
@@ -199,6 +159,10 @@ above_not x p h = ties p x ∙ (turn x p ∙ (sym (ties x p) ∙ less_not (nat_c
     turn : (a b : ℕ) → (b == a) ≡ (a == b)
     turn a b = grind arith
 
+-- the entry comes to a place that is free, or leaves its place
+abbrev pub Turns : {E : Type 0} → E → Option E → Option E → Type 0
+Turns e before after = ((before ≡ None) × (after ≡ Some e)) ⊎ ((before ≡ Some e) × (after ≡ None))
+
 module _ {K E X : Type 0} (R : K → K → Ordering) (key : E → K) (value : E → X) where
   placed_changed : (q : K) (es : List (ℕ × E)) → placed R key value q es ≡ changed (λ e. if eq_by_cmp R q (key e) then Some (value e) else None) es
   placed_changed q [] = refl
@@ -207,63 +171,34 @@ module _ {K E X : Type 0} (R : K → K → Ordering) (key : E → K) (value : E 
       (λ k. rw k (placed_changed q es))
 
   -- a map in order that tells for each place what the entries do is the list of the values
-  pub bucket_is : (q : K) (es : List (ℕ × E)) (b : List (ℕ × X)) → T (is_sorted nat_cmp es) → T (is_sorted nat_cmp b)
-      → ((p : ℕ) → find nat_cmp p b ≡ value_at R key value q (find nat_cmp p es)) → b ≡ placed R key value q es
-  bucket_is q es b sorted rising tells = changed_is (λ e. if eq_by_cmp R q (key e) then Some (value e) else None) es b sorted rising tells ∙ sym (placed_changed q es)
+  pub bucket_is : (q : K) (es : List (ℕ × E)) (buckets : List (K × List (ℕ × X))) → T (is_sorted nat_cmp es) → T (is_sorted nat_cmp (bucket_of R buckets q))
+      → ((p : ℕ) → find_in R nat_cmp buckets q p ≡ value_at R key value q (find nat_cmp p es)) → bucket_of R buckets q ≡ placed R key value q es
+  bucket_is q es buckets sorted rising tells =
+      changed_is (λ e. if eq_by_cmp R q (key e) then Some (value e) else None) es (bucket_of R buckets q) sorted rising (λ p. find_under R buckets q p ∙ tells p) ∙ sym (placed_changed q es)
 
-  -- an index keeps up with an entry more
-  pub tells_with : (es fs : List (ℕ × E)) (n : ℕ) (e : E) (old new : List (K × List (ℕ × X)))
-      → ((q : K) (p : ℕ) → find nat_cmp p (bucket_by R old q) ≡ value_at R key value q (find nat_cmp p es))
-      → find nat_cmp n es ≡ None
-      → ((p : ℕ) → find nat_cmp p fs ≡ cond (p == n) (Some e) (find nat_cmp p es))
-      → ((q : K) → bucket_by R new q ≡ cond (eq_by_cmp R q (key e)) (put nat_cmp n (value e) (bucket_by R old q)) (bucket_by R old q))
-      → (q : K) (p : ℕ) → find nat_cmp p (bucket_by R new q) ≡ value_at R key value q (find nat_cmp p fs)
-  tells_with es fs n e old new tells free found is q p =
-      let b : List (ℕ × X) = bucket_by R old q in
-      ap (find nat_cmp p) (is q)
-      ∙ by_test (p == n)
-      (λ t.
-      let now : find nat_cmp p fs ≡ Some e = subst (λ c. find nat_cmp p fs ≡ cond c (Some e) (find nat_cmp p es)) t (found p) in
-      let none : find nat_cmp p b ≡ None = tells q p ∙ ap (value_at R key value q) (ap (λ m. find nat_cmp m es) (eqb-true p n t) ∙ free) in
-      by_test (eq_by_cmp R q (key e))
-      (λ k.
-      let worth : value_at R key value q (find nat_cmp p fs) ≡ Some (value e) = ap (value_at R key value q) now ∙ ap (λ c. cond c (Some (value e)) None) k in
-      ap (λ c. find nat_cmp p (cond c (put nat_cmp n (value e) b) b)) k ∙ (find-put_at p n (value e) b ∙ (ap (λ c. cond c (Some (value e)) (find nat_cmp p b)) t ∙ sym worth)))
-      (λ k.
-      let worth : value_at R key value q (find nat_cmp p fs) ≡ None = ap (value_at R key value q) now ∙ ap (λ c. cond c (Some (value e)) None) k in
-      ap (λ c. find nat_cmp p (cond c (put nat_cmp n (value e) b) b)) k ∙ (none ∙ sym worth)))
-      (λ t.
-      let now : find nat_cmp p fs ≡ find nat_cmp p es = subst (λ c. find nat_cmp p fs ≡ cond c (Some e) (find nat_cmp p es)) t (found p) in
-      let here : find nat_cmp p b ≡ value_at R key value q (find nat_cmp p fs) = tells q p ∙ ap (value_at R key value q) (sym now) in
-      by_test (eq_by_cmp R q (key e))
-      (λ k. ap (λ c. find nat_cmp p (cond c (put nat_cmp n (value e) b) b)) k ∙ (find-put_at p n (value e) b ∙ (ap (λ c. cond c (Some (value e)) (find nat_cmp p b)) t ∙ here)))
-      (λ k. ap (λ c. find nat_cmp p (cond c (put nat_cmp n (value e) b) b)) k ∙ here))
+  turned_at : (q : K) (e : E) (before after : Option E) → Turns e before after → (if eq_by_cmp R q (key e) then option_map value after else value_at R key value q before) ≡ value_at R key value q after
+  turned_at q e before after (inl h) = (λ i. if eq_by_cmp R q (key e) then option_map value (h.1 i) else value_at R key value q (h.0 i)) ∙ sym (ap (value_at R key value q) h.1)
+  turned_at q e before after (inr h) = (λ i. if eq_by_cmp R q (key e) then option_map value (h.1 i) else value_at R key value q (h.0 i)) ∙ (gone (eq_by_cmp R q (key e)) ∙ sym (ap (value_at R key value q) h.1))
+    where
+      gone : (b : Bool) → (if b then None else if b then Some (value e) else None) ≡ None
+      gone true = refl
+      gone false = refl
 
-  -- and with one that goes
-  pub tells_without : (es fs : List (ℕ × E)) (n : ℕ) (e : E) (old new : List (K × List (ℕ × X)))
-      → ((q : K) (p : ℕ) → find nat_cmp p (bucket_by R old q) ≡ value_at R key value q (find nat_cmp p es))
-      → find nat_cmp n es ≡ Some e
-      → ((p : ℕ) → find nat_cmp p fs ≡ cond (p == n) None (find nat_cmp p es))
-      → ((q : K) → bucket_by R new q ≡ cond (eq_by_cmp R q (key e)) (without_key nat_cmp n (bucket_by R old q)) (bucket_by R old q))
-      → (q : K) (p : ℕ) → find nat_cmp p (bucket_by R new q) ≡ value_at R key value q (find nat_cmp p fs)
-  tells_without es fs n e old new tells there found is q p =
-      let b : List (ℕ × X) = bucket_by R old q in
-      ap (find nat_cmp p) (is q)
-      ∙ by_test (p == n)
-      (λ t.
-      let now : find nat_cmp p fs ≡ None = subst (λ c. find nat_cmp p fs ≡ cond c None (find nat_cmp p es)) t (found p) in
-      let gone : value_at R key value q (find nat_cmp p fs) ≡ None = ap (value_at R key value q) now in
-      by_test (eq_by_cmp R q (key e))
-      (λ k. ap (λ c. find nat_cmp p (cond c (without_key nat_cmp n b) b)) k ∙ (find-without_at p n b ∙ (ap (λ c. cond c None (find nat_cmp p b)) t ∙ sym gone)))
-      (λ k.
-      let none : find nat_cmp p b ≡ None = tells q p ∙ (ap (value_at R key value q) (ap (λ m. find nat_cmp m es) (eqb-true p n t) ∙ there) ∙ ap (λ c. cond c (Some (value e)) None) k) in
-      ap (λ c. find nat_cmp p (cond c (without_key nat_cmp n b) b)) k ∙ (none ∙ sym gone)))
-      (λ t.
-      let now : find nat_cmp p fs ≡ find nat_cmp p es = subst (λ c. find nat_cmp p fs ≡ cond c None (find nat_cmp p es)) t (found p) in
-      let here : find nat_cmp p b ≡ value_at R key value q (find nat_cmp p fs) = tells q p ∙ ap (value_at R key value q) (sym now) in
-      by_test (eq_by_cmp R q (key e))
-      (λ k. ap (λ c. find nat_cmp p (cond c (without_key nat_cmp n b) b)) k ∙ (find-without_at p n b ∙ (ap (λ c. cond c None (find nat_cmp p b)) t ∙ here)))
-      (λ k. ap (λ c. find nat_cmp p (cond c (without_key nat_cmp n b) b)) k ∙ here))
+  -- an index keeps up with an entry that comes or goes
+  pub tells_changed : (es fs : List (ℕ × E)) (n : ℕ) (e : E) (now : Option E) (old new : List (K × List (ℕ × X)))
+      → ((q : K) (p : ℕ) → find_in R nat_cmp old q p ≡ value_at R key value q (find nat_cmp p es))
+      → Turns e (find nat_cmp n es) now
+      → ((p : ℕ) → find nat_cmp p fs ≡ cond (p == n) now (find nat_cmp p es))
+      → ((q : K) (p : ℕ) → find_in R nat_cmp new q p ≡ (if eq_by_cmp R q (key e) && eq_by_cmp nat_cmp p n then option_map value now else find_in R nat_cmp old q p))
+      → (q : K) (p : ℕ) → find_in R nat_cmp new q p ≡ value_at R key value q (find nat_cmp p fs)
+  tells_changed es fs n e now old new tells turns found is q p =
+      let b = eq_by_cmp R q (key e) in
+      is q p ∙ ((λ i. if b && ties p n i then option_map value now else tells q p i) ∙ by_test (p == n)
+      (λ t. ap (λ c. if c then option_map value now else value_at R key value q (find nat_cmp p es)) (ap (λ c. b && c) t ∙ and-true b)
+      ∙ (ap (λ m. if b then option_map value now else value_at R key value q (find nat_cmp m es)) (eqb-true p n t)
+      ∙ (turned_at q e (find nat_cmp n es) now turns ∙ ap (value_at R key value q) (sym (found p ∙ ap (λ c. cond c now (find nat_cmp p es)) t)))))
+      (λ t. ap (λ c. if c then option_map value now else value_at R key value q (find nat_cmp p es)) (and_right b (p == n) t)
+      ∙ ap (value_at R key value q) (sym (found p ∙ ap (λ c. cond c now (find nat_cmp p es)) t))))
 
   -- a test of the values that have the key
   pub any_placed : (t : X → Bool) (q : K) (es : List (ℕ × E)) → list_any (λ e. t e.1) (placed R key value q es) ≡ list_any (λ e. eq_by_cmp R q (key e) && t (value e)) (map (λ e. e.1) es)

@@ -1,15 +1,12 @@
 -- Entries by their places, and their indexes.
-use Rattle.std.specs.Prelude.{◌≡◌, ℕ, ◌≤◌, Bool, false, List, [], Option, None, Some, map, filter, unwrap_or, option_map, option_and_then, if◌then◌else◌, T}
+use Rattle.std.specs.Prelude.{◌≡◌, ℕ, ◌≤◌, Bool, false, List, Option, None, Some, map, filter, unwrap_or, option_map, option_and_then, if◌then◌else◌, T}
 use Rattle.core.specs.Ordering.{nat_cmp, eq_by_cmp, ordering_then}
 use Rattle.core.specs.Cmp.Lexicographic.{slice_cmp}
 use Rattle.core.specs.declared.cmp.Ordering.{Ordering}
 use Rattle.core.specs.FinMap.Entries.{find, is_sorted}
 use Rattle.cm_base.specs.declared.number.Oid.{Oid}
+use Rattle.cm_lists.specs.Buckets.{find_in}
 use Rattle.cm_folder.specs.declared.entry.FilingEntry.{FilingEntry}
-
--- the map under a key; where there is none, the empty one
-abbrev pub bucket_by : {K X : Type 0} → (K → K → Ordering) → List (K × List (ℕ × X)) → K → List (ℕ × X)
-bucket_by R buckets q = unwrap_or (find R q buckets) []
 
 -- the values of the entries that have the key, by their places
 abbrev pub placed : {K E X : Type 0} → (K → K → Ordering) → (E → K) → (E → X) → K → List (ℕ × E) → List (ℕ × X)
@@ -40,11 +37,11 @@ is_folder_at entries place = unwrap_or (option_map (λ e. e.is_folder) (find nat
 pub record IsIndexed (entries : List (ℕ × FilingEntry)) (by_child by_folder : List (ℕ × List (ℕ × Oid))) (by_name : List ((ℕ × List ℕ) × List (ℕ × Oid))) : Type 0 where
   pub sorted : T (is_sorted nat_cmp entries)
   -- by child: its folders
-  pub children : (c p : ℕ) → find nat_cmp p (bucket_by nat_cmp by_child c) ≡ value_at nat_cmp child_key (λ e. e.folder) c (find nat_cmp p entries)
+  pub children : (c p : ℕ) → find_in nat_cmp nat_cmp by_child c p ≡ value_at nat_cmp child_key (λ e. e.folder) c (find nat_cmp p entries)
   -- by folder: its children
-  pub folders : (f p : ℕ) → find nat_cmp p (bucket_by nat_cmp by_folder f) ≡ value_at nat_cmp folder_key (λ e. e.child) f (find nat_cmp p entries)
+  pub folders : (f p : ℕ) → find_in nat_cmp nat_cmp by_folder f p ≡ value_at nat_cmp folder_key (λ e. e.child) f (find nat_cmp p entries)
   -- by folder and name: the children
-  pub names : (k : ℕ × List ℕ) (p : ℕ) → find nat_cmp p (bucket_by name_order by_name k) ≡ value_at name_order name_key (λ e. e.child) k (find nat_cmp p entries)
+  pub names : (k : ℕ × List ℕ) (p : ℕ) → find_in name_order nat_cmp by_name k p ≡ value_at name_order name_key (λ e. e.child) k (find nat_cmp p entries)
 
 pub record IsFiling (entries : List (ℕ × FilingEntry)) (next : ℕ) (by_child by_folder : List (ℕ × List (ℕ × Oid))) (by_name : List ((ℕ × List ℕ) × List (ℕ × Oid))) : Type 0 where
   -- places are below the next one

@@ -91,7 +91,7 @@ impl Filing {
         if self.is_far_folder(target, moved, folder) {
             return true;
         }
-        match self.parts.by_folder.get(&folder.0) {
+        match self.parts.by_folder.bucket(&folder.0) {
             Some(children) => self.has_far_among(levels - 1, target, moved, folder, children),
             None => false,
         }

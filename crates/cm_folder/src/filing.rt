@@ -1,24 +1,25 @@
 //! The filing of a repository.
-ghost use Rattle.std.specs.Prelude.{◌≡◌, ℕ, ◌+◌, ◌-◌, ◌<◌, ◌≤◌, ◌||◌, ◌&&◌, not, true, Option, None, Some, find, option_map, option_copied, List, [], ◌∷◌, ◌++◌, map, filter_map, length, nat_lt, IfOk, All, false};
+ghost use Rattle.std.specs.Prelude.{◌≡◌, ◌+◌, ◌-◌, ◌<◌, ◌≤◌, not, true, Option, None, Some, find, option_copied, List, [], map, filter_map, length, IfOk, All, false};
 ghost use Rattle.std.specs.List.{list_any};
 ghost use Rattle.core.specs.Ordering.{nat_cmp};
 ghost use Rattle.core.specs.FinMap.Entries.{is_sorted};
 ghost use Rattle.std.specs.Prelude.{T};
 ghost use Rattle.cm_base.specs.Judged.{Leaves};
-ghost use Rattle.cmis_spec.specs.Repository.{same, levels_up, most_levels};
-ghost use Rattle.cm_folder.specs.Places.{bucket_by, name_order};
+ghost use Rattle.cmis_spec.specs.Repository.{same, levels_up};
+ghost use Rattle.cm_lists.specs.Buckets.{bucket_of};
+ghost use Rattle.cm_folder.specs.Places.{name_order};
 ghost use Rattle.cm_folder.specs.Trees.{IsTree, MayBeFiled};
-ghost use Rattle.cm_folder.specs.Filings.{is_entry, is_filed_in, is_name_taken, is_above_in, is_under_in, folders_up_in, depth_in, folder_of, name_in, name_under, is_too_deep, refusal_file, filed_with, refusal_unfile, unfiled, refusal_place, refusal_shift, shifted, refusal_rename, renamed, edit_child};
+ghost use Rattle.cm_folder.specs.Filings.{is_entry, is_filed_in, is_name_taken, is_above_in, is_under_in, folders_up_in, depth_in, folder_of, refusal_file, filed_with, refusal_unfile, unfiled, shifted, renamed, edit_child};
 
 use crate::edit::Edit;
 use crate::entry::FilingEntry;
 use crate::parts::Parts;
-use crate::places::PlacesBy;
 use cm_base::cause::Cause;
 use cm_base::copies::Copies;
 use cm_base::fail::Fail;
 use cm_base::number::Oid;
 use cm_base::text::Text;
+use cm_lists::buckets::Buckets;
 use cm_map::map::Map;
 use std::alloc::{AllocError, Global};
 use std::marker::Model;
@@ -73,11 +74,11 @@ fn has_other(children: &Map<u64, Oid>, child: Oid) -> bool
 }
 
 // Under the folder and name one of the children is another one.
-fn has_other_under(by_name: &PlacesBy<(u64, Text), Oid>, key: &(u64, Text), child: Oid) -> bool
-    ensures value { result ≡ list_any (λ e. not (same e.1 child)) (bucket_by name_order by_name.now key.now) }
-    ensures sorted { T (is_sorted nat_cmp (bucket_by name_order by_name.now key.now)) }
+fn has_other_under(by_name: &Buckets<(u64, Text), u64, Oid>, key: &(u64, Text), child: Oid) -> bool
+    ensures value { result ≡ list_any (λ e. not (same e.1 child)) (bucket_of name_order by_name.now key.now) }
+    ensures sorted { T (is_sorted nat_cmp (bucket_of name_order by_name.now key.now)) }
 {
-    match by_name.get(key) {
+    match by_name.bucket(key) {
         Some(children) => has_other(children, child),
         None => false,
     }
@@ -118,7 +119,7 @@ impl Filing {
     pub fn is_filed(&self, folder: Oid, child: Oid) -> bool
         ensures { result ≡ is_filed_in self.now folder child }
     {
-        match self.parts.by_child.get(&child.0) {
+        match self.parts.by_child.bucket(&child.0) {
             Some(folders) => has_folder(folders, folder),
             None => false,
         }
@@ -212,7 +213,7 @@ impl Filing {
     pub fn is_above(&self, folder: Oid, child: Oid) -> bool
         ensures { result ≡ is_above_in self.now folder child }
     {
-        match self.parts.by_child.get(&child.0) {
+        match self.parts.by_child.bucket(&child.0) {
             Some(folders) => self.over_one(folder, folders),
             None => false,
         }

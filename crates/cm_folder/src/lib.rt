@@ -9,5 +9,4 @@ pub mod entry;
 pub mod filing;
 mod parts;
 pub mod path;
-mod places;
 pub mod shift;

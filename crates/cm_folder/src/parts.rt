@@ -1,5 +1,5 @@
 //! Entries by their places, with their indexes.
-ghost use Rattle.std.specs.Prelude.{◌≡◌, ℕ, ◌==◌, if◌then◌else◌, true, Option, None, Some, is_some, List, [], map, option_map, option_copied, option_and_then, IfOk, T};
+ghost use Rattle.std.specs.Prelude.{◌≡◌, ℕ, ◌==◌, if◌then◌else◌, true, Option, None, Some, is_some, [], map, option_map, option_copied, option_and_then, IfOk, T};
 ghost use Rattle.std.specs.List.{list_any, find as find_by};
 ghost use Rattle.core.specs.Ordering.{nat_cmp};
 ghost use Rattle.core.specs.FinMap.Entries.{find, put, is_sorted};
@@ -10,10 +10,10 @@ ghost use Rattle.cm_folder.specs.Trees.{is_folder_in};
 
 use crate::edit::Edit;
 use crate::entry::FilingEntry;
-use crate::places::PlacesBy;
 use cm_base::copies::Copies;
 use cm_base::number::Oid;
 use cm_base::text::Text;
+use cm_lists::buckets::Buckets;
 use cm_map::map::Map;
 use std::alloc::{AllocError, Global};
 
@@ -21,9 +21,9 @@ use std::alloc::{AllocError, Global};
 #[derive(Drop)]
 pub struct Parts {
     pub entries: Map<u64, FilingEntry>,
-    pub by_child: PlacesBy<u64, Oid>,
-    pub by_folder: PlacesBy<u64, Oid>,
-    pub by_name: PlacesBy<(u64, Text), Oid>,
+    pub by_child: Buckets<u64, u64, Oid>,
+    pub by_folder: Buckets<u64, u64, Oid>,
+    pub by_name: Buckets<(u64, Text), u64, Oid>,
 }
 
 // The first of the places.
@@ -69,9 +69,9 @@ impl Parts {
     {
         Parts {
             entries: Map::empty(alloc),
-            by_child: PlacesBy::empty(alloc),
-            by_folder: PlacesBy::empty(alloc),
-            by_name: PlacesBy::empty(alloc),
+            by_child: Buckets::empty(alloc),
+            by_folder: Buckets::empty(alloc),
+            by_name: Buckets::empty(alloc),
         }
     }
 
@@ -127,7 +127,7 @@ impl Parts {
         requires indexed { IsIndexed self.now.entries self.now.by_child self.now.by_folder self.now.by_name }
         ensures { result ≡ option_map (λ d. d.0) (find_by (λ d. true) (placed nat_cmp child_key (λ e. e.folder) child.0 self.now.entries)) }
     {
-        match self.by_child.get(&child.0) {
+        match self.by_child.bucket(&child.0) {
             Some(folders) => first_place(folders),
             None => None,
         }
@@ -149,7 +149,7 @@ impl Parts {
         requires indexed { IsIndexed self.now.entries self.now.by_child self.now.by_folder self.now.by_name }
         ensures { result ≡ option_map (λ d. d.0) (find_by (λ d. same d.1 folder) (placed nat_cmp child_key (λ e. e.folder) child.0 self.now.entries)) }
     {
-        match self.by_child.get(&child.0) {
+        match self.by_child.bucket(&child.0) {
             Some(folders) => place_of(folders, folder),
             None => None,
         }
@@ -196,7 +196,7 @@ impl Parts {
         requires indexed { IsIndexed self.now.entries self.now.by_child self.now.by_folder self.now.by_name }
         ensures { result ≡ is_folder_in (map (λ e. e.1) self.now.entries) child }
     {
-        match self.by_child.get(&child.0) {
+        match self.by_child.bucket(&child.0) {
             Some(places) => self.has_folder_at(places),
             None => false,
         }
@@ -215,9 +215,9 @@ impl Parts {
         ensures found { IfOk result (λ s. (p : ℕ) → find nat_cmp p s.entries ≡ (if p == place then None else find nat_cmp p self.now.entries)) }
     {
         let name = entry.name.copied(alloc)?;
-        let by_child = self.by_child.without(alloc, entry.child.0, place)?;
-        let by_folder = self.by_folder.without(alloc, entry.folder.0, place)?;
-        let by_name = self.by_name.without(alloc, (entry.folder.0, name), place)?;
+        let by_child = self.by_child.without(alloc, entry.child.0, &place)?;
+        let by_folder = self.by_folder.without(alloc, entry.folder.0, &place)?;
+        let by_name = self.by_name.without(alloc, (entry.folder.0, name), &place)?;
         let entries = self.entries.without(alloc, &place)?;
         Ok(Parts {
             entries,
@@ -327,7 +327,7 @@ impl Parts {
         ensures indexed { IfOk result (λ s. IsIndexed s.entries s.by_child s.by_folder s.by_name) }
         ensures found { IfOk result (λ s. (p : ℕ) → find nat_cmp p s.entries ≡ option_and_then (edit_child edit.now child) (find nat_cmp p self.now.entries)) }
     {
-        match self.by_child.get(&child.0) {
+        match self.by_child.bucket(&child.0) {
             Some(places) => {
                 let parts = self.edited_at(alloc, places, edit)?;
                 Ok(parts)

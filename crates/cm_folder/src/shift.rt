@@ -8,7 +8,6 @@ ghost use Rattle.cmis_spec.specs.Repository.{same};
 ghost use Rattle.cm_folder.specs.Trees.{IsTree, IsFolderAt};
 ghost use Rattle.cm_folder.specs.Filings.{is_name_taken, name_under, refusal_place, refusal_shift, shifted, refusal_rename, renamed};
 
-use crate::entry::FilingEntry;
 use crate::filing::Filing;
 use cm_base::cause::Cause;
 use cm_base::fail::Fail;
@@ -117,7 +116,7 @@ impl Filing {
     fn is_name_taken(&self, alloc: Global, child: Oid, name: &Text) -> Result<bool, AllocError>
         ensures { IfOk result (λ b. b ≡ list_any (λ e. same e.child child && is_name_taken self.now e.folder child name.now) self.now) }
     {
-        match self.parts.by_child.get(&child.0) {
+        match self.parts.by_child.bucket(&child.0) {
             Some(folders) => {
                 let taken = self.is_taken_in_one(alloc, child, folders, name)?;
                 Ok(taken)

@@ -1,9 +1,8 @@
-//! Maps under numbers.
-ghost use Rattle.std.specs.Prelude.{◌≡◌, ◌==◌, ◌&&◌, ℕ, List, [], Option, Some, None, IfOk, IfSome, cond, option_copied, if◌then◌else◌};
-ghost use Rattle.core.specs.Ordering.{nat_cmp, eq_by_cmp};
+//! Maps under keys.
+ghost use Rattle.std.specs.Prelude.{◌≡◌, ◌&&◌, List, [], Option, Some, None, IfOk, option_copied, if◌then◌else◌};
+ghost use Rattle.core.specs.Ordering.{eq_by_cmp};
 ghost use Rattle.core.specs.FinMap.Entries.{put, find};
 ghost use Rattle.map_keys.specs.Parts.{without_key};
-ghost use Rattle.cm_map.specs.Rests.{rest};
 ghost use Rattle.cm_lists.specs.Buckets.{find_in, bucket_of, with_bucket};
 
 use cm_map::map::Map;
@@ -11,23 +10,23 @@ use map_keys::key::Key;
 use std::alloc::{AllocError, Global};
 use std::marker::Model;
 
-/// Maps, each under a number, as the children of each folder by name. A change leaves the old maps as they were.
+/// Maps, each under a key of its own, as the children of each folder by name. A change leaves the old maps as they were.
 #[derive(Drop)]
-pub struct Buckets<K: Key, V: Drop> {
-    maps: Map<u64, Map<K, V>>,
+pub struct Buckets<K: Key, J: Key, V: Drop> {
+    maps: Map<K, Map<J, V>>,
 }
 
-impl<K: Key, V: Drop> Model for Buckets<K, V> {
-    ghost use Rattle.std.specs.Prelude.{List, ℕ};
+impl<K: Key, J: Key, V: Drop> Model for Buckets<K, J, V> {
+    ghost use Rattle.std.specs.Prelude.{List};
 
-    ghost Value = { List (ℕ × List (K × V)) };
+    ghost Value = { List (K × List (J × V)) };
 
     ghost view = { λ s. s.maps };
 }
 
-impl<K: Key, V: Drop> Buckets<K, V> {
+impl<K: Key, J: Key, V: Drop> Buckets<K, J, V> {
     /// No maps, which take no memory.
-    pub fn empty(alloc: Global) -> Buckets<K, V>
+    pub fn empty(alloc: Global) -> Buckets<K, J, V>
         ensures { result ≡ [] }
     {
         Buckets {
@@ -35,90 +34,95 @@ impl<K: Key, V: Drop> Buckets<K, V> {
         }
     }
 
-    /// The map under the number.
-    pub fn bucket(&self, number: u64) -> Option<&Map<K, V>>
-        ensures { option_copied result ≡ find nat_cmp number self.now }
+    /// The map under the outer key. It takes no memory.
+    pub fn bucket(&self, outer: &K) -> Option<&Map<J, V>>
+        ensures { option_copied result ≡ find K.cmp outer.now self.now }
     {
-        self.maps.get(&number)
+        self.maps.get(outer)
     }
 
-    /// The value at the key under the number. It takes no memory.
-    pub fn get(&self, number: u64, key: &K) -> Option<&V>
-        ensures { option_copied result ≡ find_in K.cmp self.now number key.now }
+    /// The value at the inner key under the outer one. It takes no memory.
+    pub fn get(&self, outer: &K, inner: &J) -> Option<&V>
+        ensures { option_copied result ≡ find_in K.cmp J.cmp self.now outer.now inner.now }
     {
-        let map = self.maps.get(&number)?;
-        map.get(key)
+        let map = self.maps.get(outer)?;
+        map.get(inner)
     }
 
-    // The map under the number with one more entry.
+    // The map under the outer key with one more entry.
     fn bucket_with(
         &self,
         alloc: Global,
-        number: u64,
-        key: K,
+        outer: &K,
+        inner: J,
         value: V,
-    ) -> Result<Map<K, V>, AllocError>
-        ensures { IfOk result (λ m. m ≡ put K.cmp key value (bucket_of self.now number)) }
+    ) -> Result<Map<J, V>, AllocError>
+        ensures { IfOk result (λ m. m ≡ put J.cmp inner value (bucket_of K.cmp self.now outer.now)) }
     {
-        match self.maps.get(&number) {
-            Some(old) => old.with(alloc, key, value),
-            None => Map::empty(alloc).with(alloc, key, value),
+        match self.maps.get(outer) {
+            Some(old) => old.with(alloc, inner, value),
+            None => Map::empty(alloc).with(alloc, inner, value),
         }
     }
 
-    /// The maps with the value at the key under the number, in place of an older one.
+    /// The maps with the value at the inner key under the outer one, in place of an older value.
     pub fn with(
         &self,
         alloc: Global,
-        number: u64,
-        key: K,
+        outer: K,
+        inner: J,
         value: V,
-    ) -> Result<Buckets<K, V>, AllocError>
-        ensures bucket { IfOk result (λ m. m ≡ put nat_cmp number (put K.cmp key value (bucket_of self.now number)) self.now) }
-        ensures found { IfOk result (λ m. (n : ℕ) (k : K) → find_in K.cmp m n k ≡ (if n == number && eq_by_cmp K.cmp k key then Some value else find_in K.cmp self.now n k)) }
+    ) -> Result<Buckets<K, J, V>, AllocError>
+        ensures bucket { IfOk result (λ m. m ≡ put K.cmp outer (put J.cmp inner value (bucket_of K.cmp self.now outer)) self.now) }
+        ensures found { IfOk result (λ m. (n : K) (k : J) → find_in K.cmp J.cmp m n k ≡ (if eq_by_cmp K.cmp n outer && eq_by_cmp J.cmp k inner then Some value else find_in K.cmp J.cmp self.now n k)) }
     {
-        let map = self.bucket_with(alloc, number, key, value)?;
-        let maps = self.maps.with(alloc, number, map)?;
+        let map = self.bucket_with(alloc, &outer, inner, value)?;
+        let maps = self.maps.with(alloc, outer, map)?;
         Ok(Buckets { maps })
     }
 
-    // The map under the number without the key.
-    fn bucket_without(&self, alloc: Global, number: u64, key: &K) -> Result<Map<K, V>, AllocError>
-        ensures { IfOk result (λ m. m ≡ without_key K.cmp key.now (bucket_of self.now number)) }
+    // The map under the outer key without the inner one.
+    fn bucket_without(&self, alloc: Global, outer: &K, inner: &J) -> Result<Map<J, V>, AllocError>
+        ensures { IfOk result (λ m. m ≡ without_key J.cmp inner.now (bucket_of K.cmp self.now outer.now)) }
     {
-        match self.maps.get(&number) {
-            Some(old) => old.without(alloc, key),
+        match self.maps.get(outer) {
+            Some(old) => old.without(alloc, inner),
             None => Ok(Map::empty(alloc)),
         }
     }
 
-    // The maps with this one under the number, or with none where it is empty.
+    // The maps with this one under the outer key, or with none where it is empty.
     fn maps_with(
         &self,
         alloc: Global,
-        number: u64,
-        map: Map<K, V>,
-    ) -> Result<Map<u64, Map<K, V>>, AllocError>
-        ensures { IfOk result (λ m. m ≡ with_bucket number map self.now) }
+        outer: K,
+        map: Map<J, V>,
+    ) -> Result<Map<K, Map<J, V>>, AllocError>
+        ensures { IfOk result (λ m. m ≡ with_bucket K.cmp outer map self.now) }
     {
         if map.is_empty() {
-            return self.maps.without(alloc, &number);
+            return self.maps.without(alloc, &outer);
         }
-        self.maps.with(alloc, number, map)
+        self.maps.with(alloc, outer, map)
     }
 
-    /// The maps without the value at the key under the number. A map that is empty then goes too.
-    pub fn without(&self, alloc: Global, number: u64, key: &K) -> Result<Buckets<K, V>, AllocError>
-        ensures bucket { IfOk result (λ m. m ≡ with_bucket number (without_key K.cmp key.now (bucket_of self.now number)) self.now) }
-        ensures found { IfOk result (λ m. (n : ℕ) (k : K) → find_in K.cmp m n k ≡ (if n == number && eq_by_cmp K.cmp k key.now then None else find_in K.cmp self.now n k)) }
+    /// The maps without the value at the inner key under the outer one. A map that is empty then goes too.
+    pub fn without(
+        &self,
+        alloc: Global,
+        outer: K,
+        inner: &J,
+    ) -> Result<Buckets<K, J, V>, AllocError>
+        ensures bucket { IfOk result (λ m. m ≡ with_bucket K.cmp outer (without_key J.cmp inner.now (bucket_of K.cmp self.now outer)) self.now) }
+        ensures found { IfOk result (λ m. (n : K) (k : J) → find_in K.cmp J.cmp m n k ≡ (if eq_by_cmp K.cmp n outer && eq_by_cmp J.cmp k inner.now then None else find_in K.cmp J.cmp self.now n k)) }
     {
-        let map = self.bucket_without(alloc, number, key)?;
-        let maps = self.maps_with(alloc, number, map)?;
+        let map = self.bucket_without(alloc, &outer, inner)?;
+        let maps = self.maps_with(alloc, outer, map)?;
         Ok(Buckets { maps })
     }
 
     /// The same maps once more.
-    pub fn share(&self, alloc: Global) -> Result<Buckets<K, V>, AllocError>
+    pub fn share(&self, alloc: Global) -> Result<Buckets<K, J, V>, AllocError>
         ensures { IfOk result (λ m. m ≡ self.now) }
     {
         let maps = self.maps.share(alloc)?;

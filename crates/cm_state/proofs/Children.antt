@@ -2,7 +2,9 @@
 use Rattle.std.specs.Prelude.{◌≡◌, ◌<◌, Bool, true, false, ◌&&◌, ◌||◌, List, [], ◌∷◌, map, filter, find, All, Option, Some, None, is_some, option_map, unwrap_or}
 use Rattle.std.specs.List.{list_any}
 use Rattle.std.proofs.Common.{refl, sym, ap, subst, ◌∙◌, inl, inr, arith}
-use Rattle.std.proofs.lemmas.Bool.{both_ways}
+use Rattle.std.proofs.lemmas.Bool.{both_ways, and_parts}
+use Rattle.std.proofs.lemmas.List.Folds.{list_any_none}
+use Rattle.std.proofs.Math.Bool.{and-true}
 use Rattle.std.proofs.lemmas.List.Elements.{All-nil, All-cons, All-head, All-tail, All-weaker}
 use Rattle.cm_base.specs.declared.number.Oid.{Oid}
 use Rattle.cm_base.specs.declared.object.Object.{Object}
@@ -17,10 +19,6 @@ use Rattle.cm_state.proofs.Pairs.{is_some_find}
 use Rattle.cm_state.specs.Looks.{numbers_in}
 
 -- ---- lists
-
-any_false : {A : Type 0} (p : A → Bool) (xs : List A) → All (λ x. p x ≡ false) xs → list_any p xs ≡ false
-any_false p [] h = refl
-any_false p (x ∷ xs) h = rw (All-head (λ x. p x ≡ false) x xs h) (any_false p xs (All-tail (λ x. p x ≡ false) x xs h))
 
 pub find_alike : {A : Type 0} (p q : A → Bool) (xs : List A) → All (λ x. p x ≡ q x) xs → find p xs ≡ find q xs
 find_alike p q [] h = refl
@@ -101,25 +99,18 @@ module _ (r : Repository) (w : IsWellFormed r) (none : r.series ≡ []) where
       by None e = by_test (is_filed r f n)
           (λ t. let p = any_found (λ p. same p.folder f && same p.child n) r.filed t in
           let there : IsThere r p.0.child = child_there p.0 (found_holds (IsPair r) (λ p. same p.folder f && same p.child n) r.filed p.0 w.pairs p.1) in
-          let at : p.0.child ≡ n = same_eq p.0.child n (second (same p.0.folder f) (same p.0.child n) (found_passes (λ p. same p.folder f && same p.child n) r.filed p.0 p.1)) in
+          let at : p.0.child ≡ n = same_eq p.0.child n (and_parts (same p.0.folder f) (same p.0.child n) (found_passes (λ p. same p.folder f && same p.child n) r.filed p.0 p.1)).1 in
           absurd (none_some there.0 (sym e ∙ (ap (object_at r) (sym at) ∙ there.1))))
           (λ t. sym t)
-        where
-          second : (a b : Bool) → a && b ≡ true → b ≡ true
-          second a b h = grind (arith, h)
       by (Some x) e =
           let single : x.series ≡ None = found_holds (λ x. x.series ≡ None) (λ x. same x.id n) r.objects x alone e in
-          rw (entry_is x single, stands_alone x single, number_found r n x e) (and_true (is_filed r f n))
-        where
-          and_true : (a : Bool) → a && true ≡ a
-          and_true true = refl
-          and_true false = refl
+          rw (entry_is x single, stands_alone x single, number_found r n x e) (and-true (is_filed r f n))
 
   pub children_are : (f : Oid) (all : List Oid) → Rises (λ n. n.0) all → ((n : Oid) → list_any (same n) all ≡ is_filed r f n) → all ≡ numbers_in r f
   children_are f all rises member = rising_same all (numbers_in r f) rises (rises_filter (λ x. is_filed r f (entry_of x) && stands r x) r.objects w.numbers.0) (λ n. member n ∙ sym (standing_any f n))
     where
       none_below : (n : Oid) (ys : List Oid) → All (λ m. n.0 < m.0) ys → list_any (same n) ys ≡ false
-      none_below n ys h = any_false (same n) ys (All-weaker (λ m. n.0 < m.0) (λ m. same n m ≡ false) (λ m l. differ n m (λ k. let e : n.0 ≡ m.0 = ap (λ i. i.0) k in omega (arith, l, e))) ys h)
+      none_below n ys h = list_any_none (same n) ys (All-weaker (λ m. n.0 < m.0) (λ m. same n m ≡ false) (λ m l. differ n m (λ k. let e : n.0 ≡ m.0 = ap (λ i. i.0) k in omega (arith, l, e))) ys h)
 
       has_head : (x : Oid) (xs : List Oid) → list_any (same x) (x ∷ xs) ≡ true
       has_head x xs = rw (same_refl x) refl

@@ -1,7 +1,7 @@
 -- An object more with its pair: what its lists and the index of names take.
-use Rattle.std.specs.Prelude.{◌≡◌, ℕ, ◌+◌, map, ◌<◌, ◌==◌, Bool, true, false, ◌&&◌, if◌then◌else◌, List, [], ◌∷◌, ◌++◌, find, All, Some, None, option_map, option_and_then, unwrap_or, bytes_eq}
+use Rattle.std.specs.Prelude.{◌≡◌, ℕ, ◌+◌, map, ◌<◌, ◌==◌, true, false, ◌&&◌, if◌then◌else◌, List, [], ◌∷◌, ◌++◌, find, All, Some, None, option_map, option_and_then, unwrap_or, bytes_eq}
 use Rattle.std.proofs.Common.{sym, ap, subst, ◌∙◌, arith}
-use Rattle.std.proofs.lemmas.Bool.{both_ways}
+use Rattle.std.proofs.lemmas.Bool.{both_ways, and_parts}
 use Rattle.std.proofs.lemmas.Slice.Eq.{bytes_eq-Decides}
 use Rattle.std.proofs.lemmas.Map.Text.{is_eq-slice_cmp}
 use Rattle.std.proofs.lemmas.List.Elements.{All-nil, All-cons, All-head, All-tail, All-weaker}
@@ -24,6 +24,7 @@ use Rattle.cm_state.specs.declared.state.State.TheInside.{Inside}
 use Rattle.cm_state.specs.Kept.{repository_of, IsState}
 use Rattle.cm_state.specs.Names.{HasChildren, is_child_named}
 use Rattle.cm_state.proofs.Children.{find_alike, child_there}
+use Rattle.cm_state.proofs.Pairs.{ties}
 
 apart_last : {A : Type 0} (R : A → A → Type 0) (xs : List A) (y : A) → Apart R (xs ++ y ∷ []) → All (λ x. R x y) xs
 apart_last R [] y a = All-nil (λ x. R x y)
@@ -74,27 +75,18 @@ module _ (r : Repository) (x : Object) (aces : List Ace) (policies : List Oid) (
 
   -- the index with the new name under the folder
   pub children_with : (names more : List (ℕ × List (List ℕ × Oid))) (own : List ℕ) → HasChildren r names → own ≡ unwrap_or x.name []
-      → ((f : ℕ) (name : List ℕ) → find_in (slice_cmp nat_cmp) more f name ≡ (if f == folder.0 && eq_by_cmp (slice_cmp nat_cmp) name own then Some x.id else find_in (slice_cmp nat_cmp) names f name))
+      → ((f : ℕ) (name : List ℕ) → find_in nat_cmp (slice_cmp nat_cmp) more f name ≡ (if eq_by_cmp nat_cmp f folder.0 && eq_by_cmp (slice_cmp nat_cmp) name own then Some x.id else find_in nat_cmp (slice_cmp nat_cmp) names f name))
       → HasChildren after more
   children_with names more own h at found f name =
       let own_name : entry_name after x.id ≡ own = name_new ∙ sym at in
       let alike : find (is_child_named after f name) r.filed ≡ find (is_child_named r f name) r.filed = find_alike (is_child_named after f name) (is_child_named r f name) r.filed
       (All-weaker (IsPair r) (λ p. is_child_named after f name p ≡ is_child_named r f name p) (λ p a. ap (λ n. p.folder.0 == f && bytes_eq n name) (name_stays p a)) r.filed w.pairs) in
-      let test : is_child_named after f name pair ≡ (f == folder.0 && eq_by_cmp (slice_cmp nat_cmp) name own) =
-      ap (λ n. folder.0 == f && bytes_eq n name) own_name ∙ (ap (λ b. b && bytes_eq own name) (flip f folder.0) ∙ ap (λ b. f == folder.0 && b) (bytes_flip own name ∙ sym (is_eq-slice_cmp name own))) in
-      found f name ∙ (ap (λ b. if b then Some x.id else find_in (slice_cmp nat_cmp) names f name) (sym test) ∙ by_test (is_child_named after f name pair)
-      (λ e. ap (λ b. if b then Some x.id else find_in (slice_cmp nat_cmp) names f name) e ∙ sym (ap (option_map (λ p. p.child)) (find_last (is_child_named after f name) r.filed pair (others e) e)))
-      (λ e. ap (λ b. if b then Some x.id else find_in (slice_cmp nat_cmp) names f name) e ∙ (h f name ∙ (sym (ap (option_map (λ p. p.child)) alike) ∙ sym (ap (option_map (λ p. p.child)) (find_passed_over (is_child_named after f name) r.filed pair e))))))
+      let test : (eq_by_cmp nat_cmp f folder.0 && eq_by_cmp (slice_cmp nat_cmp) name own) ≡ is_child_named after f name pair =
+      (λ i. ties f folder.0 i && (is_eq-slice_cmp name own ∙ bytes_flip name own) i) ∙ ap (λ n. folder.0 == f && bytes_eq n name) (sym own_name) in
+      found f name ∙ (ap (λ b. if b then Some x.id else find_in nat_cmp (slice_cmp nat_cmp) names f name) test ∙ by_test (is_child_named after f name pair)
+      (λ e. ap (λ b. if b then Some x.id else find_in nat_cmp (slice_cmp nat_cmp) names f name) e ∙ sym (ap (option_map (λ p. p.child)) (find_last (is_child_named after f name) r.filed pair (others e) e)))
+      (λ e. ap (λ b. if b then Some x.id else find_in nat_cmp (slice_cmp nat_cmp) names f name) e ∙ (h f name ∙ (sym (ap (option_map (λ p. p.child)) alike) ∙ sym (ap (option_map (λ p. p.child)) (find_passed_over (is_child_named after f name) r.filed pair e))))))
     where
-      flip : (a b : ℕ) → (b == a) ≡ (a == b)
-      flip a b = grind arith
-
-      first : (a b : Bool) → a && b ≡ true → a ≡ true
-      first a b t = grind (arith, t)
-
-      second : (a b : Bool) → a && b ≡ true → b ≡ true
-      second a b t = grind (arith, t)
-
       -- no older child of the folder has the name
       others : is_child_named after f name pair ≡ true → All (λ q. is_child_named after f name q ≡ false) r.filed
       others e = All-weaker (λ q. Differ after q pair) (λ q. is_child_named after f name q ≡ false)
@@ -106,13 +98,13 @@ module _ (r : Repository) (x : Object) (aces : List Ace) (policies : List Oid) (
           r.filed (apart_last (Differ after) r.filed pair w'.names)
         where
           named : (q : Filed) → is_child_named after f name q ≡ true → entry_name after q.child ≡ name
-          named q t = (bytes_eq-Decides (entry_name after q.child) name).0 (second (q.folder.0 == f) (bytes_eq (entry_name after q.child) name) t)
+          named q t = (bytes_eq-Decides (entry_name after q.child) name).0 (and_parts (q.folder.0 == f) (bytes_eq (entry_name after q.child) name) t).1
 
           joined : (a b n : ℕ) → (a == n) ≡ true → (b == n) ≡ true → (a == b) ≡ true
           joined a b n s t = grind (arith, s, t)
 
           at_folder : (q : Filed) → is_child_named after f name q ≡ true → same q.folder folder ≡ true
-          at_folder q t = joined q.folder.0 folder.0 f (first (q.folder.0 == f) (bytes_eq (entry_name after q.child) name) t) (first (folder.0 == f) (bytes_eq (entry_name after x.id) name) e)
+          at_folder q t = joined q.folder.0 folder.0 f (and_parts (q.folder.0 == f) (bytes_eq (entry_name after q.child) name) t).0 (and_parts (folder.0 == f) (bytes_eq (entry_name after x.id) name) e).0
 
 -- ---- the state
 
@@ -144,7 +136,7 @@ pub kept_with : (s s' : Inside) (x : Object) (aces : List Ace) (policies : List 
     → IsWellFormed (noted (stepped (with_pair (with_object (repository_of s) x aces policies) folder x.id) cost) Created x.id m [])
     → repository_of s' ≡ noted (stepped (with_pair (with_object (repository_of s) x aces policies) folder x.id) cost) Created x.id m []
     → arc_value s'.still ≡ arc_value s.still → own ≡ unwrap_or x.name []
-    → ((f : ℕ) (name : List ℕ) → find_in (slice_cmp nat_cmp) s'.tree.names f name ≡ (if f == folder.0 && eq_by_cmp (slice_cmp nat_cmp) name own then Some x.id else find_in (slice_cmp nat_cmp) s.tree.names f name))
+    → ((f : ℕ) (name : List ℕ) → find_in nat_cmp (slice_cmp nat_cmp) s'.tree.names f name ≡ (if eq_by_cmp nat_cmp f folder.0 && eq_by_cmp (slice_cmp nat_cmp) name own then Some x.id else find_in nat_cmp (slice_cmp nat_cmp) s.tree.names f name))
     → IsState s'
 kept_with s s' x aces policies folder cost m own is well at still name found = record {
   well = subst IsWellFormed (sym at) well;

@@ -1,3 +1,4 @@
+mod Bounds
 mod Children
 mod Grown
 pub mod Laws

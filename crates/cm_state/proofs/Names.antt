@@ -2,9 +2,9 @@
 use Rattle.std.specs.Prelude.{◌≡◌, ℕ, ◌<◌, ◌==◌, Bool, true, false, ◌&&◌, ◌||◌, not, if◌then◌else◌, List, [], ◌∷◌, find, All, Option, Some, None, option_map, option_and_then, unwrap_or, bytes_eq}
 use Rattle.std.specs.List.{list_any}
 use Rattle.std.proofs.Common.{refl, sym, ap, subst, ◌∙◌, arith}
-use Rattle.std.proofs.lemmas.Bool.{both_ways}
+use Rattle.std.proofs.lemmas.Bool.{both_ways, and_parts}
 use Rattle.std.proofs.lemmas.Slice.Eq.{bytes_eq-Decides}
-use Rattle.std.proofs.lemmas.List.Elements.{All-nil, All-cons, All-head, All-tail, All-weaker}
+use Rattle.std.proofs.lemmas.List.Elements.{All-cons, All-head, All-tail, All-weaker}
 use Rattle.core.specs.Ordering.{nat_cmp}
 use Rattle.core.specs.Cmp.Lexicographic.{slice_cmp}
 use Rattle.cm_base.specs.declared.number.Oid.{Oid}
@@ -17,20 +17,13 @@ use Rattle.cmis_spec.specs.Well.{Apart, Differ, IsWellFormed}
 use Rattle.cmis_laws.proofs.Lists.{by_test, some_eq, find_yes, find_no, find_none, found_holds, found_passes, none_some, same_eq, same_refl, differ}
 use Rattle.cm_state.specs.Names.{HasChildren, is_child_named}
 use Rattle.cm_state.proofs.Children.{any_found, find_alike, alone, entry_is, stands_alone}
-
-and_left : (a b : Bool) → a && b ≡ true → a ≡ true
-and_left true b h = refl
-and_left false b h = absurd (both_ways false refl h)
-
-and_right : (a b : Bool) → a && b ≡ true → b ≡ true
-and_right true b h = h
-and_right false b h = absurd (both_ways false refl h)
+use Rattle.cm_state.proofs.Only.{unfound}
 
 folder_of : (r : Repository) (f : Oid) (name : List ℕ) (p : Filed) → is_child_named r f.0 name p ≡ true → p.folder ≡ f
-folder_of r f name p h = same_eq p.folder f (and_left (p.folder.0 == f.0) (bytes_eq (entry_name r p.child) name) h)
+folder_of r f name p h = same_eq p.folder f (and_parts (p.folder.0 == f.0) (bytes_eq (entry_name r p.child) name) h).0
 
 name_is : (r : Repository) (f : ℕ) (name : List ℕ) (p : Filed) → is_child_named r f name p ≡ true → entry_name r p.child ≡ name
-name_is r f name p h = (bytes_eq-Decides (entry_name r p.child) name).0 (and_right (p.folder.0 == f) (bytes_eq (entry_name r p.child) name) h)
+name_is r f name p h = (bytes_eq-Decides (entry_name r p.child) name).0 (and_parts (p.folder.0 == f) (bytes_eq (entry_name r p.child) name) h).1
 
 -- two children of one folder do not have one name
 pub clash : (r : Repository) (f : Oid) (name : List ℕ) (p q : Filed) → Differ r p q → is_child_named r f.0 name p ≡ true → is_child_named r f.0 name q ≡ true → ⊥
@@ -77,7 +70,7 @@ taken_in r f but name (p ∷ ps) a = by_test (is_child_named r f.0 name p)
         ∙ none qs (All-tail (λ q. is_child_named r f.0 name q ≡ false) q qs h)
 
 pub taken_is : (r : Repository) (names : List (ℕ × List (List ℕ × Oid))) (f but : Oid) (name : List ℕ) → IsWellFormed r → HasChildren r names
-    → is_taken r f but name ≡ unwrap_or (option_map (λ c. not (same c but)) (find_in (slice_cmp nat_cmp) names f.0 name)) false
+    → is_taken r f but name ≡ unwrap_or (option_map (λ c. not (same c but)) (find_in nat_cmp (slice_cmp nat_cmp) names f.0 name)) false
 taken_is r names f but name w h = taken_in r f but name r.filed w.names ∙ sym (ap (λ o. unwrap_or (option_map (λ c. not (same c but)) o) false) (h f.0 name))
 
 -- ---- the object that stands under a name
@@ -103,19 +96,13 @@ module _ (r : Repository) (w : IsWellFormed r) (none : r.series ≡ []) (f : Oid
   filed_there x filed named =
       let q = any_found (λ p. same p.folder f && same p.child x.id) r.filed filed in
       let both : same q.0.folder f && same q.0.child x.id ≡ true = found_passes (λ p. same p.folder f && same p.child x.id) r.filed q.0 q.1 in
-      let at : q.0.child ≡ x.id = same_eq q.0.child x.id (and_right (same q.0.folder f) (same q.0.child x.id) both) in
-      let here : is_child_named r f.0 name q.0 ≡ true = rw (and_left (same q.0.folder f) (same q.0.child x.id) both) (subst (λ m. bytes_eq (entry_name r m) name ≡ true) (sym at) named) in
+      let at : q.0.child ≡ x.id = same_eq q.0.child x.id (and_parts (same q.0.folder f) (same q.0.child x.id) both).1 in
+      let here : is_child_named r f.0 name q.0 ≡ true = rw (and_parts (same q.0.folder f) (same q.0.child x.id) both).0 (subst (λ m. bytes_eq (entry_name r m) name ≡ true) (sym at) named) in
       by (find (is_child_named r f.0 name) r.filed) refl q.0 here q.1 at
     where
       by : (o : Option Filed) → find (is_child_named r f.0 name) r.filed ≡ o → (q : Filed) → is_child_named r f.0 name q ≡ true → find (λ p. same p.folder f && same p.child x.id) r.filed ≡ Some q → q.child ≡ x.id
           → (p : Filed) × (find (is_child_named r f.0 name) r.filed ≡ Some p) × (p.child ≡ x.id)
-      by None e q here found at = absurd (both_ways (is_child_named r f.0 name q) (found_holds (λ p. is_child_named r f.0 name p ≡ false) (λ p. same p.folder f && same p.child x.id) r.filed q (unfound r.filed e) found) here)
-        where
-          unfound : (ps : List Filed) → find (is_child_named r f.0 name) ps ≡ None → All (λ p. is_child_named r f.0 name p ≡ false) ps
-          unfound [] e = All-nil (λ p. is_child_named r f.0 name p ≡ false)
-          unfound (p ∷ ps) e = by_test (is_child_named r f.0 name p)
-              (λ t. absurd (none_some p (sym e ∙ find_yes (is_child_named r f.0 name) p ps t)))
-              (λ t. All-cons (λ p. is_child_named r f.0 name p ≡ false) p ps t (unfound ps (sym (find_no (is_child_named r f.0 name) p ps t) ∙ e)))
+      by None e q here found at = absurd (both_ways (is_child_named r f.0 name q) (found_holds (λ p. is_child_named r f.0 name p ≡ false) (λ p. same p.folder f && same p.child x.id) r.filed q (unfound (is_child_named r f.0 name) r.filed e) found) here)
       by (Some p) e q here found at = (p, e, sym (ap (λ q. q.child) (found_holds (λ q. is_child_named r f.0 name q ≡ true → q ≡ p) (λ p. same p.folder f && same p.child x.id) r.filed q (one_named r f name p r.filed w.names e) found here)) ∙ at)
 
   none_stands : find (is_child_named r f.0 name) r.filed ≡ None → find stands_named r.objects ≡ None
@@ -147,7 +134,7 @@ module _ (r : Repository) (w : IsWellFormed r) (none : r.series ≡ []) (f : Oid
       has (q ∷ qs) e = by_test (is_child_named r f.0 name q)
           (λ t. let at : q ≡ p = some_eq q p (sym (find_yes (is_child_named r f.0 name) q qs t) ∙ e) in
           subst (λ z. (same z.folder f && same z.child p.child || list_any (λ q. same q.folder f && same q.child p.child) qs) ≡ true) (sym at)
-          (rw (and_left (p.folder.0 == f.0) (bytes_eq (entry_name r p.child) name) here, same_refl p.child) refl))
+          (rw ((and_parts (p.folder.0 == f.0) (bytes_eq (entry_name r p.child) name) here).0, same_refl p.child) refl))
           (λ t. or_second (same q.folder f && same q.child p.child) (list_any (λ q. same q.folder f && same q.child p.child) qs) (has qs (sym (find_no (is_child_named r f.0 name) q qs t) ∙ e)))
         where
           or_second : (a b : Bool) → b ≡ true → a || b ≡ true
@@ -159,7 +146,7 @@ module _ (r : Repository) (w : IsWellFormed r) (none : r.series ≡ []) (f : Oid
           (λ t. let at : x.id ≡ p.child = same_eq x.id p.child t in
           both (is_filed r f x.id) (bytes_eq (entry_name r x.id) name) (same x.id p.child) (keep x) t
           (subst (λ m. is_filed r f m ≡ true) (sym at) (has r.filed e))
-          (subst (λ m. bytes_eq (entry_name r m) name ≡ true) (sym at) (and_right (p.folder.0 == f.0) (bytes_eq (entry_name r p.child) name) here)))
+          (subst (λ m. bytes_eq (entry_name r m) name ≡ true) (sym at) (and_parts (p.folder.0 == f.0) (bytes_eq (entry_name r p.child) name) here).1))
           (λ t. neither (is_filed r f x.id) (bytes_eq (entry_name r x.id) name) (same x.id p.child) (keep x) t
           (λ a b. let q = filed_there x a b in
           both_ways (same x.id p.child) t (subst (λ m. same m p.child ≡ true) (ap (λ q. q.child) (some_eq p q.0 (sym e ∙ q.1)) ∙ q.2) (same_refl p.child)))))
@@ -178,10 +165,10 @@ module _ (r : Repository) (w : IsWellFormed r) (none : r.series ≡ []) (f : Oid
 
 pub standing_is : (r : Repository) (names : List (ℕ × List (List ℕ × Oid))) (f : Oid) (name : List ℕ) (keep : Object → Bool) → IsWellFormed r → r.series ≡ [] → HasChildren r names
     → find (λ x. (is_filed r f (entry_of x) && stands r x && keep x) && bytes_eq (entry_name r (entry_of x)) name) r.objects
-    ≡ option_and_then (λ x. if keep x then Some x else None) (option_and_then (object_at r) (find_in (slice_cmp nat_cmp) names f.0 name))
+    ≡ option_and_then (λ x. if keep x then Some x else None) (option_and_then (object_at r) (find_in nat_cmp (slice_cmp nat_cmp) names f.0 name))
 standing_is r names f name keep w none h = by (find (is_child_named r f.0 name) r.filed) refl
   where
     by : (o : Option Filed) → find (is_child_named r f.0 name) r.filed ≡ o
-        → find (λ x. (is_filed r f (entry_of x) && stands r x && keep x) && bytes_eq (entry_name r (entry_of x)) name) r.objects ≡ option_and_then (λ x. if keep x then Some x else None) (option_and_then (object_at r) (find_in (slice_cmp nat_cmp) names f.0 name))
+        → find (λ x. (is_filed r f (entry_of x) && stands r x && keep x) && bytes_eq (entry_name r (entry_of x)) name) r.objects ≡ option_and_then (λ x. if keep x then Some x else None) (option_and_then (object_at r) (find_in nat_cmp (slice_cmp nat_cmp) names f.0 name))
     by None e = none_stands r w none f name keep e ∙ sym (ap (λ o. option_and_then (λ x. if keep x then Some x else None) (option_and_then (object_at r) o)) (h f.0 name ∙ ap (option_map (λ p. p.child)) e))
     by (Some p) e = one_stands r w none f name keep p e ∙ sym (ap (λ o. option_and_then (λ x. if keep x then Some x else None) (option_and_then (object_at r) o)) (h f.0 name ∙ ap (option_map (λ p. p.child)) e))

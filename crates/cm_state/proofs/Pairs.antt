@@ -2,11 +2,9 @@
 use Rattle.std.proofs.Common.{◌≡◌, ℕ, ◌+◌, ◌<◌, ◌==◌, ◌&&◌, ◌||◌, Bool, true, false, if◌then◌else◌, List, [], ◌∷◌, ◌++◌, All, map, find, cond, Option, Some, None, is_some, option_map, option_and_then, option_copied, T, Bor, refl, ap, sym, ◌∙◌, subst, arith}
 use Rattle.std.specs.List.{list_any}
 use Rattle.core.specs.Ordering.{nat_cmp, eq_by_cmp, is_eq, is_lt}
-use Rattle.core.specs.Cmp.{nat_cmp_total}
+use Rattle.core.specs.Cmp.{nat_cmp_total, unsigned_tied}
 use Rattle.core.specs.FinMap.Entries as entries
-use Rattle.std.specs.Cmp.{nat_cmp_is}
-use Rattle.core.specs.declared.cmp.Ordering.TheVariants.{Equal}
-use Rattle.std.proofs.lemmas.Bool.{eqb-true}
+use Rattle.std.proofs.lemmas.Bool.{eqb-true, and_parts, and_right}
 use Rattle.std.proofs.lemmas.List.Elements.{All-nil, All-cons, All-head, All-tail, All-weaker, All-push}
 use Rattle.cm_base.specs.declared.number.Oid.{Oid}
 use Rattle.cm_base.specs.declared.filing.Filed.{Filed}
@@ -17,10 +15,11 @@ use Rattle.cm_lists.specs.Keyed.{Rises}
 use Rattle.cm_state.specs.declared.filing.Placed.{Placed}
 use Rattle.cm_state.specs.Filings.{is_pair, IsFiling}
 
+pub flip : (a b : ℕ) → (b == a) ≡ (a == b)
+flip a b = grind arith
+
 pub ties : (a b : ℕ) → is_eq (nat_cmp a b) ≡ (b == a)
-ties a b = by_test (b == a)
-    (λ e. let k : a ≡ b = sym (eqb-true b a e) in rw (e, ← nat_cmp_is a b Equal k) refl)
-    (λ e. grind (arith, e))
+ties a b = unsigned_tied a b ∙ flip b a
 
 pub find_mapped : {A B : Type 0} (f : A → B) (p : B → Bool) (xs : List A) → find p (map f xs) ≡ option_map f (find (λ x. p (f x)) xs)
 find_mapped f p [] = refl
@@ -63,27 +62,17 @@ with_above ps q parents old new n =
     ap (λ b. cond b (Some q.pair.folder) (entries.find nat_cmp n parents)) e ∙ sym (ap (option_map (λ p. p.pair.folder)) (find_last (λ p. p.pair.child.0 == n) ps q none e)))
     (λ e. ap (λ b. cond b (Some q.pair.folder) (entries.find nat_cmp n parents)) e ∙ (old n ∙ sym (ap (option_map (λ p. p.pair.folder)) (find_passed_over (λ p. p.pair.child.0 == n) ps q e)))))
 
-and_right : (a b : Bool) → b ≡ false → a && b ≡ false
-and_right true b h = h
-and_right false b h = refl
-
-pub flip : (a b : ℕ) → (b == a) ≡ (a == b)
-flip a b = grind arith
-
 with_below : (ps : List Placed) (q : Placed) (old m : List (ℕ × List (ℕ × ℕ)))
-    → ((f n : ℕ) → find_in nat_cmp m f n ≡ (if f == q.pair.folder.0 && eq_by_cmp nat_cmp n q.pair.child.0 then Some q.place else find_in nat_cmp old f n))
-    → ((f n : ℕ) → find_in nat_cmp old f n ≡ option_map (λ p. p.place) (find (is_pair f n) ps))
+    → ((f n : ℕ) → find_in nat_cmp nat_cmp m f n ≡ (if eq_by_cmp nat_cmp f q.pair.folder.0 && eq_by_cmp nat_cmp n q.pair.child.0 then Some q.place else find_in nat_cmp nat_cmp old f n))
+    → ((f n : ℕ) → find_in nat_cmp nat_cmp old f n ≡ option_map (λ p. p.place) (find (is_pair f n) ps))
     → All (λ p. (p.pair.child.0 == q.pair.child.0) ≡ false) ps
-    → (f n : ℕ) → find_in nat_cmp m f n ≡ option_map (λ p. p.place) (find (is_pair f n) (ps ++ q ∷ []))
+    → (f n : ℕ) → find_in nat_cmp nat_cmp m f n ≡ option_map (λ p. p.place) (find (is_pair f n) (ps ++ q ∷ []))
 with_below ps q old m found is new f n =
-    found f n ∙ (ap (λ b. if b then Some q.place else find_in nat_cmp old f n) (rw (ties n q.pair.child.0, flip q.pair.folder.0 f) refl) ∙ by_test (is_pair f n q)
-    (λ e. ap (λ b. if b then Some q.place else find_in nat_cmp old f n) e
+    found f n ∙ (ap (λ b. if b then Some q.place else find_in nat_cmp nat_cmp old f n) (λ i. ties f q.pair.folder.0 i && ties n q.pair.child.0 i) ∙ by_test (is_pair f n q)
+    (λ e. ap (λ b. if b then Some q.place else find_in nat_cmp nat_cmp old f n) e
     ∙ sym (ap (option_map (λ p. p.place)) (find_last (is_pair f n) ps q (All-weaker (λ p. (p.pair.child.0 == q.pair.child.0) ≡ false) (λ p. is_pair f n p ≡ false)
-    (λ p h. and_right (p.pair.folder.0 == f) (p.pair.child.0 == n) (subst (λ k. (p.pair.child.0 == k) ≡ false) (eqb-true q.pair.child.0 n (second (q.pair.folder.0 == f) (q.pair.child.0 == n) e)) h)) ps new) e)))
-    (λ e. ap (λ b. if b then Some q.place else find_in nat_cmp old f n) e ∙ (is f n ∙ sym (ap (option_map (λ p. p.place)) (find_passed_over (is_pair f n) ps q e)))))
-  where
-    second : (a b : Bool) → a && b ≡ true → b ≡ true
-    second a b h = grind (arith, h)
+    (λ p h. and_right (p.pair.folder.0 == f) (p.pair.child.0 == n) (subst (λ k. (p.pair.child.0 == k) ≡ false) (eqb-true q.pair.child.0 n (and_parts (q.pair.folder.0 == f) (q.pair.child.0 == n) e).1) h)) ps new) e)))
+    (λ e. ap (λ b. if b then Some q.place else find_in nat_cmp nat_cmp old f n) e ∙ (is f n ∙ sym (ap (option_map (λ p. p.place)) (find_passed_over (is_pair f n) ps q e)))))
 
 -- what stays of the pairs' children, by their places
 pub new_child : (ps : List Placed) (n : Oid) → All (λ p. same p.child n ≡ false) (map (λ p. p.pair) ps) → All (λ p. (p.pair.child.0 == n.0) ≡ false) ps
@@ -92,7 +81,7 @@ new_child (p ∷ ps) n h = All-cons (λ p. (p.pair.child.0 == n.0) ≡ false) p 
 
 pub filing_with : (ps : List Placed) (next : ℕ) (parents : List (ℕ × Oid)) (folders m : List (ℕ × List (ℕ × ℕ))) (q : Placed) → IsFiling ps next parents folders → q.place ≡ next
     → All (λ p. same p.child q.pair.child ≡ false) (map (λ p. p.pair) ps)
-    → ((f n : ℕ) → find_in nat_cmp m f n ≡ (if f == q.pair.folder.0 && eq_by_cmp nat_cmp n q.pair.child.0 then Some q.place else find_in nat_cmp folders f n))
+    → ((f n : ℕ) → find_in nat_cmp nat_cmp m f n ≡ (if eq_by_cmp nat_cmp f q.pair.folder.0 && eq_by_cmp nat_cmp n q.pair.child.0 then Some q.place else find_in nat_cmp nat_cmp folders f n))
     → IsFiling (ps ++ q ∷ []) (next + 1) (entries.put nat_cmp q.pair.child.0 q.pair.folder parents) m
 filing_with ps next parents folders m q is at new found =
     let apart = new_child ps q.pair.child new in
@@ -148,8 +137,8 @@ some_bind f o x e = ap (option_and_then f) e
 
 -- the numbers under a folder are the children of its pairs
 pub members_are : (folders : List (ℕ × List (ℕ × ℕ))) (es : List (ℕ × ℕ)) (all : List Oid) (f n : Oid) → all ≡ map (λ e. record { 0 = e.0 }) es → entries.find nat_cmp f.0 folders ≡ Some es
-    → list_any (same n) all ≡ is_some (find_in nat_cmp folders f.0 n.0)
+    → list_any (same n) all ≡ is_some (find_in nat_cmp nat_cmp folders f.0 n.0)
 members_are folders es all f n a b = ap (list_any (same n)) a ∙ (member_keys es n ∙ sym (ap is_some (some_bind (entries.find nat_cmp n.0) (entries.find nat_cmp f.0 folders) es b)))
 
-pub no_members : (folders : List (ℕ × List (ℕ × ℕ))) (all : List Oid) (f n : Oid) → all ≡ [] → entries.find nat_cmp f.0 folders ≡ None → list_any (same n) all ≡ is_some (find_in nat_cmp folders f.0 n.0)
+pub no_members : (folders : List (ℕ × List (ℕ × ℕ))) (all : List Oid) (f n : Oid) → all ≡ [] → entries.find nat_cmp f.0 folders ≡ None → list_any (same n) all ≡ is_some (find_in nat_cmp nat_cmp folders f.0 n.0)
 no_members folders all f n a b = ap (list_any (same n)) a ∙ sym (ap (λ o. is_some (option_and_then (entries.find nat_cmp n.0) o)) b)

@@ -1,9 +1,10 @@
 -- A child under another folder or name: the index of names follows.
 use Rattle.std.specs.Prelude.{◌≡◌, ℕ, ◌+◌, ◌==◌, Bool, true, false, ◌&&◌, if◌then◌else◌, ◌⊎◌, List, [], ◌∷◌, ◌++◌, map, find, All, Option, Some, None, is_some, option_map, option_and_then, unwrap_or, bytes_eq}
 use Rattle.std.specs.Arc.{arc_value}
-use Rattle.std.proofs.Common.{refl, sym, ap, subst, ◌∙◌, inl, inr, ⊎_elim, arith}
-use Rattle.std.proofs.lemmas.Bool.{both_ways}
+use Rattle.std.proofs.Common.{refl, sym, ap, subst, ◌∙◌, inl, inr, ⊎_elim}
+use Rattle.std.proofs.lemmas.Bool.{both_ways, and_parts, and_right}
 use Rattle.std.proofs.lemmas.Map.Text.{is_eq-slice_cmp}
+use Rattle.std.proofs.lemmas.List.{map-id}
 use Rattle.std.proofs.lemmas.List.Elements.{All-weaker}
 use Rattle.core.specs.Ordering.{nat_cmp, eq_by_cmp}
 use Rattle.core.specs.Cmp.Lexicographic.{slice_cmp}
@@ -26,22 +27,7 @@ use Rattle.cm_state.proofs.Children.{any_found, find_alike}
 use Rattle.cm_state.proofs.Grown.{bytes_flip}
 use Rattle.cm_state.proofs.Names.{clash}
 use Rattle.cm_state.proofs.Only.{beside, unfound, apart_from, Turns, turned}
-use Rattle.cm_state.proofs.Pairs.{flip, find_mapped, map_map}
-
-turn : (a b : Oid) → same a b ≡ same b a
-turn a b = grind arith
-
-no_right : (a b : Bool) → b ≡ false → a && b ≡ false
-no_right true b h = h
-no_right false b h = refl
-
-and_left : (a b : Bool) → a && b ≡ true → a ≡ true
-and_left true b h = refl
-and_left false b h = absurd (both_ways false refl h)
-
-and_right : (a b : Bool) → a && b ≡ true → b ≡ true
-and_right true b h = h
-and_right false b h = absurd (both_ways false refl h)
+use Rattle.cm_state.proofs.Pairs.{ties, flip, find_mapped, map_map}
 
 -- one of two children of a folder has the name: the other one has not
 unlike : (r : Repository) (f : ℕ) (name : List ℕ) (p q : Filed) → Differ r p q ⊎ Differ r q p → is_child_named r f name q ≡ true → is_child_named r f name p ≡ false
@@ -51,10 +37,9 @@ unlike r f name p q d at = by_test (is_child_named r f name p)
 
 -- the key of the index tells the pair
 key_is : (r : Repository) (f : ℕ) (name : List ℕ) (p : Filed) (folder : Oid) (own : List ℕ) → p.folder ≡ folder → own ≡ entry_name r p.child
-    → (f == folder.0 && eq_by_cmp (slice_cmp nat_cmp) name own) ≡ is_child_named r f name p
+    → (eq_by_cmp nat_cmp f folder.0 && eq_by_cmp (slice_cmp nat_cmp) name own) ≡ is_child_named r f name p
 key_is r f name p folder own at e =
-    sym ((λ i. (at i).0 == f && bytes_eq (sym e i) name)
-    ∙ (ap (λ b. b && bytes_eq own name) (flip f folder.0) ∙ ap (λ b. f == folder.0 && b) (bytes_flip own name ∙ sym (is_eq-slice_cmp name own))))
+    (λ i. ties f folder.0 i && (is_eq-slice_cmp name own ∙ bytes_flip name own) i) ∙ (λ i. (sym at i).0 == f && bytes_eq (e i) name)
 
 -- another pair than the child's
 pub record Stays (r r' : Repository) (g : Filed → Filed) (c : Oid) (p : Filed) : Type 0 where
@@ -120,14 +105,14 @@ module _ (r r' : Repository) (g : Filed → Filed) (c : Oid) (q : Filed) (w : Ha
 -- each other pair is another child's
 others : (filed : List Filed) (t : Filed → Bool) (c : Oid) (q : Filed) → IsSingle filed → find t filed ≡ Some q → q.child ≡ c → All (λ p. (p ≡ q) ⊎ (same p.child c ≡ false)) filed
 others filed t c q single found at = All-weaker (λ p. (p ≡ q) ⊎ ((same p.child q.child ≡ false) ⊎ (same q.child p.child ≡ false))) (λ p. (p ≡ q) ⊎ (same p.child c ≡ false))
-    (λ p a. ⊎_elim (λ e. inl e) (λ d. inr (⊎_elim (λ h. subst (λ m. same p.child m ≡ false) at h) (λ h. subst (λ m. same p.child m ≡ false) at (turn p.child q.child ∙ h)) d)) a)
+    (λ p a. ⊎_elim (λ e. inl e) (λ d. inr (⊎_elim (λ h. subst (λ m. same p.child m ≡ false) at h) (λ h. subst (λ m. same p.child m ≡ false) at (flip q.child.0 p.child.0 ∙ h)) d)) a)
     filed (beside (λ p q. same p.child q.child ≡ false) t filed q single found)
 
 -- ---- a child in another folder
 
 refiled_child : (n s t : Oid) (p : Filed) → (refiled n s t p).child ≡ p.child
 refiled_child n s t p = by_test (same p.folder s && same p.child n)
-    (λ e. ap (λ b. (if b then record { folder = t; child = n } else p).child) e ∙ sym (same_eq p.child n (and_right (same p.folder s) (same p.child n) e)))
+    (λ e. ap (λ b. (if b then record { folder = t; child = n } else p).child) e ∙ sym (same_eq p.child n (and_parts (same p.folder s) (same p.child n) e).1))
     (λ e. ap (λ b. (if b then record { folder = t; child = n } else p).child) e)
 
 module _ (r : Repository) (c s t : Oid) (cost : ℕ) (m : Moment) (w : IsWellFormed r) (single : IsSingle r.filed) (has : is_filed r s c ≡ true)
@@ -139,16 +124,16 @@ module _ (r : Repository) (c s t : Oid) (cost : ℕ) (m : Moment) (w : IsWellFor
   children_moved names more own h e index =
       let q = any_found (λ p. same p.folder s && same p.child c) r.filed has in
       let both : same q.0.folder s && same q.0.child c ≡ true = found_passes (λ p. same p.folder s && same p.child c) r.filed q.0 q.1 in
-      let from : q.0.folder ≡ s = same_eq q.0.folder s (and_left (same q.0.folder s) (same q.0.child c) both) in
-      let at : q.0.child ≡ c = same_eq q.0.child c (and_right (same q.0.folder s) (same q.0.child c) both) in
+      let from : q.0.folder ≡ s = same_eq q.0.folder s (and_parts (same q.0.folder s) (same q.0.child c) both).0 in
+      let at : q.0.child ≡ c = same_eq q.0.child c (and_parts (same q.0.folder s) (same q.0.child c) both).1 in
       let apart = others r.filed (λ p. same p.folder s && same p.child c) c q.0 single q.1 at in
       let found : find (λ p. same p.child c) r.filed ≡ Some q.0 = find_alike (λ p. same p.child c) (λ p. same p.folder s && same p.child c) r.filed
       (All-weaker (λ p. (p ≡ q.0) ⊎ (same p.child c ≡ false)) (λ p. same p.child c ≡ (same p.folder s && same p.child c))
-      (λ p a. ⊎_elim (λ k. subst (λ p. same p.child c ≡ (same p.folder s && same p.child c)) (sym k) (and_right (same q.0.folder s) (same q.0.child c) both ∙ sym both))
-      (λ k. k ∙ sym (no_right (same p.folder s) (same p.child c) k)) a) r.filed apart) ∙ q.1 in
+      (λ p a. ⊎_elim (λ k. subst (λ p. same p.child c ≡ (same p.folder s && same p.child c)) (sym k) ((and_parts (same q.0.folder s) (same q.0.child c) both).1 ∙ sym both))
+      (λ k. k ∙ sym (and_right (same p.folder s) (same p.child c) k)) a) r.filed apart) ∙ q.1 in
       rekeyed r after (refiled c s t) c q.0 w.names w'.names refl (refiled_child c s t) found
       (All-weaker (λ p. (p ≡ q.0) ⊎ (same p.child c ≡ false)) (λ p. (p ≡ q.0) ⊎ Stays r after (refiled c s t) c p)
-      (λ p a. ⊎_elim (λ k. inl k) (λ k. inr (record { other = k; put = ap (λ b. if b then record { folder = t; child = c } else p) (no_right (same p.folder s) (same p.child c) k); name = refl })) a) r.filed apart)
+      (λ p a. ⊎_elim (λ k. inl k) (λ k. inr (record { other = k; put = ap (λ b. if b then record { folder = t; child = c } else p) (and_right (same p.folder s) (same p.child c) k); name = refl })) a) r.filed apart)
       names more s t own own h from (ap (λ b. (if b then record { folder = t; child = c } else q.0).folder) both)
       (e ∙ ap (entry_name r) (sym at)) (e ∙ ap (entry_name r) (sym (refiled_child c s t q.0 ∙ at))) index
 
@@ -167,7 +152,7 @@ module _ (x : Object) where
   found_other : (n : Oid) (zs : List Object) → same n x.id ≡ false → find (λ z. same z.id n) (map put zs) ≡ find (λ z. same z.id n) zs
   found_other n [] o = refl
   found_other n (z ∷ zs) o = by_test (same z.id x.id)
-      (λ e. let mine : same x.id n ≡ false = turn x.id n ∙ o in
+      (λ e. let mine : same x.id n ≡ false = flip n.0 x.id.0 ∙ o in
       let its : same z.id n ≡ false = subst (λ k. same k n ≡ false) (sym (same_eq z.id x.id e)) mine in
       subst (λ y. find (λ z. same z.id n) (y ∷ map put zs) ≡ find (λ z. same z.id n) (z ∷ zs)) (sym (put_own z e)) (rw (mine, its) (found_other n zs o)))
       (λ e. subst (λ y. find (λ z. same z.id n) (y ∷ map put zs) ≡ find (λ z. same z.id n) (z ∷ zs)) (sym (put_other z e))
@@ -178,10 +163,6 @@ module _ (x : Object) where
   found_own (z ∷ zs) h = by_test (same z.id x.id)
       (λ e. subst (λ y. find (λ z. same z.id x.id) (y ∷ map put zs) ≡ Some x) (sym (put_own z e)) (rw (same_refl x.id) refl))
       (λ e. subst (λ y. find (λ z. same z.id x.id) (y ∷ map put zs) ≡ Some x) (sym (put_other z e)) (rw e (found_own zs (rw e at h))))
-
-map_same : (xs : List Filed) → map (λ p. p) xs ≡ xs
-map_same [] = refl
-map_same (p ∷ ps) = ap (λ qs. p ∷ qs) (map_same ps)
 
 module _ (r : Repository) (x : Object) (cost : ℕ) (m : Moment) (w : IsWellFormed r) (none : r.series ≡ []) (single : IsSingle r.filed) (there : is_some (object_at r x.id) ≡ true)
     (w' : IsWellFormed (noted (stepped (edited r x.id (λ _. x)) cost) Updated x.id m [])) where
@@ -202,7 +183,7 @@ module _ (r : Repository) (x : Object) (cost : ℕ) (m : Moment) (w : IsWellForm
       by : (o : Option Oid) → parent_in r.filed x.id ≡ o → IsRenamed o names more old new x.id → HasChildren changed more
       by None e index = λ f name.
           let absent : All (λ p. same p.child x.id ≡ false) r.filed = unfound (λ p. same p.child x.id) r.filed (unmapped (find (λ p. same p.child x.id) r.filed) e) in
-          ap (λ z. find_in (slice_cmp nat_cmp) z f name) index ∙ (h f name ∙ ap (option_map (λ p. p.child)) (find_alike (is_child_named r f name) (is_child_named changed f name) r.filed
+          ap (λ z. find_in nat_cmp (slice_cmp nat_cmp) z f name) index ∙ (h f name ∙ ap (option_map (λ p. p.child)) (find_alike (is_child_named r f name) (is_child_named changed f name) r.filed
           (All-weaker (λ p. same p.child x.id ≡ false) (λ p. is_child_named r f name p ≡ is_child_named changed f name p) (λ p o. ap (λ n. p.folder.0 == f && bytes_eq n name) (sym (name_other p.child o))) r.filed absent)))
         where
           unmapped : (o : Option Filed) → option_map (λ p. p.folder) o ≡ None → o ≡ None
@@ -211,7 +192,7 @@ module _ (r : Repository) (x : Object) (cost : ℕ) (m : Moment) (w : IsWellForm
       by (Some folder) e index =
           let q = map_some (λ (p : Filed). p.folder) (find (λ p. same p.child x.id) r.filed) folder e in
           let at : q.0.child ≡ x.id = same_eq q.0.child x.id (found_passes (λ p. same p.child x.id) r.filed q.0 q.1) in
-          rekeyed r changed (λ p. p) x.id q.0 w.names w'.names (sym (map_same r.filed)) (λ p. refl) q.1
+          rekeyed r changed (λ p. p) x.id q.0 w.names w'.names (sym (map-id r.filed)) (λ p. refl) q.1
           (All-weaker (λ p. (p ≡ q.0) ⊎ (same p.child x.id ≡ false)) (λ p. (p ≡ q.0) ⊎ Stays r changed (λ p. p) x.id p)
           (λ p a. ⊎_elim (λ k. inl k) (λ k. inr (record { other = k; put = refl; name = name_other p.child k })) a) r.filed (others r.filed (λ p. same p.child x.id) x.id q.0 single q.1 at))
           names more folder folder old new h q.2 q.2 (before ∙ ap (entry_name r) (sym at)) (after ∙ (sym name_own ∙ ap (entry_name changed) (sym at))) index

@@ -24,4 +24,4 @@ pub record IsFiling (pairs : List Placed) (next : ℕ) (parents : List (ℕ × O
   -- by child: the folder of its first pair
   pub above : (n : ℕ) → entries.find nat_cmp n parents ≡ option_map (λ p. p.pair.folder) (find (λ p. p.pair.child.0 == n) pairs)
   -- by folder and child: the place of their pair
-  pub below : (f n : ℕ) → find_in nat_cmp folders f n ≡ option_map (λ p. p.place) (find (is_pair f n) pairs)
+  pub below : (f n : ℕ) → find_in nat_cmp nat_cmp folders f n ≡ option_map (λ p. p.place) (find (is_pair f n) pairs)

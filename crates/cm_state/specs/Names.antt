@@ -13,12 +13,12 @@ is_child_named r f name p = p.folder.0 == f && bytes_eq (entry_name r p.child) n
 
 -- by folder and name: the child of that name
 abbrev pub HasChildren : Repository → List (ℕ × List (List ℕ × Oid)) → Type 0
-HasChildren r names = (f : ℕ) (name : List ℕ) → find_in (slice_cmp nat_cmp) names f name ≡ option_map (λ p. p.child) (find (is_child_named r f name) r.filed)
+HasChildren r names = (f : ℕ) (name : List ℕ) → find_in nat_cmp (slice_cmp nat_cmp) names f name ≡ option_map (λ p. p.child) (find (is_child_named r f name) r.filed)
 
 -- the index with a child that has left one folder and name for another
 abbrev pub IsRekeyed : List (ℕ × List (List ℕ × Oid)) → List (ℕ × List (List ℕ × Oid)) → Oid → List ℕ → Oid → List ℕ → Oid → Type 0
-IsRekeyed names more source old target new child = (f : ℕ) (name : List ℕ) → find_in (slice_cmp nat_cmp) more f name
-    ≡ (if f == target.0 && eq_by_cmp (slice_cmp nat_cmp) name new then Some child else if f == source.0 && eq_by_cmp (slice_cmp nat_cmp) name old then None else find_in (slice_cmp nat_cmp) names f name)
+IsRekeyed names more source old target new child = (f : ℕ) (name : List ℕ) → find_in nat_cmp (slice_cmp nat_cmp) more f name
+    ≡ (if eq_by_cmp nat_cmp f target.0 && eq_by_cmp (slice_cmp nat_cmp) name new then Some child else if eq_by_cmp nat_cmp f source.0 && eq_by_cmp (slice_cmp nat_cmp) name old then None else find_in nat_cmp (slice_cmp nat_cmp) names f name)
 
 -- the index with another name for a child in its folder, if it is filed in one
 abbrev pub IsRenamed : Option Oid → List (ℕ × List (List ℕ × Oid)) → List (ℕ × List (List ℕ × Oid)) → List ℕ → List ℕ → Oid → Type 0

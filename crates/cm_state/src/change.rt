@@ -1,5 +1,5 @@
 //! An object more in a folder, and what all changes share. Each change answers a new state and leaves the old one.
-ghost use Rattle.std.specs.Prelude.{◌≡◌, ℕ, ◌+◌, ◌<◌, ◌^◌, List, [], ◌∷◌, ◌++◌, IfOk, map, unwrap_or, All, false, Some, ◌==◌, ◌&&◌, if◌then◌else◌};
+ghost use Rattle.std.specs.Prelude.{◌≡◌, ℕ, ◌+◌, ◌<◌, ◌^◌, List, [], ◌∷◌, ◌++◌, IfOk, map, unwrap_or, All, false, Some, ◌&&◌, if◌then◌else◌};
 ghost use Rattle.core.specs.Ordering.{nat_cmp, eq_by_cmp};
 ghost use Rattle.core.specs.Cmp.Lexicographic.{slice_cmp};
 ghost use Rattle.cm_lists.specs.Buckets.{find_in};
@@ -73,7 +73,7 @@ fn tree_with(
 ) -> Result<Tree, AllocError>
     requires new { All (λ p. same p.child child ≡ false) tree.now.filed }
     ensures filed { IfOk result (λ t. t.filed ≡ tree.now.filed ++ record { folder = folder; child = child } ∷ []) }
-    ensures names { IfOk result (λ t. (f : ℕ) (n : List ℕ) → find_in (slice_cmp nat_cmp) t.names f n ≡ (if f == folder.0 && eq_by_cmp (slice_cmp nat_cmp) n name then Some child else find_in (slice_cmp nat_cmp) tree.now.names f n)) }
+    ensures names { IfOk result (λ t. (f : ℕ) (n : List ℕ) → find_in nat_cmp (slice_cmp nat_cmp) t.names f n ≡ (if eq_by_cmp nat_cmp f folder.0 && eq_by_cmp (slice_cmp nat_cmp) n name then Some child else find_in nat_cmp (slice_cmp nat_cmp) tree.now.names f n)) }
 {
     let filed = tree.filed.with_pair(alloc, folder, child)?;
     let names = tree.names.with(alloc, folder.0, name, child)?;
@@ -97,9 +97,8 @@ impl State {
         ensures { IfOk result (λ s. s ≡ noted (stepped (with_pair (with_object self.now object aces policies.now) folder object.id) cost) Created object.id moment []) }
     {
         let number = object.id;
-        if self.next == u64::MAX || self.step == u64::MAX {
-            return Err(AllocError);
-        }
+        let next = self.next + 1;
+        let step = self.step + 1;
         let name = own_name(alloc, &object)?;
         let tree = tree_with(alloc, &self.tree, folder, name, number)?;
         let objects = self.objects.with_last(alloc, object)?;
@@ -118,8 +117,8 @@ impl State {
             access,
             applied,
             log,
-            next: self.next + 1,
-            step: self.step + 1,
+            next,
+            step,
             cost: self.cost + cost,
         })
     }

@@ -24,7 +24,7 @@ fn names_renamed(
     child: Oid,
     old: &Text,
     new: Text,
-) -> Result<Buckets<Text, Oid>, AllocError>
+) -> Result<Buckets<u64, Text, Oid>, AllocError>
     ensures names { IfOk result (λ m. IsRenamed (parent_in tree.now.filed child) tree.now.names m old.now new child) }
     ensures single { IfOk result (λ m. IsSingle tree.now.filed) }
 {
@@ -73,9 +73,7 @@ impl State {
         ensures { IfOk result (λ s. s ≡ noted (stepped (edited self.now object.id (λ _. object)) cost) Updated object.id moment []) }
     {
         let number = object.id;
-        if self.step == u64::MAX {
-            return Err(AllocError);
-        }
+        let step = self.step + 1;
         let old = Text::from_str(alloc, self.entry_text(number))?;
         let new = own_name(alloc, &object)?;
         let tree = tree_renamed(alloc, &self.tree, number, &old, new)?;
@@ -94,7 +92,7 @@ impl State {
             applied,
             log,
             next: self.next,
-            step: self.step + 1,
+            step,
             cost: self.cost + cost,
         })
     }

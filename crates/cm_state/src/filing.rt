@@ -37,7 +37,7 @@ pub struct Filing {
     pairs: Table<Placed>,
     next: u64,
     parents: Map<u64, Oid>,
-    folders: Buckets<u64, u64>,
+    folders: Buckets<u64, u64, u64>,
 }
 
 impl Model for Filing {
@@ -88,7 +88,7 @@ impl Filing {
     pub fn has(&self, folder: Oid, child: Oid) -> bool
         ensures { result ≡ list_any (λ p. same p.folder folder && same p.child child) self.now }
     {
-        self.folders.get(folder.0, &child.0).is_some()
+        self.folders.get(&folder.0, &child.0).is_some()
     }
 
     /// The numbers of what is filed in the folder, rising.
@@ -96,7 +96,7 @@ impl Filing {
         ensures rising { IfOk result (λ all. Rises (λ n. n.0) all) }
         ensures members { IfOk result (λ all. (n : Oid) → list_any (same n) all ≡ list_any (λ p. same p.folder folder && same p.child n) self.now) }
     {
-        match self.folders.bucket(folder.0) {
+        match self.folders.bucket(&folder.0) {
             Some(children) => {
                 let _rising = children.len();
                 let all = numbers(alloc, children)?;
@@ -139,7 +139,7 @@ impl Filing {
         ensures { IfOk result (λ f. f ≡ map (refiled child source target) self.now) }
     {
         let _rising = self.pairs.len();
-        let place = *self.folders.get(source.0, &child.0).unwrap();
+        let place = *self.folders.get(&source.0, &child.0).unwrap();
         let folder = target;
         let pair = Filed { folder, child };
         let pairs = self.pairs.with_member(alloc, Placed { place, pair })?;

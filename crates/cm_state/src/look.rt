@@ -214,7 +214,7 @@ impl State {
     pub fn is_taken(&self, folder: Oid, but: Oid, name: &Text) -> bool
         ensures { result ≡ is_taken self.now folder but name.now }
     {
-        match self.tree.names.get(folder.0, name) {
+        match self.tree.names.get(&folder.0, name) {
             Some(child) => *child != but,
             None => false,
         }
@@ -225,7 +225,7 @@ impl State {
         ensures { (keep : Object → Bool) → find (λ x. (is_filed self.now folder (entry_of x) && stands self.now x && keep x) && bytes_eq (entry_name self.now (entry_of x)) name.now) self.now.objects
             ≡ option_and_then (λ x. if keep x then Some x else None) (option_copied result) }
     {
-        match self.tree.names.get(folder.0, name) {
+        match self.tree.names.get(&folder.0, name) {
             Some(child) => self.object(*child),
             None => None,
         }

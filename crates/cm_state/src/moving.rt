@@ -53,9 +53,7 @@ impl State {
         requires well { IsWellFormed (noted (stepped (moved self.now child source target) cost) Updated child moment []) }
         ensures { IfOk result (λ s. s ≡ noted (stepped (moved self.now child source target) cost) Updated child moment []) }
     {
-        if self.step == u64::MAX {
-            return Err(AllocError);
-        }
+        let step = self.step + 1;
         let name = Text::from_str(alloc, self.entry_text(child))?;
         let tree = tree_moved(alloc, &self.tree, child, source, target, name)?;
         let objects = self.objects.share(alloc)?;
@@ -73,7 +71,7 @@ impl State {
             applied,
             log,
             next: self.next,
-            step: self.step + 1,
+            step,
             cost: self.cost + cost,
         })
     }

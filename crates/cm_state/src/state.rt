@@ -32,7 +32,7 @@ pub struct Still {
 pub struct Tree {
     pub filed: Filing,
     /// By folder and name, the child of that name.
-    pub names: Buckets<Text, Oid>,
+    pub names: Buckets<u64, Text, Oid>,
 }
 
 /// A repository that is well formed, seen as the record of its lists. A new state shares with the old one all that stays.

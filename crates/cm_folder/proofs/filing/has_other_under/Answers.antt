@@ -7,12 +7,12 @@ use Rattle.cm_folder.proofs.filing.has_other_under.Goals as goal
 
 pub returns-in-Some : goal.returns-in-Some
 returns-in-Some c = record {
-  value = c.has_other.ensures.value ∙ ap (λ m. list_any (λ e. not (same e.1 c.args.child)) (unwrap_or m [])) (ap option_copied (sym c.in-Some.is) ∙ c.get.ensures);
-  sorted = subst (λ m. T (is_sorted nat_cmp (unwrap_or m []))) (ap option_copied (sym c.in-Some.is) ∙ c.get.ensures) c.has_other.ensures.sorted;
+  value = c.has_other.ensures.value ∙ ap (λ m. list_any (λ e. not (same e.1 c.args.child)) (unwrap_or m [])) (ap option_copied (sym c.in-Some.is) ∙ c.bucket.ensures);
+  sorted = subst (λ m. T (is_sorted nat_cmp (unwrap_or m []))) (ap option_copied (sym c.in-Some.is) ∙ c.bucket.ensures) c.has_other.ensures.sorted;
 }
 
 pub returns-in-None : goal.returns-in-None
 returns-in-None c = record {
-  value = ap (λ m. list_any (λ e. not (same e.1 c.args.child)) (unwrap_or m [])) (ap option_copied (sym c.in-None.is) ∙ c.get.ensures);
-  sorted = subst (λ m. T (is_sorted nat_cmp (unwrap_or m []))) (ap option_copied (sym c.in-None.is) ∙ c.get.ensures) tt;
+  value = ap (λ m. list_any (λ e. not (same e.1 c.args.child)) (unwrap_or m [])) (ap option_copied (sym c.in-None.is) ∙ c.bucket.ensures);
+  sorted = subst (λ m. T (is_sorted nat_cmp (unwrap_or m []))) (ap option_copied (sym c.in-None.is) ∙ c.bucket.ensures) tt;
 }

@@ -25,7 +25,7 @@ has_far-returns-in-Some t c =
     let below : Bool = list_any (λ d. same d.folder f && (is_first_in list f d.child && has_far (c.args.levels - 1) list c.args.target c.args.moved d.child)) list in
     let elsewhere : list_any (λ e. same e.child f && is_far list c.args.target c.args.moved e) list ≡ false = search rules in
     c.has_far_among.ensures.value
-    ∙ (ap (list_any (λ e. is_first_in list f e.1 && has_far (c.args.levels - 1) list c.args.target c.args.moved e.1)) (children_of s.parts.entries s.parts.by_child s.parts.by_folder s.parts.by_name c.self.invariant.indexed f.0 _ (ap option_copied (sym c.in-Some.is) ∙ c.get.ensures) c.has_far_among.ensures.sorted)
+    ∙ (ap (list_any (λ e. is_first_in list f e.1 && has_far (c.args.levels - 1) list c.args.target c.args.moved e.1)) (children_of s.parts.entries s.parts.by_child s.parts.by_folder s.parts.by_name c.self.invariant.indexed f.0 _ (ap option_copied (sym c.in-Some.is) ∙ c.bucket.ensures) c.has_far_among.ensures.sorted)
     ∙ (any_inside f (λ x. is_first_in list f x && has_far (c.args.levels - 1) list c.args.target c.args.moved x) s.parts.entries
     ∙ (ap (list_any (λ d. same d.folder f && (is_first_in list f d.child && has_far (c.args.levels - 1) list c.args.target c.args.moved d.child))) c.self.view_is
     ∙ (sym (ap (λ b. b || below) elsewhere) ∙ far_step c.args.levels list c.args.target c.args.moved f (omega (arith, c.if-levels-eq0.false))))))
@@ -37,7 +37,7 @@ has_far-returns-in-None t c =
     let s = c.self.inside in
     let below : Bool = list_any (λ d. same d.folder f && (is_first_in list f d.child && has_far (c.args.levels - 1) list c.args.target c.args.moved d.child)) list in
     let elsewhere : list_any (λ e. same e.child f && is_far list c.args.target c.args.moved e) list ≡ false = search rules in
-    ap (list_any (λ e. is_first_in list f e.1 && has_far (c.args.levels - 1) list c.args.target c.args.moved e.1)) (children_of s.parts.entries s.parts.by_child s.parts.by_folder s.parts.by_name c.self.invariant.indexed f.0 _ (ap option_copied (sym c.in-None.is) ∙ c.get.ensures) tt)
+    ap (list_any (λ e. is_first_in list f e.1 && has_far (c.args.levels - 1) list c.args.target c.args.moved e.1)) (children_of s.parts.entries s.parts.by_child s.parts.by_folder s.parts.by_name c.self.invariant.indexed f.0 _ (ap option_copied (sym c.in-None.is) ∙ c.bucket.ensures) tt)
     ∙ (any_inside f (λ x. is_first_in list f x && has_far (c.args.levels - 1) list c.args.target c.args.moved x) s.parts.entries
     ∙ (ap (list_any (λ d. same d.folder f && (is_first_in list f d.child && has_far (c.args.levels - 1) list c.args.target c.args.moved d.child))) c.self.view_is
     ∙ (sym (ap (λ b. b || below) elsewhere) ∙ far_step c.args.levels list c.args.target c.args.moved f (omega (arith, c.if-levels-eq0.false)))))

@@ -2,7 +2,7 @@ use Rattle.std.proofs.Common.{option_copied, sym, ap, ◌&&◌, ◌∙◌}
 use Rattle.std.specs.List.{list_any}
 use Rattle.cmis_spec.specs.Repository.{same}
 use Rattle.cm_folder.specs.Filings.{is_name_taken}
-use Rattle.cm_folder.proofs.Lookups.{bucket_of, taken_in_one}
+use Rattle.cm_folder.proofs.Lookups.{folders_of, taken_in_one}
 use Rattle.cm_folder.proofs.filing.Filing.is_name_taken.Goals as goal
 
 pub returns-in_ok-taken-in-Some : goal.returns-in_ok-taken-in-Some
@@ -12,7 +12,7 @@ returns-in_ok-taken-in-Some c =
     let name = c.args.name.now in
     let s = c.self.inside in
     c.in_ok-taken-in-Some.ensures.value
-    ∙ ap (list_any (λ e. is_name_taken list e.1 n name)) (bucket_of s.parts.entries s.parts.by_child s.parts.by_folder s.parts.by_name c.self.invariant.indexed n.0 _ (ap option_copied (sym c.in-Some.is) ∙ c.get.ensures) c.in_ok-taken-in-Some.ensures.sorted)
+    ∙ ap (list_any (λ e. is_name_taken list e.1 n name)) (folders_of s.parts.entries s.parts.by_child s.parts.by_folder s.parts.by_name c.self.invariant.indexed n.0 _ (ap option_copied (sym c.in-Some.is) ∙ c.bucket.ensures) c.in_ok-taken-in-Some.ensures.sorted)
     ∙ taken_in_one n (λ f. is_name_taken list f n name) s.parts.entries
     ∙ ap (list_any (λ e. same e.child n && is_name_taken list e.folder n name)) c.self.view_is
 
@@ -22,6 +22,6 @@ returns-in-None c =
     let n = c.args.child in
     let name = c.args.name.now in
     let s = c.self.inside in
-    ap (list_any (λ e. is_name_taken list e.1 n name)) (bucket_of s.parts.entries s.parts.by_child s.parts.by_folder s.parts.by_name c.self.invariant.indexed n.0 _ (ap option_copied (sym c.in-None.is) ∙ c.get.ensures) tt)
+    ap (list_any (λ e. is_name_taken list e.1 n name)) (folders_of s.parts.entries s.parts.by_child s.parts.by_folder s.parts.by_name c.self.invariant.indexed n.0 _ (ap option_copied (sym c.in-None.is) ∙ c.bucket.ensures) tt)
     ∙ taken_in_one n (λ f. is_name_taken list f n name) s.parts.entries
     ∙ ap (list_any (λ e. same e.child n && is_name_taken list e.folder n name)) c.self.view_is

@@ -1,16 +1,23 @@
-use Rattle.std.proofs.Common.{cond, ◌∙◌}
+use Rattle.std.proofs.Common.{◌&&◌, if◌then◌else◌, Some, T, inl, refl, sym, ap, subst, ◌∙◌}
 use Rattle.core.specs.Ordering.{nat_cmp, eq_by_cmp}
-use Rattle.core.specs.FinMap.Entries.{put}
-use Rattle.cm_folder.specs.Places.{bucket_by, name_order}
-use Rattle.cm_folder.proofs.Indexing.{indexed_with}
+use Rattle.core.specs.Cmp.{nat_cmp_total}
+use Rattle.core.specs.FinMap.Entries.{find, is_sorted, is_sorted-put}
+use Rattle.cm_lists.specs.Buckets.{find_in}
+use Rattle.cm_folder.specs.Places.{name_order}
+use Rattle.cm_folder.proofs.Placing.{find-put_at}
+use Rattle.cm_folder.proofs.Indexing.{indexed_changed}
 use Rattle.cm_folder.proofs.parts.Parts.with_entry.Goals as goal
 
 pub returns : goal.returns
 returns c =
     let old = c.args.self.now in
     let e = c.args.entry in
+    let n = c.args.place in
+    let at = c.in_ok-entries.ensures in
     record {
-      indexed = indexed_with old.entries c.in_ok-entries.entries c.args.place e old.by_child c.in_ok-by_child.by_child old.by_folder c.in_ok-by_folder.by_folder old.by_name c.in_ok-by_name.by_name c.requires.indexed c.requires.free c.in_ok-entries.ensures c.in_ok-by_child.ensures c.in_ok-by_folder.ensures
-          (λ q. c.in_ok-by_name.ensures q ∙ (λ i. cond (eq_by_cmp name_order q (e.folder.0, c.in_ok-name.ensures i)) (put nat_cmp c.args.place e.child (bucket_by name_order old.by_name q)) (bucket_by name_order old.by_name q)));
-      entries = c.in_ok-entries.ensures;
+      indexed = indexed_changed old.entries c.in_ok-entries.entries n e (Some e) old.by_child c.in_ok-by_child.by_child old.by_folder c.in_ok-by_folder.by_folder old.by_name c.in_ok-by_name.by_name c.requires.indexed (inl (c.requires.free, refl))
+          (subst (λ l. T (is_sorted nat_cmp l)) (sym at) (is_sorted-put nat_cmp nat_cmp_total n e old.entries c.requires.indexed.sorted))
+          (λ p. ap (find nat_cmp p) at ∙ find-put_at p n e old.entries) c.in_ok-by_child.ensures.found c.in_ok-by_folder.ensures.found
+          (λ k p. c.in_ok-by_name.ensures.found k p ∙ (λ i. if eq_by_cmp name_order k (e.folder.0, c.in_ok-name.ensures i) && eq_by_cmp nat_cmp p n then Some e.child else find_in name_order nat_cmp old.by_name k p));
+      entries = at;
     }

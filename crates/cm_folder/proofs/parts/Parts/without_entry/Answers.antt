@@ -1,18 +1,22 @@
-use Rattle.std.proofs.Common.{ap, cond, ◌∙◌}
+use Rattle.std.proofs.Common.{◌≡◌, ℕ, ◌==◌, ◌&&◌, cond, if◌then◌else◌, not, None, T, inr, refl, sym, ap, subst, ◌∙◌}
 use Rattle.core.specs.Ordering.{nat_cmp, eq_by_cmp}
-use Rattle.core.specs.FinMap.Entries.{find}
-use Rattle.map_keys.specs.Parts.{without_key}
-use Rattle.cm_folder.specs.Places.{bucket_by, name_order}
+use Rattle.core.specs.FinMap.Entries.{find, is_sorted, is_sorted-where_key}
+use Rattle.cm_lists.specs.Buckets.{find_in}
+use Rattle.cm_folder.specs.Places.{name_order}
 use Rattle.cm_folder.proofs.Placing.{find-without_at}
-use Rattle.cm_folder.proofs.Indexing.{indexed_without}
+use Rattle.cm_folder.proofs.Indexing.{indexed_changed}
 use Rattle.cm_folder.proofs.parts.Parts.without_entry.Goals as goal
 
 pub returns : goal.returns
 returns c =
     let old = c.args.self.now in
     let e = c.args.entry.now in
+    let n = c.args.place in
+    let found : (p : ℕ) → find nat_cmp p c.in_ok-entries.entries ≡ cond (p == n) None (find nat_cmp p old.entries) = λ p. ap (find nat_cmp p) c.in_ok-entries.ensures ∙ find-without_at p n old.entries in
     record {
-      indexed = indexed_without old.entries c.in_ok-entries.entries c.args.place e old.by_child c.in_ok-by_child.by_child old.by_folder c.in_ok-by_folder.by_folder old.by_name c.in_ok-by_name.by_name c.requires.indexed c.requires.there c.in_ok-entries.ensures c.in_ok-by_child.ensures c.in_ok-by_folder.ensures
-          (λ q. c.in_ok-by_name.ensures q ∙ (λ i. cond (eq_by_cmp name_order q (e.folder.0, c.in_ok-name.ensures i)) (without_key nat_cmp c.args.place (bucket_by name_order old.by_name q)) (bucket_by name_order old.by_name q)));
-      found = λ p. ap (find nat_cmp p) c.in_ok-entries.ensures ∙ find-without_at p c.args.place old.entries;
+      indexed = indexed_changed old.entries c.in_ok-entries.entries n e None old.by_child c.in_ok-by_child.by_child old.by_folder c.in_ok-by_folder.by_folder old.by_name c.in_ok-by_name.by_name c.requires.indexed (inr (c.requires.there, refl))
+          (subst (λ l. T (is_sorted nat_cmp l)) (sym c.in_ok-entries.ensures) (is_sorted-where_key nat_cmp (λ x. not (eq_by_cmp nat_cmp n x)) old.entries c.requires.indexed.sorted))
+          found c.in_ok-by_child.ensures.found c.in_ok-by_folder.ensures.found
+          (λ k p. c.in_ok-by_name.ensures.found k p ∙ (λ i. if eq_by_cmp name_order k (e.folder.0, c.in_ok-name.ensures i) && eq_by_cmp nat_cmp p n then None else find_in name_order nat_cmp old.by_name k p));
+      found = found;
     }

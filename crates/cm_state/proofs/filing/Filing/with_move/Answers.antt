@@ -14,18 +14,18 @@ unwrap-place-requires c = some_copied _ ∙ (ap is_some (c.get.ensures ∙ c.sel
 
 pub with_member-requires : goal.with_member-requires
 with_member-requires c =
-    let e : find_in nat_cmp c.self.inside.folders c.args.source.0 c.args.child.0 ≡ Some c.unwrap-place.result.now = search rules in
+    let e : find_in nat_cmp nat_cmp c.self.inside.folders c.args.source.0 c.args.child.0 ≡ Some c.unwrap-place.result.now = search rules in
     record { there = there_at c.self.inside.pairs _ _ c.self.inside.folders c.args.source c.args.child c.unwrap-place.result.now c.self.invariant e }
 
 pub invariant_of-result : goal.invariant_of-result
 invariant_of-result c =
-    let e : find_in nat_cmp c.self.inside.folders c.args.source.0 c.args.child.0 ≡ Some c.unwrap-place.result.now = search rules in
+    let e : find_in nat_cmp nat_cmp c.self.inside.folders c.args.source.0 c.args.child.0 ≡ Some c.unwrap-place.result.now = search rules in
     filing_at c.self.inside.pairs c.in_ok-pairs.pairs c.self.inside.next _ c.in_ok-parents.parents c.self.inside.folders c.in_ok-left.left c.in_ok-folders.folders c.args.source c.args.child c.args.target c.unwrap-place.result.now
     c.self.invariant c.len-rising.ensures.rising e c.in_ok-pairs.ensures c.in_ok-parents.ensures c.in_ok-left.ensures.found c.in_ok-folders.ensures.found
 
 pub returns : goal.returns
 returns c =
-    let e : find_in nat_cmp c.self.inside.folders c.args.source.0 c.args.child.0 ≡ Some c.unwrap-place.result.now = search rules in
+    let e : find_in nat_cmp nat_cmp c.self.inside.folders c.args.source.0 c.args.child.0 ≡ Some c.unwrap-place.result.now = search rules in
     pairs_at c.self.inside.pairs c.in_ok-pairs.pairs c.self.inside.next _ c.in_ok-parents.parents c.self.inside.folders c.in_ok-left.left c.in_ok-folders.folders c.args.source c.args.child c.args.target c.unwrap-place.result.now
     c.self.invariant c.len-rising.ensures.rising e c.in_ok-pairs.ensures
     ∙ ap (map (refiled c.args.child c.args.source c.args.target)) c.self.view_is

@@ -1,11 +1,24 @@
-use Rattle.std.proofs.Common.{◌+◌, ◌++◌, ◌∷◌, [], sym, ap, ◌∙◌, subst, refl}
+use Rattle.std.proofs.Common.{◌+◌, ◌++◌, ◌∷◌, [], sym, ap, ◌∙◌, subst, refl, ◌≡◌, ◌<◌, ◌^◌, arith}
 use Rattle.cm_base.specs.declared.log.ChangeKind.TheVariants.{Created}
 use Rattle.cmis_spec.specs.Changes.{stepped, noted, with_object, with_pair}
 use Rattle.cmis_spec.specs.Well.{IsWellFormed}
 use Rattle.cm_state.specs.declared.state.State.TheInside.{Inside}
+use Rattle.cm_state.proofs.Bounds.{next_fits, step_fits}
 use Rattle.cm_state.specs.Kept.{repository_of}
 use Rattle.cm_state.proofs.Grown.{unfiled, above_objects, above_access, state_with, kept_with}
 use Rattle.cm_state.proofs.state.State.with_child.Goals as goal
+
+pub overflow_add-next : goal.overflow_add-next
+overflow_add-next c =
+    let at : c.self.inside.next ≡ c.args.self.now.next = ap (λ r. r.next) c.self.view_is in
+    let fits : c.args.self.now.next + 1 < 2 ^ 64 = next_fits _ c.requires.well in
+    omega (arith, at, fits)
+
+pub overflow_add-step : goal.overflow_add-step
+overflow_add-step c =
+    let at : c.self.inside.step ≡ c.args.self.now.step = ap (λ r. r.step) c.self.view_is in
+    let fits : c.args.self.now.step + 1 < 2 ^ 64 = step_fits _ c.requires.well in
+    omega (arith, at, fits)
 
 pub tree_with-requires : goal.tree_with-requires
 tree_with-requires c = record {

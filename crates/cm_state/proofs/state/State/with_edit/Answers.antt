@@ -1,11 +1,18 @@
-use Rattle.std.proofs.Common.{◌≡◌, ◌+◌, ◌++◌, ◌∷◌, [], sym, ap, ◌∙◌, subst, refl, true, is_some}
+use Rattle.std.proofs.Common.{◌≡◌, ◌+◌, ◌++◌, ◌∷◌, [], sym, ap, ◌∙◌, subst, refl, true, is_some, ◌<◌, ◌^◌, arith}
 use Rattle.cm_base.specs.declared.log.ChangeKind.TheVariants.{Updated}
 use Rattle.cmis_spec.specs.Changes.{stepped, noted, edited}
 use Rattle.cmis_spec.specs.Repository.{object_at, entry_name}
 use Rattle.cmis_spec.specs.Well.{IsWellFormed}
 use Rattle.cm_state.specs.declared.state.State.TheInside.{Inside}
+use Rattle.cm_state.proofs.Bounds.{step_fits}
 use Rattle.cm_state.proofs.Rekeyed.{state_edited, kept_edited}
 use Rattle.cm_state.proofs.state.State.with_edit.Goals as goal
+
+pub overflow_add-step : goal.overflow_add-step
+overflow_add-step c =
+    let at : c.self.inside.step ≡ c.args.self.now.step = ap (λ r. r.step) c.self.view_is in
+    let fits : c.args.self.now.step + 1 < 2 ^ 64 = step_fits _ c.requires.well in
+    omega (arith, at, fits)
 
 pub with_member-requires : goal.with_member-requires
 with_member-requires c = record { there = subst (λ r. is_some (object_at r c.args.object.id) ≡ true) (sym c.self.view_is) c.requires.there }

@@ -1,11 +1,18 @@
-use Rattle.std.proofs.Common.{◌≡◌, ◌+◌, ◌++◌, ◌∷◌, [], sym, ap, ◌∙◌, subst, refl, true}
+use Rattle.std.proofs.Common.{◌≡◌, ◌+◌, ◌++◌, ◌∷◌, [], sym, ap, ◌∙◌, subst, refl, true, ◌<◌, ◌^◌, arith}
 use Rattle.cm_base.specs.declared.log.ChangeKind.TheVariants.{Updated}
 use Rattle.cmis_spec.specs.Changes.{stepped, noted, moved}
 use Rattle.cmis_spec.specs.Repository.{is_filed, entry_name}
 use Rattle.cmis_spec.specs.Well.{IsWellFormed}
 use Rattle.cm_state.specs.declared.state.State.TheInside.{Inside}
+use Rattle.cm_state.proofs.Bounds.{step_fits}
 use Rattle.cm_state.proofs.Rekeyed.{state_moved, kept_moved}
 use Rattle.cm_state.proofs.state.State.with_move.Goals as goal
+
+pub overflow_add-step : goal.overflow_add-step
+overflow_add-step c =
+    let at : c.self.inside.step ≡ c.args.self.now.step = ap (λ r. r.step) c.self.view_is in
+    let fits : c.args.self.now.step + 1 < 2 ^ 64 = step_fits _ c.requires.well in
+    omega (arith, at, fits)
 
 pub tree_moved-requires : goal.tree_moved-requires
 tree_moved-requires c = record { has = subst (λ r. is_filed r c.args.source c.args.child ≡ true) (sym c.self.view_is) c.requires.filed }
