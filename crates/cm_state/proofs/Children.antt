@@ -20,10 +20,6 @@ use Rattle.cm_state.specs.Looks.{numbers_in}
 
 -- ---- lists
 
-pub find_alike : {A : Type 0} (p q : A → Bool) (xs : List A) → All (λ x. p x ≡ q x) xs → find p xs ≡ find q xs
-find_alike p q [] h = refl
-find_alike p q (x ∷ xs) h = rw (All-head (λ x. p x ≡ q x) x xs h, find_alike p q xs (All-tail (λ x. p x ≡ q x) x xs h)) refl
-
 -- what a list has is found in it
 pub any_found : {A : Type 0} (p : A → Bool) (xs : List A) → list_any p xs ≡ true → (x : A) × (find p xs ≡ Some x)
 any_found p xs h = by (find p xs) (is_some_find p xs ∙ h)

@@ -17,13 +17,13 @@ use Rattle.cm_lists.specs.Buckets.{find_in}
 use Rattle.cmis_spec.specs.Repository.{Repository, same, object_at, series_at, entry_name}
 use Rattle.cmis_spec.specs.Changes.{stepped, noted, with_object, with_pair}
 use Rattle.cmis_spec.specs.Well.{Apart, IsThere, IsPair, Differ, IsWellFormed}
-use Rattle.cmis_laws.proofs.Lists.{by_test, find_more, find_last, find_passed_over, found_holds, same_eq, same_refl}
+use Rattle.cmis_laws.proofs.Lists.{by_test, find_more, find_last, find_passed_over, found_holds, same_eq, same_refl, find_alike}
 use Rattle.cmis_laws.proofs.Entries.{number_found, is_other}
 use Rattle.std.specs.Arc.{arc_value}
 use Rattle.cm_state.specs.declared.state.State.TheInside.{Inside}
 use Rattle.cm_state.specs.Kept.{repository_of, IsState}
 use Rattle.cm_state.specs.Names.{HasChildren, is_child_named}
-use Rattle.cm_state.proofs.Children.{find_alike, child_there}
+use Rattle.cm_state.proofs.Children.{child_there}
 use Rattle.cm_state.proofs.Pairs.{ties}
 
 apart_last : {A : Type 0} (R : A → A → Type 0) (xs : List A) (y : A) → Apart R (xs ++ y ∷ []) → All (λ x. R x y) xs

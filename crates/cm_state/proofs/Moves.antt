@@ -14,13 +14,13 @@ use Rattle.cm_lists.specs.Keyed.{Rises}
 use Rattle.cmis_spec.specs.Repository.{same}
 use Rattle.cmis_spec.specs.Changes.{refiled}
 use Rattle.cmis_spec.specs.Well.{Apart}
-use Rattle.cmis_laws.proofs.Lists.{by_test, some_eq, none_some, find_yes, find_no, found_holds, found_passes, same_eq, same_refl, all_zip, apart_weaker}
+use Rattle.cmis_laws.proofs.Lists.{by_test, some_eq, none_some, find_yes, find_no, found_holds, found_passes, same_eq, same_refl, all_zip, apart_weaker, find_alike}
 use Rattle.cmis_laws.proofs.Moved.{map_some}
+use Rattle.cmis_laws.proofs.Kept.{find_mapped}
 use Rattle.cm_state.specs.declared.filing.Placed.{Placed}
 use Rattle.cm_state.specs.Filings.{is_pair, IsFiling, IsSingle}
-use Rattle.cm_state.proofs.Children.{find_alike}
 use Rattle.cm_state.proofs.Only.{beside, apart_to, Turns, turned}
-use Rattle.cm_state.proofs.Pairs.{ties, flip, find_mapped, map_map}
+use Rattle.cm_state.proofs.Pairs.{ties, flip, map_map}
 
 rising_apart : {A : Type 0} (number : A → ℕ) (xs : List A) → Rises number xs → Apart (λ x y. number x < number y) xs
 rising_apart number [] r = tt

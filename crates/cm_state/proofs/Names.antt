@@ -14,9 +14,9 @@ use Rattle.cm_lists.specs.Buckets.{find_in}
 use Rattle.cmis_spec.specs.Repository.{Repository, same, object_at, is_filed, is_taken, entry_of, entry_name}
 use Rattle.cmis_spec.specs.Access.{stands}
 use Rattle.cmis_spec.specs.Well.{Apart, Differ, IsWellFormed}
-use Rattle.cmis_laws.proofs.Lists.{by_test, some_eq, find_yes, find_no, find_none, found_holds, found_passes, none_some, same_eq, same_refl, differ}
+use Rattle.cmis_laws.proofs.Lists.{by_test, some_eq, find_yes, find_no, find_none, found_holds, found_passes, none_some, same_eq, same_refl, differ, find_alike}
 use Rattle.cm_state.specs.Names.{HasChildren, is_child_named}
-use Rattle.cm_state.proofs.Children.{any_found, find_alike, alone, entry_is, stands_alone}
+use Rattle.cm_state.proofs.Children.{any_found, alone, entry_is, stands_alone}
 use Rattle.cm_state.proofs.Only.{unfound}
 
 folder_of : (r : Repository) (f : Oid) (name : List ℕ) (p : Filed) → is_child_named r f.0 name p ≡ true → p.folder ≡ f

@@ -3,8 +3,7 @@ use Rattle.std.specs.Prelude.{◌≡◌, Bool, true, false, if◌then◌else◌,
 use Rattle.std.proofs.Common.{sym, ap, subst, ◌∙◌, inl, inr}
 use Rattle.std.proofs.lemmas.List.Elements.{All-nil, All-cons, All-head, All-tail, All-map, All-weaker}
 use Rattle.cmis_spec.specs.Well.{Apart}
-use Rattle.cmis_laws.proofs.Lists.{by_test, some_eq, find_yes, find_no, find_none, found_holds, none_some}
-use Rattle.cm_state.proofs.Children.{find_alike}
+use Rattle.cmis_laws.proofs.Lists.{by_test, some_eq, find_yes, find_no, find_none, found_holds, none_some, find_alike}
 
 -- each other one stands apart from what is found
 pub beside : {A : Type 0} (R : A → A → Type 0) (t : A → Bool) (xs : List A) (q : A) → Apart R xs → find t xs ≡ Some q → All (λ p. (p ≡ q) ⊎ (R p q ⊎ R q p)) xs

@@ -9,9 +9,10 @@ use Rattle.std.proofs.lemmas.List.Elements.{All-nil, All-cons, All-head, All-tai
 use Rattle.cm_base.specs.declared.number.Oid.{Oid}
 use Rattle.cm_base.specs.declared.filing.Filed.{Filed}
 use Rattle.cmis_spec.specs.Repository.{same, parent_in}
-use Rattle.cmis_laws.proofs.Lists.{by_test, find_yes, find_no, find_last, find_passed_over, apart_push}
+use Rattle.cmis_laws.proofs.Lists.{by_test, find_last, find_passed_over, apart_push}
 use Rattle.cm_lists.specs.Buckets.{find_in}
 use Rattle.cm_lists.specs.Keyed.{Rises}
+use Rattle.cmis_laws.proofs.Kept.{find_mapped}
 use Rattle.cm_state.specs.declared.filing.Placed.{Placed}
 use Rattle.cm_state.specs.Filings.{is_pair, IsFiling}
 
@@ -20,12 +21,6 @@ flip a b = grind arith
 
 pub ties : (a b : ℕ) → is_eq (nat_cmp a b) ≡ (b == a)
 ties a b = unsigned_tied a b ∙ flip b a
-
-pub find_mapped : {A B : Type 0} (f : A → B) (p : B → Bool) (xs : List A) → find p (map f xs) ≡ option_map f (find (λ x. p (f x)) xs)
-find_mapped f p [] = refl
-find_mapped f p (x ∷ xs) = by_test (p (f x))
-    (λ e. find_yes p (f x) (map f xs) e ∙ sym (ap (option_map f) (find_yes (λ y. p (f y)) x xs e)))
-    (λ e. find_no p (f x) (map f xs) e ∙ (find_mapped f p xs ∙ sym (ap (option_map f) (find_no (λ y. p (f y)) x xs e))))
 
 pub map_map : {A B C : Type 0} (g : B → C) (f : A → B) (o : Option A) → option_map g (option_map f o) ≡ option_map (λ x. g (f x)) o
 map_map g f None = refl

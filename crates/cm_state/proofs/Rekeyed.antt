@@ -17,17 +17,18 @@ use Rattle.cm_lists.specs.Buckets.{find_in}
 use Rattle.cmis_spec.specs.Repository.{Repository, same, object_at, series_at, entry_name, is_filed, parent_in}
 use Rattle.cmis_spec.specs.Changes.{stepped, noted, refiled, moved, edited}
 use Rattle.cmis_spec.specs.Well.{Apart, Differ, HasNames, IsWellFormed}
-use Rattle.cmis_laws.proofs.Lists.{by_test, none_some, found_passes, same_eq, same_refl, all_zip}
+use Rattle.cmis_laws.proofs.Lists.{by_test, none_some, found_passes, same_eq, same_refl, all_zip, find_alike}
 use Rattle.cmis_laws.proofs.Moved.{map_some}
+use Rattle.cmis_laws.proofs.Kept.{find_mapped}
 use Rattle.cm_state.specs.declared.state.State.TheInside.{Inside}
 use Rattle.cm_state.specs.Filings.{IsSingle}
 use Rattle.cm_state.specs.Kept.{repository_of, IsState}
 use Rattle.cm_state.specs.Names.{HasChildren, is_child_named, IsRekeyed, IsRenamed}
-use Rattle.cm_state.proofs.Children.{any_found, find_alike}
+use Rattle.cm_state.proofs.Children.{any_found}
 use Rattle.cm_state.proofs.Grown.{bytes_flip}
 use Rattle.cm_state.proofs.Names.{clash}
 use Rattle.cm_state.proofs.Only.{beside, unfound, apart_from, Turns, turned}
-use Rattle.cm_state.proofs.Pairs.{ties, flip, find_mapped, map_map}
+use Rattle.cm_state.proofs.Pairs.{ties, flip, map_map}
 
 -- one of two children of a folder has the name: the other one has not
 unlike : (r : Repository) (f : ℕ) (name : List ℕ) (p q : Filed) → Differ r p q ⊎ Differ r q p → is_child_named r f name q ≡ true → is_child_named r f name p ≡ false
