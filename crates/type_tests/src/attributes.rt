@@ -7,7 +7,7 @@ use cm_basetypes::base_types::base_types;
 use cm_types::definition::{BaseType, TypeDef};
 use std::alloc::{AllocError, Global};
 use type_json::judge::read_type;
-use type_requests::changes::{base_id, changes_attributes, changes_old_props};
+use type_requests::changes::{changes_attributes, changes_old_props};
 use type_requests::made::{changed_type, is_document, is_relationship, is_secondary, made_type};
 
 const FOLDER: &str =
@@ -40,7 +40,7 @@ fn made_below_folder(alloc: Global, text: &str) -> Result<TypeDef, Refused> {
 
 #[test]
 fn ids_of_base_types(rt: HostRuntime) {
-    assert!(rt; base_id(BaseType::Relationship) == "cmis:relationship");
+    assert!(rt; BaseType::Relationship.id() == "cmis:relationship");
     assert!(rt; is_document(BaseType::Document) && !is_document(BaseType::Folder));
     assert!(rt; is_relationship(BaseType::Relationship) && !is_relationship(BaseType::Policy));
     assert!(rt; is_secondary(BaseType::Secondary) && !is_secondary(BaseType::Item));
