@@ -16,19 +16,12 @@ use Rattle.cm_types.specs.declared.property.Cardinality.{Cardinality}
 use Rattle.cm_types.specs.declared.property.Cardinality.TheVariants.{Single, Multi}
 use Rattle.cm_types.specs.Properties.{scalars_of, is_of_kind, value_fault, has_other_cardinality}
 use Rattle.cm_types.specs.Changes.{of_kind, default_of, made_prop, has_wrong_value, is_wrong_choice, is_many_for, gives_many}
-<<<<<<< HEAD
-use Rattle.type_json.specs.Words.{kind_word, kind_of, cardinality_word, cardinality_of, updatability_word, updatability_of, is_id, is_query_name}
-use Rattle.type_json.specs.declared.kind.KeyKind.TheVariants as keys
-use Rattle.type_json.specs.Reading.{is_object, is_text, is_flag, is_item, is_choice, is_list, is_word, has_kind, wrong_at, has_wrong_key, prop_keys, text_in, id_in, flag_in, whole_in, list_of, scalar_of, scalars_in, choice_of, choices_in, prop_kind, prop_request, lacks, lacks_prop_key, has_wrong_name}
-use Rattle.json_text.specs.Values.{scalar_data}
-use Rattle.type_show.specs.Showing.{with_fields, prop_names, prop_words, prop_flags, prop_values, limit_fields, limit_data, choice_data, prop_data}
-=======
 use Rattle.type_keys.specs.Words.{kind_word, kind_of, cardinality_word, cardinality_of, updatability_word, updatability_of, is_id, is_query_name}
 use Rattle.type_keys.specs.declared.kind.KeyKind.TheVariants as keys
 use Rattle.type_keys.specs.Keys.{is_object, is_text, is_flag, is_item, is_choice, is_list, is_word, has_kind, wrong_at, has_wrong_key, prop_keys, list_of}
 use Rattle.type_json.specs.Reading.{text_in, id_in, flag_in, whole_in, scalar_of, scalars_in, choice_of, choices_in, prop_kind, prop_request, lacks, lacks_prop_key, has_wrong_name}
-use Rattle.type_show.specs.Showing.{with_fields, prop_names, prop_words, prop_flags, prop_values, limit_fields, limit_data, choice_data, scalar_data, prop_data}
->>>>>>> 1c946d6246baff266205be2c12a951401b798297
+use Rattle.json_text.specs.Values.{scalar_data}
+use Rattle.type_show.specs.Showing.{with_fields, prop_names, prop_words, prop_flags, prop_values, limit_fields, limit_data, choice_data, prop_data}
 use Rattle.type_show.specs.ReadBack.{asked_prop, IsSoundProp, is_no_empty_list, limit_fits, scalar_fits}
 use Rattle.type_show.proofs.Putting.{both, first, second}
 use Rattle.type_show.proofs.ShownValues.{kind_again, cardinality_again, updatability_again, is_list_again, all_again, map_same, item_again, is_kept, scalar_again, choice_again, is_choice_again, limit_again, limit_kind}

@@ -19,17 +19,11 @@ use Rattle.cm_types.specs.declared.property.Updatability.TheVariants as may
 use Rattle.cm_types.specs.declared.definition.ContentAllowed.{ContentAllowed}
 use Rattle.cm_types.specs.declared.definition.ContentAllowed.TheVariants as contents
 use Rattle.cm_types.specs.Properties.{is_of_kind}
-<<<<<<< HEAD
-use Rattle.type_json.specs.Words.{content_word, content_of, kind_word, kind_of, cardinality_word, cardinality_of, updatability_word, updatability_of}
-use Rattle.type_json.specs.Reading.{list_of, is_item, is_whole, is_list, is_choice, scalar_of, choice_of}
-use Rattle.json_text.specs.Values.{scalar_data}
-use Rattle.type_show.specs.Showing.{choice_data, limit_data}
-=======
 use Rattle.type_keys.specs.Words.{content_word, content_of, kind_word, kind_of, cardinality_word, cardinality_of, updatability_word, updatability_of}
 use Rattle.type_keys.specs.Keys.{list_of, is_item, is_whole, is_list, is_choice}
 use Rattle.type_json.specs.Reading.{scalar_of, choice_of}
-use Rattle.type_show.specs.Showing.{scalar_data, choice_data, limit_data}
->>>>>>> 1c946d6246baff266205be2c12a951401b798297
+use Rattle.json_text.specs.Values.{scalar_data}
+use Rattle.type_show.specs.Showing.{choice_data, limit_data}
 use Rattle.type_show.specs.ReadBack.{fits, limit_fits, scalar_fits}
 use Rattle.type_show.proofs.Putting.{both, first, second}
 
