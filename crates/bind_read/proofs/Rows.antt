@@ -1,5 +1,5 @@
 -- Worked rows: what small requests ask.
-use Rattle.std.proofs.Common.{◌≡◌, ℕ, List, [], ◌∷◌, true, false, refl}
+use Rattle.std.proofs.Common.{◌≡◌, ℕ, List, [], ◌∷◌, ◌++◌, true, false, refl}
 use Rattle.std.specs.Prelude.{codes, Ok, Err}
 use Rattle.std.specs.Fmt.{digits}
 use Rattle.std.specs.Str.{is_utf8, chars}
@@ -17,6 +17,8 @@ use Rattle.http_grammar.specs.Request.{Request, FieldParts}
 use Rattle.http_grammar.specs.Fields.{values_named}
 use Rattle.form_args.specs.Properties.{most_properties, most_values}
 use Rattle.bind_read.specs.declared.asked.Asked.TheVariants as asks
+use Rattle.http_header.specs.Token.{is_token_byte}
+use Rattle.form_parts.specs.Reading.{lines_of, inside, outside}
 use Rattle.bind_read.specs.Calls.{call_of_request}
 
 abbrev urlencoded : List FieldParts
@@ -71,9 +73,30 @@ row_body : call_of_request (record { head = record { method = codes "POST"; targ
 unfolding split is_utf8 chars percent_decode encode raw_pairs utf8_lossy utf8_valid_len values_named
 row_body = refl
 
-row_parts : call_of_request (record { head = record { method = codes "POST"; target = codes "/cmis/main/root"; minor = 1; fields = (codes "Content-Type", codes "multipart/form-data; boundary=B") ∷ [] }; body = codes "x" }) ≡ Err (causes.NotServed (codes "form"))
-unfolding split is_utf8 chars percent_decode encode raw_pairs utf8_lossy utf8_valid_len values_named
-row_parts = refl
+-- ---- forms in parts
+
+-- the fields of a request with a form in parts
+abbrev in_parts : List ℕ → List FieldParts
+in_parts boundary = (codes "Host", codes "x") ∷ (codes "Content-Type", codes "multipart/form-data; boundary=" ++ boundary) ∷ []
+
+abbrev posted_parts : List ℕ → List ℕ → Request
+posted_parts boundary body = record { head = record { method = codes "POST"; target = codes "/cmis/main/root"; minor = 1; fields = in_parts boundary }; body = body }
+
+-- createFolder asks the same in parts as it does urlencoded
+row_create_folder_in_parts : call_of_request (posted_parts (codes "B") (codes "--B\r\nContent-Disposition: form-data; name=\"cmisaction\"\r\n\r\ncreateFolder\r\n--B\r\ncontent-disposition: form-data; name=\"propertyId[0]\"\r\n\r\ncmis:objectTypeId\r\n--B\r\nContent-Disposition: form-data; name=\"propertyValue[0]\"\r\n\r\ncmis:folder\r\n--B--\r\n"))
+    ≡ call_of_request (posted (codes "/cmis/main/root") (codes "cmisaction=createFolder&propertyId[0]=cmis:objectTypeId&propertyValue[0]=cmis:folder"))
+unfolding split is_utf8 chars percent_decode encode raw_pairs utf8_lossy utf8_valid_len values_named most_properties most_values digits lines_of inside outside is_token_byte
+row_create_folder_in_parts = refl
+
+-- the last delimiter is missing
+row_unended : call_of_request (posted_parts (codes "B") (codes "--B\r\nContent-Disposition: form-data; name=a\r\n\r\nb\r\n--B\r\n")) ≡ Err causes.BadBody
+unfolding split is_utf8 chars percent_decode encode raw_pairs utf8_lossy utf8_valid_len values_named lines_of inside outside is_token_byte
+row_unended = refl
+
+-- a boundary of 71 bytes
+row_long_boundary : call_of_request (posted_parts (codes "12345678901234567890123456789012345678901234567890123456789012345678901") (codes "x")) ≡ Err causes.BadBody
+unfolding split is_utf8 chars percent_decode encode raw_pairs utf8_lossy utf8_valid_len values_named lines_of inside outside is_token_byte
+row_long_boundary = refl
 
 row_action_missing : call_of_request (record { head = record { method = codes "POST"; target = codes "/cmis/main/root?succinct=maybe"; minor = 1; fields = (codes "CMIS-Step", codes "+1") ∷ [] }; body = [] }) ≡ Err (causes.MissingArgument args.CmisAction)
 unfolding split is_utf8 chars percent_decode encode raw_pairs utf8_lossy utf8_valid_len values_named

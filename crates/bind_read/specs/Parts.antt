@@ -8,15 +8,24 @@ use Rattle.cm_base.specs.Judged.{Judged, refuse}
 use Rattle.cm_call.specs.declared.place.Place.{Place}
 use Rattle.cm_call.specs.declared.place.Place.TheVariants as places
 use Rattle.form_args.specs.declared.pairs.Pair.{Pair}
+use Rattle.request_target.specs.declared.target.Target.{Target}
+use Rattle.request_target.specs.declared.target.Target.TheVariants as targets
+use Rattle.bind_read.specs.declared.asking.Asking.{Asking}
 use Rattle.form_args.specs.Pairs.{value_of, is_given}
+
+-- the names on the path of an object
+abbrev pub names_in : Target → List (List ℕ)
+names_in targets.Service = []
+names_in targets.Repository = []
+names_in (targets.Object names) = names
 
 -- objectId wins over the path
 abbrev pub place_by : List (List ℕ) → Option (List ℕ) → Place
 place_by names None = places.Path names
 place_by names (Some id) = places.Id id
 
-abbrev pub place_of : List (List ℕ) → List Pair → Place
-place_of names pairs = place_by names (value_of pairs args.ObjectId)
+abbrev pub place_of : Asking → Place
+place_of asking = place_by (names_in asking.address) (value_of asking.form.pairs args.ObjectId)
 
 -- the arguments that are not served yet, where one of them is given
 abbrev pub unserved : List Argument → List Pair → Judged (Unit {0})

@@ -1,8 +1,10 @@
 -- The actions and selectors that are served, each at its addresses (CMIS 1.1, sections 5.4.2 and 5.4.3).
-use Rattle.std.specs.Prelude.{ℕ, List, codes, bytes_eq, Option, Some, None, Err, if◌then◌else◌}
+use Rattle.std.specs.Prelude.{ℕ, List, [], ◌∷◌, Bool, true, false, not, ◌&&◌, codes, bytes_eq, find}
+use Rattle.cm_base.specs.declared.argument.Argument.{Argument}
 use Rattle.cm_base.specs.declared.argument.Argument.TheVariants as args
+use Rattle.cm_base.specs.declared.cause.Cause.{Cause}
 use Rattle.cm_base.specs.declared.cause.Cause.TheVariants as causes
-use Rattle.cm_base.specs.Judged.{Judged, find_or}
+use Rattle.cm_base.specs.Judged.{Judged, ◌>>=◌, find_or}
 use Rattle.request_target.specs.declared.target.Target.{Target}
 use Rattle.request_target.specs.declared.target.Target.TheVariants as targets
 use Rattle.form_args.specs.declared.pairs.Pair.{Pair}
@@ -12,30 +14,49 @@ use Rattle.bind_read.specs.declared.form.Method.TheVariants as methods
 use Rattle.bind_read.specs.declared.words.Service.{Service}
 use Rattle.bind_read.specs.declared.words.Service.TheVariants as services
 
-abbrev pub action_at : Target → List ℕ → Option Service
-action_at targets.Service w = None
-action_at targets.Repository w = None
-action_at (targets.Object names) w = if bytes_eq w (codes "createFolder") then Some services.CreateFolder else None
+-- the word of a service
+abbrev pub word_of : Service → List ℕ
+word_of services.CreateFolder = codes "createFolder"
+word_of services.Object = codes "object"
+word_of services.Properties = codes "properties"
+word_of services.Children = codes "children"
 
-abbrev pub selector_at : Target → List ℕ → Option Service
-selector_at targets.Service w = None
-selector_at targets.Repository w = None
-selector_at (targets.Object names) w =
-    if bytes_eq w (codes "object") then Some services.Object
-    else if bytes_eq w (codes "properties") then Some services.Properties
-    else if bytes_eq w (codes "children") then Some services.Children
-    else None
+-- an action of a POST; the others are selectors of a GET
+abbrev pub is_action : Service → Bool
+is_action services.CreateFolder = true
+is_action services.Object = false
+is_action services.Properties = false
+is_action services.Children = false
 
--- a request without a selector is not served yet
-abbrev pub selected : Target → Option (List ℕ) → Judged Service
-selected target None = Err (causes.NotServed (codes "form"))
-selected target (Some w) = find_or (causes.NotServed w) (selector_at target w)
+abbrev pub is_by : Method → Service → Bool
+is_by methods.Get s = not (is_action s)
+is_by methods.Post s = is_action s
 
-abbrev pub acted : Target → Option (List ℕ) → Judged Service
-acted target None = Err (causes.MissingArgument args.CmisAction)
-acted target (Some w) = find_or (causes.NotServed w) (action_at target w)
+-- where a service is served
+abbrev pub is_at : Target → Service → Bool
+is_at targets.Service s = false
+is_at targets.Repository s = false
+is_at (targets.Object names) s = true
+
+-- the services that are served
+abbrev pub all_services : List Service
+all_services = services.CreateFolder ∷ services.Object ∷ services.Properties ∷ services.Children ∷ []
+
+-- the word names this service, by this method at this address
+abbrev pub is_named : Method → Target → List ℕ → Service → Bool
+is_named method target w s = (is_by method s && is_at target s) && bytes_eq (word_of s) w
+
+-- a request without a selector is not served yet, and an action is always named
+abbrev pub unnamed : Method → Cause
+unnamed methods.Get = causes.NotServed (codes "form")
+unnamed methods.Post = causes.MissingArgument args.CmisAction
+
+abbrev pub argument_of : Method → Argument
+argument_of methods.Get = args.CmisSelector
+argument_of methods.Post = args.CmisAction
 
 -- what the selector of a GET or the action of a POST names
 abbrev pub service_of : Method → Target → List Pair → Judged Service
-service_of methods.Get target pairs = selected target (value_of pairs args.CmisSelector)
-service_of methods.Post target pairs = acted target (value_of pairs args.CmisAction)
+service_of method target pairs = do
+  word ← find_or (unnamed method) (value_of pairs (argument_of method))
+  find_or (causes.NotServed word) (find (is_named method target word) all_services)

@@ -1,54 +1,41 @@
 //! What a request asks.
 ghost use Rattle.std.specs.Prelude.{◌≡◌};
 ghost use Rattle.cm_base.specs.Judged.{Meets};
-ghost use Rattle.bind_read.specs.Calls.{names_in, bound, call_of_request};
+ghost use Rattle.bind_read.specs.Calls.{bound, call_of_request};
 
 use crate::asked::Asked;
+use crate::asking::{Asking, host_of, with_query};
 use crate::children::children_of;
 use crate::create_folder::create_folder_of;
 use crate::form::{form_of, method_of};
 use crate::object::{object_of, properties_of};
 use crate::words::{Service, service_of};
 use cm_base::fail::Fail;
-use cm_base::items::Items;
-use cm_base::text::Texts;
 use cm_call::question::Question;
 use cm_call::write::Write;
-use form_args::pairs::Pairs;
-use form_args::read::with_query;
 use http_caller::least_of;
 use http_wire::Request;
-use request_target::target::{Target, query_of, target_of};
+use request_target::target::{query_of, target_of};
 use std::alloc::Global;
 
-fn names_in(alloc: Global, target: Target) -> Texts
-    ensures { result ≡ names_in target }
-{
-    match target {
-        Target::Service => Items::new(alloc),
-        Target::Repository => Items::new(alloc),
-        Target::Object(names) => names,
-    }
-}
-
-fn bound(alloc: Global, service: Service, names: &Texts, pairs: &Pairs) -> Result<Asked, Fail>
-    ensures { Meets (λ a. a) result (bound service names.now pairs.now) }
+fn bound(alloc: Global, service: Service, asking: &Asking) -> Result<Asked, Fail>
+    ensures { Meets (λ a. a) result (bound service asking.now) }
 {
     match service {
         Service::CreateFolder => {
-            let call = create_folder_of(alloc, names, pairs)?;
+            let call = create_folder_of(alloc, asking)?;
             Ok(Asked::Write(Write::CreateFolder(call)))
         }
         Service::Object => {
-            let question = object_of(alloc, names, pairs)?;
+            let question = object_of(alloc, asking)?;
             Ok(Asked::Question(Question::Object(question)))
         }
         Service::Properties => {
-            let question = properties_of(alloc, names, pairs)?;
+            let question = properties_of(alloc, asking)?;
             Ok(Asked::Question(Question::Properties(question)))
         }
         Service::Children => {
-            let question = children_of(alloc, names, pairs)?;
+            let question = children_of(alloc, asking)?;
             Ok(Asked::Question(Question::Children(question)))
         }
     }
@@ -63,10 +50,14 @@ pub fn call_of(alloc: Global, request: &Request) -> Result<Asked, Fail>
     let head = request.head();
     let method = method_of(head.method())?;
     let target = target_of(alloc, head.target())?;
-    let form = form_of(alloc, method, request)?;
-    let pairs = with_query(alloc, form, query_of(head.target()))?;
-    let service = service_of(alloc, method, &target, &pairs)?;
+    let parts = form_of(alloc, method, request)?;
+    let form = with_query(alloc, parts, query_of(head.target()))?;
+    let service = service_of(alloc, method, &target, &form.pairs)?;
     let _step = least_of(head)?;
-    let names = names_in(alloc, target);
-    bound(alloc, service, &names, &pairs)
+    let asking = Asking {
+        address: target,
+        form,
+        host: host_of(alloc, head)?,
+    };
+    bound(alloc, service, &asking)
 }

@@ -3,23 +3,23 @@ ghost use Rattle.std.specs.Prelude.{◌≡◌};
 ghost use Rattle.cm_base.specs.Judged.{Meets};
 ghost use Rattle.bind_read.specs.CreateFolder.{create_folder_of};
 
+use crate::asking::Asking;
 use crate::parts::place_of;
 use cm_base::argument::Argument;
 use cm_base::fail::Fail;
-use cm_base::text::Texts;
 use cm_call::write::CreateFolder;
 use form_args::choice::flag;
 use form_args::entries::aces;
 use form_args::lists::texts;
-use form_args::pairs::Pairs;
 use form_args::properties::{properties, typed};
 use std::alloc::Global;
 
 /// The call that the arguments make, or the first of their causes.
 #[tactic(auto, using(cm_types::proofs::Exits::fails_bind, cm_types::proofs::Exits::fails_then))]
-pub fn create_folder_of(alloc: Global, names: &Texts, pairs: &Pairs) -> Result<CreateFolder, Fail>
-    ensures { Meets (λ c. c) result (create_folder_of names.now pairs.now) }
+pub fn create_folder_of(alloc: Global, asking: &Asking) -> Result<CreateFolder, Fail>
+    ensures { Meets (λ c. c) result (create_folder_of asking.now) }
 {
+    let pairs = &asking.form.pairs;
     let succinct = flag(pairs, Argument::Succinct, false)?;
     let properties = properties(alloc, pairs)?;
     typed(properties.as_slice())?;
@@ -36,7 +36,7 @@ pub fn create_folder_of(alloc: Global, names: &Texts, pairs: &Pairs) -> Result<C
         Argument::RemoveAcePermission,
     )?;
     let policies = texts(alloc, pairs, Argument::Policy.word())?;
-    let place = place_of(alloc, names, pairs)?;
+    let place = place_of(alloc, asking)?;
     Ok(CreateFolder {
         place,
         properties,

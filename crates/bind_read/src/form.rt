@@ -2,15 +2,20 @@
 ghost use Rattle.std.specs.Prelude.{◌≡◌, codes, option_map, IfOk};
 ghost use Rattle.cm_base.specs.declared.cause.Cause.TheVariants as causes;
 ghost use Rattle.cm_base.specs.Judged.{Meets};
-ghost use Rattle.bind_read.specs.Forms.{method_of, form_by, form_in, form_of};
+ghost use Rattle.bind_read.specs.Forms.{method_of, only_pairs, form_in_parts, form_by, form_in, form_of};
 
+use crate::boundary::boundary_of;
 use crate::fields::content_type;
 use crate::media::is_of_type;
+use bytes::Bytes;
 use cm_base::cause::Cause;
 use cm_base::fail::Fail;
+use cm_base::items::Items;
 use cm_base::text::Text;
 use form_args::pairs::Pair;
 use form_args::read::form_pairs;
+use form_parts::gathered::Parts;
+use form_parts::parts::parts;
 use http_wire::{Head, Request};
 use std::alloc::{AllocError, Global};
 
@@ -42,18 +47,34 @@ pub fn unserved(alloc: Global) -> Result<Cause, AllocError>
     Ok(Cause::NotServed(word))
 }
 
-fn form_by(alloc: Global, kind: Option<&[u8]>, body: &[u8]) -> Result<Vec<Pair>, Fail>
-    ensures { Meets (λ v. v.items) result (form_by (option_map (λ t. t.now) kind.entry) body.now) }
+fn only_pairs(pairs: Vec<Pair>) -> Parts
+    ensures { result ≡ only_pairs pairs.items }
+{
+    Parts {
+        pairs: Items::from_vec(pairs),
+        content: None,
+    }
+}
+
+#[tactic(auto, using(cm_types::proofs::Exits::fails_bind))]
+fn form_in_parts(alloc: Global, kind: &[u8], body: &Bytes) -> Result<Parts, Fail>
+    ensures { Meets (λ p. p) result (form_in_parts kind.now body.now) }
+{
+    let boundary = boundary_of(alloc, kind)?;
+    parts(alloc, boundary.as_slice(), body)
+}
+
+fn form_by(alloc: Global, kind: Option<&[u8]>, body: &Bytes) -> Result<Parts, Fail>
+    ensures { Meets (λ p. p) result (form_by (option_map (λ t. t.now) kind.entry) body.now) }
 {
     match kind {
         None => Err(Fail::Refused(Cause::BadBody)),
         Some(kind) => {
             if is_of_type(b"application/x-www-form-urlencoded", kind) {
-                let form = form_pairs(alloc, body)?;
-                Ok(form)
+                let pairs = form_pairs(alloc, body.as_slice())?;
+                Ok(only_pairs(pairs))
             } else if is_of_type(b"multipart/form-data", kind) {
-                let cause = unserved(alloc)?;
-                Err(Fail::Refused(cause))
+                form_in_parts(alloc, kind, body)
             } else {
                 Err(Fail::Refused(Cause::BadBody))
             }
@@ -61,21 +82,21 @@ fn form_by(alloc: Global, kind: Option<&[u8]>, body: &[u8]) -> Result<Vec<Pair>,
     }
 }
 
-fn form_in(alloc: Global, head: &Head, body: &[u8]) -> Result<Vec<Pair>, Fail>
-    ensures { Meets (λ v. v.items) result (form_in head.now body.now) }
+fn form_in(alloc: Global, head: &Head, body: &Bytes) -> Result<Parts, Fail>
+    ensures { Meets (λ p. p) result (form_in head.now body.now) }
 {
-    match body {
-        [] => Ok(Vec::new(alloc)),
+    match body.as_slice() {
+        [] => Ok(only_pairs(Vec::new(alloc))),
         [_, ..] => form_by(alloc, content_type(head), body),
     }
 }
 
-/// The pairs of a request's form: of the body of a POST, which is urlencoded or empty.
-pub fn form_of(alloc: Global, method: Method, request: &Request) -> Result<Vec<Pair>, Fail>
-    ensures { Meets (λ v. v.items) result (form_of method request.now) }
+/// The form of a request: that of the body of a POST, which is urlencoded, in parts, or empty. Another body is BadBody.
+pub fn form_of(alloc: Global, method: Method, request: &Request) -> Result<Parts, Fail>
+    ensures { Meets (λ p. p) result (form_of method request.now) }
 {
     match method {
-        Method::Get => Ok(Vec::new(alloc)),
-        Method::Post => form_in(alloc, request.head(), request.body().as_slice()),
+        Method::Get => Ok(only_pairs(Vec::new(alloc))),
+        Method::Post => form_in(alloc, request.head(), request.body()),
     }
 }

@@ -4,6 +4,8 @@
 ghost use Rattle.std.specs.Prelude.{◌≡◌};
 
 pub mod asked;
+pub mod asking;
+pub mod boundary;
 pub mod call;
 pub mod children;
 pub mod create_folder;

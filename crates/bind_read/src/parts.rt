@@ -3,23 +3,36 @@ ghost use Rattle.std.specs.Prelude.{◌≡◌, IfOk};
 ghost use Rattle.std.specs.List.{list_any};
 ghost use Rattle.cm_base.specs.Judged.{Meets};
 ghost use Rattle.form_args.specs.Pairs.{is_given};
-ghost use Rattle.bind_read.specs.Parts.{place_of, unserved, unserved_of_object, unserved_of_properties, unserved_of_children};
+ghost use Rattle.bind_read.specs.Parts.{names_in, place_of, unserved, unserved_of_object, unserved_of_properties, unserved_of_children};
 
+use crate::asking::Asking;
 use crate::form;
 use cm_base::argument::Argument;
 use cm_base::copies::Copies;
 use cm_base::fail::Fail;
+use cm_base::items::Items;
 use cm_base::text::Texts;
 use cm_call::place::Place;
 use form_args::pairs::Pairs;
+use request_target::target::Target;
 use std::alloc::{AllocError, Global};
 
-/// The object that is addressed: by its id where one is given, else by the names on its path.
-pub fn place_of(alloc: Global, names: &Texts, pairs: &Pairs) -> Result<Place, AllocError>
-    ensures { IfOk result (λ p. p ≡ place_of names.now pairs.now) }
+fn names_in(alloc: Global, target: &Target) -> Result<Texts, AllocError>
+    ensures { IfOk result (λ names. names ≡ names_in target.now) }
 {
-    match pairs.first(Argument::ObjectId.word()) {
-        None => Ok(Place::Path(names.copied(alloc)?)),
+    match target {
+        Target::Service => Ok(Items::new(alloc)),
+        Target::Repository => Ok(Items::new(alloc)),
+        Target::Object(names) => names.copied(alloc),
+    }
+}
+
+/// The object that is addressed: by its id where one is given, else by the names on its path.
+pub fn place_of(alloc: Global, asking: &Asking) -> Result<Place, AllocError>
+    ensures { IfOk result (λ p. p ≡ place_of asking.now) }
+{
+    match asking.form.pairs.first(Argument::ObjectId.word()) {
+        None => Ok(Place::Path(names_in(alloc, &asking.address)?)),
         Some(id) => Ok(Place::Id(id.copied(alloc)?)),
     }
 }

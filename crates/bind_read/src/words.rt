@@ -1,8 +1,9 @@
 //! The words of actions and selectors.
-ghost use Rattle.std.specs.Prelude.{◌≡◌, option_map};
+ghost use Rattle.std.specs.Prelude.{◌≡◌, find, option_map, IfOk};
+ghost use Rattle.std.specs.Option.{option_copied};
 ghost use Rattle.cm_base.specs.declared.cause.Cause.TheVariants as causes;
 ghost use Rattle.cm_base.specs.Judged.{Meets, find_or};
-ghost use Rattle.bind_read.specs.Words.{action_at, selector_at, selected, acted, service_of};
+ghost use Rattle.bind_read.specs.Words.{word_of, is_action, is_by, is_at, all_services, is_named, unnamed, argument_of, service_of};
 
 use crate::form::{Method, unserved};
 use cm_base::argument::Argument;
@@ -12,7 +13,7 @@ use cm_base::fail::Fail;
 use cm_base::text::Text;
 use form_args::pairs::Pairs;
 use request_target::target::Target;
-use std::alloc::Global;
+use std::alloc::{AllocError, Global};
 
 /// The services that are served.
 #[derive(Clone, Copy, Debug, PartialEq, Eq)]
@@ -23,39 +24,105 @@ pub enum Service {
     Children,
 }
 
-fn action_at(target: &Target, word: &str) -> Option<Service>
-    ensures { result ≡ action_at target.now word.now }
+fn word_of(service: Service) -> &'static str
+    ensures { result.now ≡ word_of service }
 {
-    match target {
-        Target::Service => None,
-        Target::Repository => None,
-        Target::Object(_) => {
-            if word == "createFolder" {
-                Some(Service::CreateFolder)
-            } else {
-                None
-            }
-        }
+    match service {
+        Service::CreateFolder => "createFolder",
+        Service::Object => "object",
+        Service::Properties => "properties",
+        Service::Children => "children",
     }
 }
 
-fn selector_at(target: &Target, word: &str) -> Option<Service>
-    ensures { result ≡ selector_at target.now word.now }
+fn is_action(service: Service) -> bool
+    ensures { result ≡ is_action service }
 {
+    match service {
+        Service::CreateFolder => true,
+        Service::Object => false,
+        Service::Properties => false,
+        Service::Children => false,
+    }
+}
+
+fn is_by(method: Method, service: Service) -> bool
+    ensures { result ≡ is_by method service }
+{
+    match method {
+        Method::Get => !is_action(service),
+        Method::Post => is_action(service),
+    }
+}
+
+fn is_at(target: &Target, service: Service) -> bool
+    ensures { result ≡ is_at target.now service }
+{
+    let _everywhere = service;
     match target {
-        Target::Service => None,
-        Target::Repository => None,
-        Target::Object(_) => {
-            if word == "object" {
-                Some(Service::Object)
-            } else if word == "properties" {
-                Some(Service::Properties)
-            } else if word == "children" {
-                Some(Service::Children)
-            } else {
-                None
-            }
-        }
+        Target::Service => false,
+        Target::Repository => false,
+        Target::Object(_) => true,
+    }
+}
+
+fn is_named(method: Method, target: &Target, word: &str, service: Service) -> bool
+    ensures { result ≡ is_named method target.now word.now service }
+{
+    is_by(method, service) && is_at(target, service) && word_of(service) == word
+}
+
+fn find_service<'a>(
+    method: Method,
+    target: &Target,
+    word: &str,
+    all: &'a [Service],
+) -> Option<&'a Service>
+    ensures { option_copied result ≡ find (is_named method target.now word.now) all.now }
+{
+    all.iter().find(|s| is_named(method, target, word, **s))
+}
+
+fn first_service(method: Method, target: &Target, word: &str, all: &[Service]) -> Option<Service>
+    ensures { result ≡ find (is_named method target.now word.now) all.now }
+{
+    match find_service(method, target, word, all) {
+        Some(service) => Some(*service),
+        None => None,
+    }
+}
+
+fn service_named(method: Method, target: &Target, word: &str) -> Option<Service>
+    ensures { result ≡ find (is_named method target.now word.now) all_services }
+{
+    first_service(
+        method,
+        target,
+        word,
+        &[
+            Service::CreateFolder,
+            Service::Object,
+            Service::Properties,
+            Service::Children,
+        ],
+    )
+}
+
+fn unnamed(alloc: Global, method: Method) -> Result<Cause, AllocError>
+    ensures { IfOk result (λ c. c ≡ unnamed method) }
+{
+    match method {
+        Method::Get => unserved(alloc),
+        Method::Post => Ok(Cause::MissingArgument(Argument::CmisAction)),
+    }
+}
+
+fn argument_of(method: Method) -> Argument
+    ensures { result ≡ argument_of method }
+{
+    match method {
+        Method::Get => Argument::CmisSelector,
+        Method::Post => Argument::CmisAction,
     }
 }
 
@@ -71,27 +138,6 @@ fn served(alloc: Global, word: &Text, service: Option<Service>) -> Result<Servic
     }
 }
 
-fn selected(alloc: Global, target: &Target, word: Option<&Text>) -> Result<Service, Fail>
-    ensures { Meets (λ s. s) result (selected target.now (option_map (λ t. t.now) word.entry)) }
-{
-    match word {
-        None => {
-            let cause = unserved(alloc)?;
-            Err(Fail::Refused(cause))
-        }
-        Some(word) => served(alloc, word, selector_at(target, word.as_str())),
-    }
-}
-
-fn acted(alloc: Global, target: &Target, word: Option<&Text>) -> Result<Service, Fail>
-    ensures { Meets (λ s. s) result (acted target.now (option_map (λ t. t.now) word.entry)) }
-{
-    match word {
-        None => Err(Fail::Refused(Cause::MissingArgument(Argument::CmisAction))),
-        Some(word) => served(alloc, word, action_at(target, word.as_str())),
-    }
-}
-
 /// What the selector of a GET or the action of a POST names. A word that is not served there is NotServed; an action that is not
 /// given is MissingArgument.
 pub fn service_of(
@@ -102,8 +148,11 @@ pub fn service_of(
 ) -> Result<Service, Fail>
     ensures { Meets (λ s. s) result (service_of method target.now pairs.now) }
 {
-    match method {
-        Method::Get => selected(alloc, target, pairs.first(Argument::CmisSelector.word())),
-        Method::Post => acted(alloc, target, pairs.first(Argument::CmisAction.word())),
+    match pairs.first(argument_of(method).word()) {
+        None => {
+            let cause = unnamed(alloc, method)?;
+            Err(Fail::Refused(cause))
+        }
+        Some(word) => served(alloc, word, service_named(method, target, word.as_str())),
     }
 }

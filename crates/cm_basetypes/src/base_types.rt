@@ -2,7 +2,7 @@
 ghost use Rattle.std.specs.Prelude.{◌≡◌, ◌++◌, ◌∷◌, [], IfOk, map, true, false};
 ghost use Rattle.cm_types.specs.declared.definition.BaseType.TheVariants as bases;
 ghost use Rattle.cm_types.specs.declared.definition.ContentAllowed.TheVariants.{NotAllowed, Allowed};
-ghost use Rattle.cm_basetypes.specs.BaseTypes.{common_props, version_props, content_props, folder_props, relationship_props, policy_props, base_def, base_row, base_types};
+ghost use Rattle.cm_types.specs.BaseTypes.{common_props, version_props, content_props, folder_props, relationship_props, policy_props, base_def, base_row, base_types};
 
 use crate::props::{common_props, document_props, folder_props, policy_props, relationship_props};
 use cm_base::items::Items;

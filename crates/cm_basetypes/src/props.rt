@@ -1,7 +1,7 @@
 //! The properties of the base types.
 ghost use Rattle.std.specs.Prelude.{◌≡◌, ◌++◌, IfOk, OnOk, map};
 ghost use Rattle.cm_types.specs.Changes.{is_single};
-ghost use Rattle.cm_basetypes.specs.BaseTypes.{prop, common_props, version_props, content_props, folder_props, relationship_props, policy_props};
+ghost use Rattle.cm_types.specs.BaseTypes.{prop, common_props, version_props, content_props, folder_props, relationship_props, policy_props};
 
 use cm_base::items::Items;
 use cm_base::text::Text;

@@ -7,7 +7,9 @@ pub mod names;
 pub mod place;
 pub mod question;
 pub mod reply;
+pub mod stream;
 #[cfg(test)]
 mod tests;
+pub mod versions;
 pub mod weight;
 pub mod write;

@@ -11,22 +11,22 @@ use Rattle.cm_lists.specs.Buckets.{find_in}
 use Rattle.cm_folder.specs.declared.entry.FilingEntry.{FilingEntry}
 use Rattle.cm_folder.specs.declared.edit.Edit.{Edit}
 use Rattle.cm_folder.specs.Filings.{edit_of, edit_child}
-use Rattle.cm_folder.specs.Places.{value_at, name_order, name_key, child_key, folder_key, IsIndexed}
+use Rattle.cm_folder.specs.Places.{value_at, name_order, name_key, child_key, folder_key, find_named, IsIndexed}
 use Rattle.cm_folder.proofs.Placing.{by_test, find_under, find-put_at, Turns, tells_changed, changed_is, values_changed}
 
 -- an entry that comes or goes keeps the indexes
-pub indexed_changed : (es fs : List (ℕ × FilingEntry)) (n : ℕ) (e : FilingEntry) (now : Option FilingEntry) (children more inside inner : List (ℕ × List (ℕ × Oid))) (names others : List ((ℕ × List ℕ) × List (ℕ × Oid)))
+pub indexed_changed : (es fs : List (ℕ × FilingEntry)) (n : ℕ) (e : FilingEntry) (now : Option FilingEntry) (children more inside inner : List (ℕ × List (ℕ × Oid))) (names others : List (ℕ × List (List ℕ × List (ℕ × Oid))))
     → IsIndexed es children inside names → Turns e (find nat_cmp n es) now → T (is_sorted nat_cmp fs)
     → ((p : ℕ) → find nat_cmp p fs ≡ cond (p == n) now (find nat_cmp p es))
     → ((c p : ℕ) → find_in nat_cmp nat_cmp more c p ≡ (if eq_by_cmp nat_cmp c e.child.0 && eq_by_cmp nat_cmp p n then option_map (λ d. d.folder) now else find_in nat_cmp nat_cmp children c p))
     → ((f p : ℕ) → find_in nat_cmp nat_cmp inner f p ≡ (if eq_by_cmp nat_cmp f e.folder.0 && eq_by_cmp nat_cmp p n then option_map (λ d. d.child) now else find_in nat_cmp nat_cmp inside f p))
-    → ((k : ℕ × List ℕ) (p : ℕ) → find_in name_order nat_cmp others k p ≡ (if eq_by_cmp name_order k (e.folder.0, e.name) && eq_by_cmp nat_cmp p n then option_map (λ d. d.child) now else find_in name_order nat_cmp names k p))
+    → ((k : ℕ × List ℕ) (p : ℕ) → find_named others k p ≡ (if eq_by_cmp name_order k (e.folder.0, e.name) && eq_by_cmp nat_cmp p n then option_map (λ d. d.child) now else find_named names k p))
     → IsIndexed fs more inner others
 indexed_changed es fs n e now children more inside inner names others w turns sorted found c f k = record {
   sorted = sorted;
-  children = tells_changed nat_cmp child_key (λ d. d.folder) es fs n e now children more w.children turns found c;
-  folders = tells_changed nat_cmp folder_key (λ d. d.child) es fs n e now inside inner w.folders turns found f;
-  names = tells_changed name_order name_key (λ d. d.child) es fs n e now names others w.names turns found k;
+  children = tells_changed nat_cmp child_key (λ d. d.folder) es fs n e now (find_in nat_cmp nat_cmp children) (find_in nat_cmp nat_cmp more) w.children turns found c;
+  folders = tells_changed nat_cmp folder_key (λ d. d.child) es fs n e now (find_in nat_cmp nat_cmp inside) (find_in nat_cmp nat_cmp inner) w.folders turns found f;
+  names = tells_changed name_order name_key (λ d. d.child) es fs n e now (find_named names) (find_named others) w.names turns found k;
 }
 
 self_test : (n : ℕ) → (n == n) ≡ true
@@ -79,7 +79,7 @@ has_place p (e ∷ b) = by_test (eq_by_cmp nat_cmp p e.0)
     (λ t. rw (t, sym (unsigned_tied p e.0) ∙ t) (has_place p b))
 
 -- the places of a child are those of its entries
-pub changed_child : (edit : Edit) (c : Oid) (es : List (ℕ × FilingEntry)) (children inside : List (ℕ × List (ℕ × Oid))) (names : List ((ℕ × List ℕ) × List (ℕ × Oid))) → IsIndexed es children inside names
+pub changed_child : (edit : Edit) (c : Oid) (es : List (ℕ × FilingEntry)) (children inside : List (ℕ × List (ℕ × Oid))) (names : List (ℕ × List (List ℕ × List (ℕ × Oid)))) → IsIndexed es children inside names
     → (o : Option (List (ℕ × Oid))) → o ≡ find nat_cmp c.0 children
     → (p : ℕ) → cond (list_any (λ e. p == e.0) (unwrap_or o [])) (option_and_then (edit_of edit) (find nat_cmp p es)) (find nat_cmp p es) ≡ option_and_then (edit_child edit c) (find nat_cmp p es)
 changed_child edit c es children inside names w o at p =

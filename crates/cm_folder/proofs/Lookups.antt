@@ -1,5 +1,5 @@
 -- What the indexes tell of the filing.
-use Rattle.std.proofs.Common.{◌≡◌, ℕ, zero, suc, ◌-◌, option_map, option_and_then, ◌<◌, ◌==◌, ◌&&◌, ◌||◌, Bool, true, false, not, cond, List, [], ◌∷◌, ◌++◌, map, is_some, if◌then◌else◌, Option, None, Some, unwrap_or, ap, subst, refl, ◌∙◌, arith, Ordering, Less, Equal, Greater, is_eq, bytes_eq, codes, T}
+use Rattle.std.proofs.Common.{◌≡◌, ℕ, zero, suc, ◌-◌, option_map, option_and_then, ◌<◌, ◌==◌, ◌&&◌, ◌||◌, Bool, true, false, not, cond, List, [], ◌∷◌, ◌++◌, map, filter, is_some, if◌then◌else◌, Option, None, Some, unwrap_or, ap, subst, refl, ◌∙◌, arith, Ordering, Less, Equal, Greater, is_eq, bytes_eq, codes, T}
 use Rattle.std.specs.List.{list_any}
 use Rattle.std.specs.List.{find as find_by}
 use Rattle.core.specs.Ordering.{nat_cmp, eq_by_cmp, ordering_then, ordering_reverse}
@@ -10,12 +10,12 @@ use Rattle.std.proofs.lemmas.Map.Text.{is_eq-slice_cmp}
 use Rattle.cm_base.specs.declared.number.Oid.{Oid}
 use Rattle.cm_base.specs.declared.filing.Filed.{Filed}
 use Rattle.cmis_spec.specs.Repository.{same, root, path_by}
-use Rattle.cm_lists.specs.Buckets.{bucket_of}
+use Rattle.cm_lists.specs.Buckets.{find_in}
 use Rattle.cm_folder.specs.declared.entry.FilingEntry.{FilingEntry}
-use Rattle.cm_folder.specs.Filings.{pair_of, is_entry, is_filed_in, is_name_taken, folder_of, folders_up_in}
-use Rattle.cm_folder.specs.Places.{placed, name_order, name_key, child_key, folder_key, is_folder_at, IsIndexed}
+use Rattle.cm_folder.specs.Filings.{pair_of, is_entry, is_filed_in, is_name_taken, child_named, children_in, folders_in, folder_of, folders_up_in}
+use Rattle.cm_folder.specs.Places.{placed, name_order, name_key, child_key, folder_key, is_folder_at, names_under, IsIndexed}
 use Rattle.cm_folder.specs.Trees.{is_folder_in}
-use Rattle.cm_folder.proofs.Placing.{any_placed, any_at, placed_at, bucket_is}
+use Rattle.cm_folder.proofs.Placing.{any_placed, any_at, by_test, placed_at, bucket_is, values_are}
 
 flip : (a b : ℕ) → (b == a) ≡ (a == b)
 flip a b = grind arith
@@ -36,7 +36,7 @@ filed_same f c es =
     any_placed nat_cmp child_key (λ e. e.folder) (λ x. same x f) c.0 es
     ∙ any_by (λ (e : FilingEntry). eq_by_cmp nat_cmp c.0 e.child.0 && same e.folder f) (is_entry f c) (λ e. and_turned (eq_by_cmp nat_cmp c.0 e.child.0) (same e.folder f) ∙ ap (λ b. same e.folder f && b) (unsigned_tied c.0 e.child.0 ∙ flip e.child.0 c.0)) (map (λ e. e.1) es)
 
-tied_then : (a b : Ordering) → is_eq (ordering_then a b) ≡ (is_eq a && is_eq b)
+pub tied_then : (a b : Ordering) → is_eq (ordering_then a b) ≡ (is_eq a && is_eq b)
 tied_then Less b = refl
 tied_then Equal b = refl
 tied_then Greater b = refl
@@ -62,19 +62,23 @@ taken_same f c name es =
     (map (λ e. e.1) es)
 
 -- the folders of a child, by their places
-pub folders_of : (es : List (ℕ × FilingEntry)) (children inside : List (ℕ × List (ℕ × Oid))) (names : List ((ℕ × List ℕ) × List (ℕ × Oid))) → IsIndexed es children inside names
+pub folders_of : (es : List (ℕ × FilingEntry)) (children inside : List (ℕ × List (ℕ × Oid))) (names : List (ℕ × List (List ℕ × List (ℕ × Oid)))) → IsIndexed es children inside names
     → (c : ℕ) (o : Option (List (ℕ × Oid))) → o ≡ find nat_cmp c children → T (is_sorted nat_cmp (unwrap_or o [])) → unwrap_or o [] ≡ placed nat_cmp child_key (λ e. e.folder) c es
 folders_of es children inside names w c o e rising =
     ap (λ m. unwrap_or m []) e
     ∙ bucket_is nat_cmp child_key (λ e. e.folder) c es children w.sorted (subst (λ m. T (is_sorted nat_cmp (unwrap_or m []))) e rising) (w.children c)
 
 -- the children of a folder under a name, by their places
-pub names_of : (es : List (ℕ × FilingEntry)) (children inside : List (ℕ × List (ℕ × Oid))) (names : List ((ℕ × List ℕ) × List (ℕ × Oid))) → IsIndexed es children inside names
-    → (k : ℕ × List ℕ) → T (is_sorted nat_cmp (bucket_of name_order names k)) → bucket_of name_order names k ≡ placed name_order name_key (λ e. e.child) k es
-names_of es children inside names w k rising = bucket_is name_order name_key (λ e. e.child) k es names w.sorted rising (w.names k)
+pub names_of : (es : List (ℕ × FilingEntry)) (children inside : List (ℕ × List (ℕ × Oid))) (names : List (ℕ × List (List ℕ × List (ℕ × Oid)))) → IsIndexed es children inside names
+    → (k : ℕ × List ℕ) → T (is_sorted nat_cmp (names_under names k)) → names_under names k ≡ placed name_order name_key (λ e. e.child) k es
+names_of es children inside names w k rising = values_are name_order name_key (λ e. e.child) k es (names_under names k) w.sorted rising (w.names k)
+
+pub named_in : (es : List (ℕ × FilingEntry)) (children inside : List (ℕ × List (ℕ × Oid))) (names : List (ℕ × List (List ℕ × List (ℕ × Oid)))) → IsIndexed es children inside names
+    → (k : ℕ × List ℕ) (o : Option (List (ℕ × Oid))) → o ≡ find_in nat_cmp (slice_cmp nat_cmp) names k.0 k.1 → T (is_sorted nat_cmp (unwrap_or o [])) → unwrap_or o [] ≡ placed name_order name_key (λ e. e.child) k es
+named_in es children inside names w k o e rising = ap (λ m. unwrap_or m []) e ∙ names_of es children inside names w k (subst (λ m. T (is_sorted nat_cmp (unwrap_or m []))) e rising)
 
 -- the children of a folder, by their places
-pub children_of : (es : List (ℕ × FilingEntry)) (children inside : List (ℕ × List (ℕ × Oid))) (names : List ((ℕ × List ℕ) × List (ℕ × Oid))) → IsIndexed es children inside names
+pub children_of : (es : List (ℕ × FilingEntry)) (children inside : List (ℕ × List (ℕ × Oid))) (names : List (ℕ × List (List ℕ × List (ℕ × Oid)))) → IsIndexed es children inside names
     → (f : ℕ) (o : Option (List (ℕ × Oid))) → o ≡ find nat_cmp f inside → T (is_sorted nat_cmp (unwrap_or o [])) → unwrap_or o [] ≡ placed nat_cmp folder_key (λ e. e.child) f es
 children_of es children inside names w f o e rising =
     ap (λ m. unwrap_or m []) e
@@ -122,6 +126,34 @@ place_more f (z ∷ ys) y = elim (same z.1 f) as (λ b. (if is_some (option_map 
   | true ↦ refl
   | false ↦ place_more f ys y
 ]
+
+-- the first of the values that have a key
+first_value : {K X : Type 0} (R : K → K → Ordering) (key : FilingEntry → K) (value : FilingEntry → X) (k : K) (t : FilingEntry → Bool) → ((e : FilingEntry) → eq_by_cmp R k (key e) ≡ t e) → (es : List (ℕ × FilingEntry))
+    → option_map (λ d. d.1) (find_by (λ d. true) (placed R key value k es)) ≡ option_map value (find_by t (map (λ e. e.1) es))
+first_value R key value k t alike [] = refl
+first_value R key value k t alike (e ∷ es) = by_test (t e.1)
+    (λ h. rw (alike e.1 ∙ h, h) refl)
+    (λ h. rw (alike e.1 ∙ h, h) (first_value R key value k t alike es))
+
+-- all values that have a key
+all_values : {K X : Type 0} (R : K → K → Ordering) (key : FilingEntry → K) (value : FilingEntry → X) (k : K) (t : FilingEntry → Bool) → ((e : FilingEntry) → eq_by_cmp R k (key e) ≡ t e) → (es : List (ℕ × FilingEntry))
+    → map (λ d. d.1) (placed R key value k es) ≡ map value (filter t (map (λ e. e.1) es))
+all_values R key value k t alike [] = refl
+all_values R key value k t alike (e ∷ es) = by_test (t e.1)
+    (λ h. rw (alike e.1 ∙ h, h) (ap (λ l. value e.1 ∷ l) (all_values R key value k t alike es)))
+    (λ h. rw (alike e.1 ∙ h, h) (all_values R key value k t alike es))
+
+pub name_ties : (f : Oid) (name : List ℕ) (e : FilingEntry) → eq_by_cmp name_order (f.0, name) (name_key e) ≡ (same e.folder f && bytes_eq e.name name)
+name_ties f name e = tied_then (nat_cmp f.0 e.folder.0) (slice_cmp nat_cmp name e.name) ∙ (λ i. (unsigned_tied f.0 e.folder.0 ∙ flip e.folder.0 f.0) i && text_flip name e.name i)
+
+pub named_same : (f : Oid) (name : List ℕ) (es : List (ℕ × FilingEntry)) → option_map (λ d. d.1) (find_by (λ d. true) (placed name_order name_key (λ e. e.child) (f.0, name) es)) ≡ child_named (map (λ e. e.1) es) f name
+named_same f name es = first_value name_order name_key (λ e. e.child) (f.0, name) (λ e. same e.folder f && bytes_eq e.name name) (name_ties f name) es
+
+pub children_same : (f : Oid) (es : List (ℕ × FilingEntry)) → map (λ d. d.1) (placed nat_cmp folder_key (λ e. e.child) f.0 es) ≡ children_in (map (λ e. e.1) es) f
+children_same f es = all_values nat_cmp folder_key (λ e. e.child) f.0 (λ e. same e.folder f) (λ e. unsigned_tied f.0 e.folder.0 ∙ flip e.folder.0 f.0) es
+
+pub folders_same : (c : Oid) (es : List (ℕ × FilingEntry)) → map (λ d. d.1) (placed nat_cmp child_key (λ e. e.folder) c.0 es) ≡ folders_in (map (λ e. e.1) es) c
+folders_same c es = all_values nat_cmp child_key (λ e. e.folder) c.0 (λ e. same e.child c) (λ e. unsigned_tied c.0 e.child.0 ∙ flip e.child.0 c.0) es
 
 -- the folder of a child is that of its first entry
 pub folder_first : (c : Oid) (es : List FilingEntry) → folder_of es c ≡ option_map (λ e. e.folder) (find_by (λ e. same e.child c) es)

@@ -171,10 +171,13 @@ module _ {K E X : Type 0} (R : K → K → Ordering) (key : E → K) (value : E 
       (λ k. rw k (placed_changed q es))
 
   -- a map in order that tells for each place what the entries do is the list of the values
+  pub values_are : (q : K) (es : List (ℕ × E)) (b : List (ℕ × X)) → T (is_sorted nat_cmp es) → T (is_sorted nat_cmp b)
+      → ((p : ℕ) → find nat_cmp p b ≡ value_at R key value q (find nat_cmp p es)) → b ≡ placed R key value q es
+  values_are q es b sorted rising tells = changed_is (λ e. if eq_by_cmp R q (key e) then Some (value e) else None) es b sorted rising tells ∙ sym (placed_changed q es)
+
   pub bucket_is : (q : K) (es : List (ℕ × E)) (buckets : List (K × List (ℕ × X))) → T (is_sorted nat_cmp es) → T (is_sorted nat_cmp (bucket_of R buckets q))
       → ((p : ℕ) → find_in R nat_cmp buckets q p ≡ value_at R key value q (find nat_cmp p es)) → bucket_of R buckets q ≡ placed R key value q es
-  bucket_is q es buckets sorted rising tells =
-      changed_is (λ e. if eq_by_cmp R q (key e) then Some (value e) else None) es (bucket_of R buckets q) sorted rising (λ p. find_under R buckets q p ∙ tells p) ∙ sym (placed_changed q es)
+  bucket_is q es buckets sorted rising tells = values_are q es (bucket_of R buckets q) sorted rising (λ p. find_under R buckets q p ∙ tells p)
 
   turned_at : (q : K) (e : E) (before after : Option E) → Turns e before after → (if eq_by_cmp R q (key e) then option_map value after else value_at R key value q before) ≡ value_at R key value q after
   turned_at q e before after (inl h) = (λ i. if eq_by_cmp R q (key e) then option_map value (h.1 i) else value_at R key value q (h.0 i)) ∙ sym (ap (value_at R key value q) h.1)
@@ -185,12 +188,12 @@ module _ {K E X : Type 0} (R : K → K → Ordering) (key : E → K) (value : E 
       gone false = refl
 
   -- an index keeps up with an entry that comes or goes
-  pub tells_changed : (es fs : List (ℕ × E)) (n : ℕ) (e : E) (now : Option E) (old new : List (K × List (ℕ × X)))
-      → ((q : K) (p : ℕ) → find_in R nat_cmp old q p ≡ value_at R key value q (find nat_cmp p es))
+  pub tells_changed : (es fs : List (ℕ × E)) (n : ℕ) (e : E) (now : Option E) (old new : K → ℕ → Option X)
+      → ((q : K) (p : ℕ) → old q p ≡ value_at R key value q (find nat_cmp p es))
       → Turns e (find nat_cmp n es) now
       → ((p : ℕ) → find nat_cmp p fs ≡ cond (p == n) now (find nat_cmp p es))
-      → ((q : K) (p : ℕ) → find_in R nat_cmp new q p ≡ (if eq_by_cmp R q (key e) && eq_by_cmp nat_cmp p n then option_map value now else find_in R nat_cmp old q p))
-      → (q : K) (p : ℕ) → find_in R nat_cmp new q p ≡ value_at R key value q (find nat_cmp p fs)
+      → ((q : K) (p : ℕ) → new q p ≡ (if eq_by_cmp R q (key e) && eq_by_cmp nat_cmp p n then option_map value now else old q p))
+      → (q : K) (p : ℕ) → new q p ≡ value_at R key value q (find nat_cmp p fs)
   tells_changed es fs n e now old new tells turns found is q p =
       let b = eq_by_cmp R q (key e) in
       is q p ∙ ((λ i. if b && ties p n i then option_map value now else tells q p i) ∙ by_test (p == n)

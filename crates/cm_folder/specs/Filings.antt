@@ -29,6 +29,16 @@ is_filed_in entries folder child = list_any (is_entry folder child) entries
 abbrev pub is_name_taken : List FilingEntry → Oid → Oid → List ℕ → Bool
 is_name_taken entries folder but name = list_any (λ e. same e.folder folder && not (same e.child but) && bytes_eq e.name name) entries
 
+-- the first child of the folder that has the name
+abbrev pub child_named : List FilingEntry → Oid → List ℕ → Option Oid
+child_named entries folder name = option_map (λ e. e.child) (find (λ e. same e.folder folder && bytes_eq e.name name) entries)
+
+abbrev pub children_in : List FilingEntry → Oid → List Oid
+children_in entries folder = map (λ e. e.child) (filter (λ e. same e.folder folder) entries)
+
+abbrev pub folders_in : List FilingEntry → Oid → List Oid
+folders_in entries child = map (λ e. e.folder) (filter (λ e. same e.child child) entries)
+
 -- the folder of a child's first entry; a folder has one entry, and the root none
 abbrev pub folder_of : List FilingEntry → Oid → Option Oid
 folder_of entries child = parent_in (pairs_of entries) child
@@ -116,12 +126,21 @@ under_name name e = record { folder = e.folder; child = e.child; is_folder = e.i
 abbrev pub renamed : List FilingEntry → Oid → List ℕ → List FilingEntry
 renamed entries child name = map (λ e. if same e.child child then under_name name e else e) entries
 
--- ---- what the three changes make of an entry of the child, or none
+-- ---- what is told of a child, told anew
+
+abbrev pub told : Bool → List ℕ → FilingEntry → FilingEntry
+told is_folder name e = record { folder = e.folder; child = e.child; is_folder = is_folder; name = name }
+
+abbrev pub retold : List FilingEntry → Oid → Bool → List ℕ → List FilingEntry
+retold entries child is_folder name = map (λ e. if same e.child child then told is_folder name e else e) entries
+
+-- ---- what the changes make of an entry of the child, or none
 
 abbrev pub edit_of : Edit → FilingEntry → Option FilingEntry
 edit_of (edits.TakeOut folder) e = if same e.folder folder then None else Some e
 edit_of (edits.Place source target) e = Some (if same e.folder source then in_folder target e else e)
 edit_of (edits.Name name) e = Some (under_name name e)
+edit_of (edits.Tell is_folder name) e = Some (told is_folder name e)
 
 abbrev pub edit_child : Edit → Oid → FilingEntry → Option FilingEntry
 edit_child edit child e = if same e.child child then edit_of edit e else Some e

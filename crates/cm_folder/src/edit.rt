@@ -17,6 +17,8 @@ pub enum Edit {
     Place(Oid, Oid),
     /// Each of its entries gets the name.
     Name(Text),
+    /// Each of its entries tells whether it is a folder, and gets the name.
+    Tell(bool, Text),
 }
 
 impl Edit {
@@ -41,6 +43,10 @@ impl Edit {
                 }
             }
             Edit::Name(name) => {
+                new.name = name.copied(alloc)?;
+            }
+            Edit::Tell(is_folder, name) => {
+                new.is_folder = *is_folder;
                 new.name = name.copied(alloc)?;
             }
         }

@@ -1,15 +1,13 @@
 //! The filing of a repository.
-ghost use Rattle.std.specs.Prelude.{◌≡◌, ◌+◌, ◌-◌, ◌<◌, ◌≤◌, not, true, Option, None, Some, find, option_copied, List, [], map, filter_map, length, IfOk, All, false};
+ghost use Rattle.std.specs.Prelude.{◌≡◌, ◌+◌, ◌-◌, ◌<◌, ◌≤◌, not, true, Option, None, Some, find, option_copied, option_map, unwrap_or, List, [], map, filter_map, length, IfOk, All, false};
 ghost use Rattle.std.specs.List.{list_any};
 ghost use Rattle.core.specs.Ordering.{nat_cmp};
 ghost use Rattle.core.specs.FinMap.Entries.{is_sorted};
 ghost use Rattle.std.specs.Prelude.{T};
 ghost use Rattle.cm_base.specs.Judged.{Leaves};
 ghost use Rattle.cmis_spec.specs.Repository.{same, levels_up};
-ghost use Rattle.cm_lists.specs.Buckets.{bucket_of};
-ghost use Rattle.cm_folder.specs.Places.{name_order};
 ghost use Rattle.cm_folder.specs.Trees.{IsTree, MayBeFiled};
-ghost use Rattle.cm_folder.specs.Filings.{is_entry, is_filed_in, is_name_taken, is_above_in, is_under_in, folders_up_in, depth_in, folder_of, refusal_file, filed_with, refusal_unfile, unfiled, shifted, renamed, edit_child};
+ghost use Rattle.cm_folder.specs.Filings.{is_entry, is_filed_in, is_name_taken, is_above_in, is_under_in, folders_up_in, depth_in, folder_of, refusal_file, filed_with, child_named, children_in, folders_in, refusal_unfile, unfiled, shifted, renamed, retold, edit_child};
 
 use crate::edit::Edit;
 use crate::entry::FilingEntry;
@@ -19,7 +17,6 @@ use cm_base::copies::Copies;
 use cm_base::fail::Fail;
 use cm_base::number::Oid;
 use cm_base::text::Text;
-use cm_lists::buckets::Buckets;
 use cm_map::map::Map;
 use std::alloc::{AllocError, Global};
 use std::marker::Model;
@@ -58,6 +55,18 @@ fn has_folder(folders: &Map<u64, Oid>, folder: Oid) -> bool
     found
 }
 
+// The first of the children.
+fn first_child(children: &Map<u64, Oid>) -> Option<Oid>
+    ensures value { result ≡ option_map (λ e. e.1) (find (λ e. true) children.now) }
+    ensures sorted { T (is_sorted nat_cmp children.now) }
+{
+    let mut entries = children.iter();
+    match entries.next() {
+        Some(entry) => Some(entry.1),
+        None => None,
+    }
+}
+
 // One of the children is another one.
 fn has_other(children: &Map<u64, Oid>, child: Oid) -> bool
     ensures value { result ≡ list_any (λ e. not (same e.1 child)) children.now }
@@ -71,17 +80,6 @@ fn has_other(children: &Map<u64, Oid>, child: Oid) -> bool
         }
     }
     found
-}
-
-// Under the folder and name one of the children is another one.
-fn has_other_under(by_name: &Buckets<(u64, Text), u64, Oid>, key: &(u64, Text), child: Oid) -> bool
-    ensures value { result ≡ list_any (λ e. not (same e.1 child)) (bucket_of name_order by_name.now key.now) }
-    ensures sorted { T (is_sorted nat_cmp (bucket_of name_order by_name.now key.now)) }
-{
-    match by_name.bucket(key) {
-        Some(children) => has_other(children, child),
-        None => false,
-    }
 }
 
 // The most folders on a way up, the root counted.
@@ -219,23 +217,54 @@ impl Filing {
         }
     }
 
-    /// Whether another child of the folder has the name.
-    pub fn is_taken(
-        &self,
-        alloc: Global,
-        folder: Oid,
-        child: Oid,
-        name: &Text,
-    ) -> Result<bool, AllocError>
-        ensures { IfOk result (λ b. b ≡ is_name_taken self.now folder child name.now) }
+    /// Whether another child of the folder has the name. It takes no memory.
+    pub fn is_taken(&self, folder: Oid, child: Oid, name: &Text) -> bool
+        ensures { result ≡ is_name_taken self.now folder child name.now }
     {
-        let key = (folder.0, name.copied(alloc)?);
-        let taken = has_other_under(&self.parts.by_name, &key, child);
-        Ok(taken)
+        match self.parts.by_name.under(folder.0, name) {
+            Some(children) => has_other(children, child),
+            None => false,
+        }
     }
 
-    // The filing with an entry at the end; want of memory where no place is left.
-    fn with_entry(&self, alloc: Global, entry: FilingEntry) -> Result<Filing, AllocError>
+    /// The first child of the folder that has the name. It takes no memory.
+    pub fn child_named(&self, folder: Oid, name: &Text) -> Option<Oid>
+        ensures { result ≡ child_named self.now folder name.now }
+    {
+        match self.parts.by_name.under(folder.0, name) {
+            Some(children) => first_child(children),
+            None => None,
+        }
+    }
+
+    /// What is filed in the folder, by the places of the entries. It takes no memory.
+    pub fn children(&self, folder: Oid) -> Option<&Map<u64, Oid>>
+        ensures { map (λ e. e.1) (unwrap_or (option_copied result) []) ≡ children_in self.now folder }
+    {
+        match self.parts.by_folder.bucket(&folder.0) {
+            Some(children) => {
+                let _sorted = children.len();
+                Some(children)
+            }
+            None => None,
+        }
+    }
+
+    /// The folders of the child, by the places of the entries. It takes no memory.
+    pub fn folders(&self, child: Oid) -> Option<&Map<u64, Oid>>
+        ensures { map (λ e. e.1) (unwrap_or (option_copied result) []) ≡ folders_in self.now child }
+    {
+        match self.parts.by_child.bucket(&child.0) {
+            Some(folders) => {
+                let _sorted = folders.len();
+                Some(folders)
+            }
+            None => None,
+        }
+    }
+
+    /// The filing with an entry at the end, whatever is filed. It judges nothing; want of memory where no place is left.
+    pub fn with_entry(&self, alloc: Global, entry: FilingEntry) -> Result<Filing, AllocError>
         ensures { IfOk result (λ f. f ≡ filed_with self.now entry) }
     {
         let place = self.next;
@@ -260,16 +289,16 @@ impl Filing {
         })
     }
 
-    // The filing without the child in the folder.
-    fn taken_out(&self, alloc: Global, folder: Oid, child: Oid) -> Result<Filing, AllocError>
+    /// The filing without the child in the folder. It judges nothing.
+    pub fn taken_out(&self, alloc: Global, folder: Oid, child: Oid) -> Result<Filing, AllocError>
         ensures { IfOk result (λ f. f ≡ unfiled self.now folder child) }
     {
         let filing = self.edited(alloc, child, &Edit::TakeOut(folder))?;
         Ok(filing)
     }
 
-    // The filing with the child in another folder.
-    pub(crate) fn put_in(
+    /// The filing with the child in another folder. It judges nothing.
+    pub fn put_in(
         &self,
         alloc: Global,
         child: Oid,
@@ -279,6 +308,21 @@ impl Filing {
         ensures { IfOk result (λ f. f ≡ shifted self.now child source target) }
     {
         let filing = self.edited(alloc, child, &Edit::Place(source, target))?;
+        Ok(filing)
+    }
+
+    /// The filing with the child told to be a folder or none, and under this name. It judges nothing.
+    pub fn retold(
+        &self,
+        alloc: Global,
+        child: Oid,
+        is_folder: bool,
+        name: &Text,
+    ) -> Result<Filing, AllocError>
+        ensures { IfOk result (λ f. f ≡ retold self.now child is_folder name.now) }
+    {
+        let edit = Edit::Tell(is_folder, name.copied(alloc)?);
+        let filing = self.edited(alloc, child, &edit)?;
         Ok(filing)
     }
 
@@ -303,7 +347,7 @@ impl Filing {
         if self.is_filed(entry.folder, entry.child) {
             return Err(Fail::Refused(Cause::AlreadyFiled));
         }
-        if self.is_taken(alloc, entry.folder, entry.child, &entry.name)? {
+        if self.is_taken(entry.folder, entry.child, &entry.name) {
             return Err(Fail::Refused(Cause::NameTaken));
         }
         let filing = self.with_entry(alloc, entry)?;

@@ -7,6 +7,7 @@ mod deep;
 pub mod edit;
 pub mod entry;
 pub mod filing;
+mod names;
 mod parts;
 pub mod path;
 pub mod shift;

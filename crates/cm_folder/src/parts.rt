@@ -10,9 +10,8 @@ ghost use Rattle.cm_folder.specs.Trees.{is_folder_in};
 
 use crate::edit::Edit;
 use crate::entry::FilingEntry;
-use cm_base::copies::Copies;
+use crate::names::Names;
 use cm_base::number::Oid;
-use cm_base::text::Text;
 use cm_lists::buckets::Buckets;
 use cm_map::map::Map;
 use std::alloc::{AllocError, Global};
@@ -23,7 +22,7 @@ pub struct Parts {
     pub entries: Map<u64, FilingEntry>,
     pub by_child: Buckets<u64, u64, Oid>,
     pub by_folder: Buckets<u64, u64, Oid>,
-    pub by_name: Buckets<(u64, Text), u64, Oid>,
+    pub by_name: Names,
 }
 
 // The first of the places.
@@ -71,7 +70,7 @@ impl Parts {
             entries: Map::empty(alloc),
             by_child: Buckets::empty(alloc),
             by_folder: Buckets::empty(alloc),
-            by_name: Buckets::empty(alloc),
+            by_name: Names::empty(alloc),
         }
     }
 
@@ -103,16 +102,15 @@ impl Parts {
         ensures indexed { IfOk result (λ s. IsIndexed s.entries s.by_child s.by_folder s.by_name) }
         ensures entries { IfOk result (λ s. s.entries ≡ put nat_cmp place entry self.now.entries) }
     {
-        let name = entry.name.copied(alloc)?;
         let by_child = self
             .by_child
             .with(alloc, entry.child.0, place, entry.folder)?;
         let by_folder = self
             .by_folder
             .with(alloc, entry.folder.0, place, entry.child)?;
-        let by_name = self
-            .by_name
-            .with(alloc, (entry.folder.0, name), place, entry.child)?;
+        let by_name =
+            self.by_name
+                .with(alloc, entry.folder.0, &entry.name, place, entry.child)?;
         let entries = self.entries.with(alloc, place, entry)?;
         Ok(Parts {
             entries,
@@ -214,10 +212,11 @@ impl Parts {
         ensures indexed { IfOk result (λ s. IsIndexed s.entries s.by_child s.by_folder s.by_name) }
         ensures found { IfOk result (λ s. (p : ℕ) → find nat_cmp p s.entries ≡ (if p == place then None else find nat_cmp p self.now.entries)) }
     {
-        let name = entry.name.copied(alloc)?;
         let by_child = self.by_child.without(alloc, entry.child.0, &place)?;
         let by_folder = self.by_folder.without(alloc, entry.folder.0, &place)?;
-        let by_name = self.by_name.without(alloc, (entry.folder.0, name), &place)?;
+        let by_name = self
+            .by_name
+            .without(alloc, entry.folder.0, &entry.name, place)?;
         let entries = self.entries.without(alloc, &place)?;
         Ok(Parts {
             entries,

@@ -24,18 +24,12 @@ impl Filing {
         child: Oid,
         source: Oid,
         target: Oid,
-    ) -> Result<bool, AllocError>
-        ensures { IfOk result (λ b. b ≡ is_name_taken self.now target child (name_under self.now source child)) }
+    ) -> bool
+        ensures { result ≡ is_name_taken self.now target child (name_under self.now source child) }
     {
         match self.entry_under(source, child) {
-            Some(entry) => {
-                let taken = self.is_taken(alloc, target, child, &entry.name)?;
-                Ok(taken)
-            }
-            None => {
-                let taken = self.is_taken(alloc, target, child, &Text::empty(alloc))?;
-                Ok(taken)
-            }
+            Some(entry) => self.is_taken(target, child, &entry.name),
+            None => self.is_taken(target, child, &Text::empty(alloc)),
         }
     }
 
@@ -52,7 +46,7 @@ impl Filing {
         if self.has_deep(child, target) {
             return Err(Fail::Refused(Cause::Deep));
         }
-        if self.is_taken_there(alloc, child, source, target)? {
+        if self.is_taken_there(alloc, child, source, target) {
             return Err(Fail::Refused(Cause::NameTaken));
         }
         let filing = self.put_in(alloc, child, source, target)?;
@@ -92,36 +86,27 @@ impl Filing {
     }
 
     // In one of the folders another child has the name.
-    fn is_taken_in_one(
-        &self,
-        alloc: Global,
-        child: Oid,
-        folders: &Map<u64, Oid>,
-        name: &Text,
-    ) -> Result<bool, AllocError>
-        ensures value { IfOk result (λ b. b ≡ list_any (λ e. is_name_taken self.now e.1 child name.now) folders.now) }
-        ensures sorted { IfOk result (λ b. T (is_sorted nat_cmp folders.now)) }
+    fn is_taken_in_one(&self, child: Oid, folders: &Map<u64, Oid>, name: &Text) -> bool
+        ensures value { result ≡ list_any (λ e. is_name_taken self.now e.1 child name.now) folders.now }
+        ensures sorted { T (is_sorted nat_cmp folders.now) }
     {
         let mut found = false;
         for entry in folders.iter() {
             let at: &(u64, Oid) = entry;
-            if self.is_taken(alloc, at.1, child, name)? {
+            if self.is_taken(at.1, child, name) {
                 found = true;
             }
         }
-        Ok(found)
+        found
     }
 
     // In one of the child's folders another child has the name.
-    fn is_name_taken(&self, alloc: Global, child: Oid, name: &Text) -> Result<bool, AllocError>
-        ensures { IfOk result (λ b. b ≡ list_any (λ e. same e.child child && is_name_taken self.now e.folder child name.now) self.now) }
+    fn is_name_taken(&self, child: Oid, name: &Text) -> bool
+        ensures { result ≡ list_any (λ e. same e.child child && is_name_taken self.now e.folder child name.now) self.now }
     {
         match self.parts.by_child.bucket(&child.0) {
-            Some(folders) => {
-                let taken = self.is_taken_in_one(alloc, child, folders, name)?;
-                Ok(taken)
-            }
-            None => Ok(false),
+            Some(folders) => self.is_taken_in_one(child, folders, name),
+            None => false,
         }
     }
 
@@ -129,7 +114,7 @@ impl Filing {
     fn rename_judged(&self, alloc: Global, child: Oid, name: &Text) -> Result<Filing, Fail>
         ensures { Leaves result (refusal_rename self.now child name.now) (renamed self.now child name.now) }
     {
-        if self.is_name_taken(alloc, child, name)? {
+        if self.is_name_taken(child, name) {
             return Err(Fail::Refused(Cause::NameTaken));
         }
         let filing = self.with_name(alloc, child, name)?;

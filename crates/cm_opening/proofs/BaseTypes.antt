@@ -1,6 +1,10 @@
 -- A repository may begin with the base types.
-use Rattle.std.specs.Prelude.{◌≡◌, ◌≤◌, ℕ, Bool, true, false, ◌&&◌, ◌||◌, not, List, [], ◌∷◌, ◌++◌, map, find, All, Option, Some, None, bytes_eq, codes}
+use Rattle.std.specs.Prelude.{◌≡◌, ◌≤◌, ℕ, Bool, true, false, ◌&&◌, ◌||◌, not, List, [], ◌∷◌, ◌++◌, map, find, All, Option, Some, None, option_map, bytes_eq, codes}
 use Rattle.std.specs.List.{list_all, list_any}
+use Rattle.core.specs.declared.cmp.Ordering.{Ordering}
+use Rattle.core.specs.declared.cmp.Ordering.TheVariants.{Less, Equal, Greater}
+use Rattle.core.specs.Ordering.{nat_cmp, is_lt}
+use Rattle.core.specs.Cmp.Lexicographic.{slice_cmp}
 use Rattle.std.proofs.Common.{refl, sym, ap, subst, ◌∙◌}
 use Rattle.std.proofs.lemmas.Bool.{both_ways}
 use Rattle.cmis_laws.proofs.Kept.{bytes_true}
@@ -8,19 +12,21 @@ use Rattle.std.proofs.lemmas.List.Elements.{All-nil, All-cons}
 use Rattle.cm_base.specs.declared.number.Moment.{Moment}
 use Rattle.cm_base.specs.declared.user.User.{User}
 use Rattle.cm_base.specs.declared.value.Scalar.TheVariants.{Words}
+use Rattle.cm_base.specs.declared.value.Value.TheVariants.{Unset}
 use Rattle.cm_types.specs.declared.definition.TypeDef.{TypeDef}
 use Rattle.cm_types.specs.declared.property.PropDef.{PropDef}
 use Rattle.cm_types.specs.declared.property.PropertyKind.TheVariants.{String, Id}
 use Rattle.cm_types.specs.declared.property.Cardinality.TheVariants.{Single, Multi}
-use Rattle.cm_types.specs.declared.property.Updatability.TheVariants.{ReadWrite, OnCreate}
-use Rattle.cm_types.specs.Types.{props_of, longest_chain}
+use Rattle.cm_types.specs.declared.property.Updatability.TheVariants.{ReadOnly, ReadWrite, OnCreate}
+use Rattle.cm_types.specs.Types.{type_in, chain, props_of, longest_chain}
+use Rattle.cm_types.specs.Changes.{base_id}
 use Rattle.cm_types.specs.Properties.{value_fault, is_faulty, is_of_kind, is_too_long, is_no_choice}
-use Rattle.cm_basetypes.specs.BaseTypes.{prop, common_props, version_props, content_props, folder_props, relationship_props, policy_props, base_types}
+use Rattle.cm_types.specs.BaseTypes.{prop, common_props, version_props, content_props, folder_props, relationship_props, policy_props, base_types}
 use Rattle.cmis_spec.specs.Values.{words, texts}
-use Rattle.cmis_spec.specs.Repository.{opening, most_steps}
-use Rattle.cmis_spec.specs.Well.{Apart, MayOpen, IsWellFormed, root_value, ends_at_base, Agrees, TakesTexts, IsDef, HasDefs}
+use Rattle.cmis_spec.specs.Repository.{opening, most_steps, last_of}
+use Rattle.cmis_spec.specs.Well.{Apart, MayOpen, IsWellFormed, root_value, ends_at_base, HasBases, IsRooted, Agrees, TakesTexts, IsDef, HasDefs}
 use Rattle.cmis_laws.proofs.Opening.{opening_is}
-use Rattle.cmis_laws.proofs.Lists.{by_test, some_eq, all_zip}
+use Rattle.cmis_laws.proofs.Lists.{by_test, some_eq, all_zip, apart_weaker}
 
 -- ---- lists
 
@@ -97,6 +103,34 @@ end_at_base : All (λ t. ends_at_base longest_chain base_types t.id ≡ true) ba
 unfolding longest_chain
 end_at_base = all_by_map (λ t. ends_at_base longest_chain base_types t.id) (λ t. true) base_types refl
 
+-- each row is found under its id
+rows_found : HasBases base_types
+unfolding HasBases
+rows_found = all_by_map (λ b. type_in base_types b.id) Some base_types refl
+
+rooted : All (IsRooted base_types) base_types
+unfolding longest_chain
+rooted = all_by_map (λ t. option_map (λ b. b.id) (last_of (chain base_types t.id))) (λ t. Some (base_id t.base)) base_types refl
+
+less : (o : Ordering) → not (is_lt o) ≡ false → o ≡ Less
+less Less h = refl
+less Equal h = absurd (both_ways true h refl)
+less Greater h = absurd (both_ways true h refl)
+
+abbrev later : List ℕ → List ℕ → Bool
+later s t = not (is_lt (slice_cmp nat_cmp s t))
+
+-- types and their properties stand in byte order
+types_rise : Apart (λ s t. slice_cmp nat_cmp s.id t.id ≡ Less) base_types
+types_rise = apart_weaker (IsRooted base_types) (λ s t. later s.id t.id ≡ false) (λ s t. slice_cmp nat_cmp s.id t.id ≡ Less) base_types
+    (λ s t a b h. less (slice_cmp nat_cmp s.id t.id) h) rooted (apart_by_test (λ s t. later s.id t.id) base_types refl)
+
+props_rise : All (λ t. Apart (λ d e. slice_cmp nat_cmp d.id e.id ≡ Less) t.properties) base_types
+props_rise = all_zip (λ t. All (λ d. in_table d.id ≡ Some d) t.properties) (λ t. apart_test (λ d e. later d.id e.id) t.properties ≡ true) (λ t. Apart (λ d e. slice_cmp nat_cmp d.id e.id ≡ Less) t.properties) base_types
+    (λ t f h. apart_weaker (λ d. in_table d.id ≡ Some d) (λ d e. later d.id e.id ≡ false) (λ d e. slice_cmp nat_cmp d.id e.id ≡ Less) t.properties
+    (λ d e a b k. less (slice_cmp nat_cmp d.id e.id) k) f (apart_by_test (λ d e. later d.id e.id) t.properties h))
+    found (all_by_map (λ t. apart_test (λ d e. later d.id e.id) t.properties) (λ t. true) base_types refl)
+
 root_fits : All (λ d. is_faulty d (root_value d.id) ≡ false) (props_of base_types (codes "cmis:folder") [])
 unfolding longest_chain
 root_fits = all_by_map (λ d. is_faulty d (root_value d.id)) (λ d. false) (props_of base_types (codes "cmis:folder") []) refl
@@ -146,8 +180,13 @@ takes_texts : (ts : List (List ℕ)) → is_faulty secondary (texts ts) ≡ fals
 takes_texts [] = refl
 takes_texts (t ∷ ts) = rw (are_ids ts) (rw (are_short ts) (rw (are_choices ts) refl))
 
+-- the comment of a check-in is any text or none
+takes_comment : (d : PropDef) → in_table d.id ≡ Some d → bytes_eq d.id (codes "cmis:checkinComment") ≡ true → (is_faulty d Unset ≡ false) × ((t : List ℕ) → is_faulty d (words t) ≡ false)
+takes_comment d f h = subst (λ p. (is_faulty p Unset ≡ false) × ((t : List ℕ) → is_faulty p (words t) ≡ false))
+    (one_row (prop (codes "cmis:checkinComment") String Single ReadOnly false true) d refl f (sym (bytes_true d.id (codes "cmis:checkinComment") h))) (refl, λ t. refl)
+
 takes : (d : PropDef) → in_table d.id ≡ Some d → TakesTexts d
-takes d f = (takes_word d f, λ h ts. subst (λ p. is_faulty p (texts ts) ≡ false) (one_row secondary d refl f (sym (bytes_true d.id (codes "cmis:secondaryObjectTypeIds") h))) (takes_texts ts))
+takes d f = (takes_word d f, λ h ts. subst (λ p. is_faulty p (texts ts) ≡ false) (one_row secondary d refl f (sym (bytes_true d.id (codes "cmis:secondaryObjectTypeIds") h))) (takes_texts ts), takes_comment d f)
 
 is_def : (d : PropDef) → in_table d.id ≡ Some d → d.query_name ≡ d.id → value_fault d d.default ≡ None → IsDef base_types d
 is_def d f n v = (
@@ -173,7 +212,7 @@ have_defs = all_zip (λ t. All IsRow t.properties) (λ t. All (λ d. value_fault
 
 pub base_types_may_open : MayOpen base_types
 base_types_may_open = record {
-  well = (types_differ, query_names_differ, end_at_base);
+  well = (types_differ, query_names_differ, end_at_base, rows_found, rooted, types_rise, props_rise);
   defs = have_defs;
   folder = refl;
   root = root_fits;

@@ -1,6 +1,6 @@
 //! The opening of a repository.
 ghost use Rattle.std.specs.Prelude.{◌≡◌, ◌≤◌, IfOk};
-ghost use Rattle.cm_basetypes.specs.BaseTypes.{base_types};
+ghost use Rattle.cm_types.specs.BaseTypes.{base_types};
 ghost use Rattle.cmis_spec.specs.Repository.{opening, most_steps};
 
 use cm_base::number::Moment;

@@ -1,3 +1,4 @@
 pub mod Addressed
+pub mod Seen
 pub mod Shown
 pub mod System

@@ -5,6 +5,7 @@ ghost use Rattle.std.specs.Prelude.{◌≡◌};
 
 pub mod address;
 mod property;
+pub mod seen;
 pub mod shown;
 pub mod system;
 #[cfg(test)]

@@ -134,7 +134,7 @@ fn content_id(alloc: Global, state: &State, x: &Object) -> Result<Value, AllocEr
     }
 }
 
-fn system_value(
+pub(crate) fn system_value(
     alloc: Global,
     state: &State,
     user: &Text,
@@ -175,7 +175,7 @@ fn system_value(
     }
 }
 
-fn find_slot<'a>(slots: &'a [Slot], id: &Text) -> Option<&'a Slot>
+pub(crate) fn find_slot<'a>(slots: &'a [Slot], id: &Text) -> Option<&'a Slot>
     ensures { option_copied result ≡ find (λ s. bytes_eq s.id id.now) slots.now }
 {
     slots.iter().find(|s| s.id.is(id))

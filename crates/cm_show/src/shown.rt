@@ -71,7 +71,8 @@ fn defs_in<'a>(
     Ok(all)
 }
 
-fn shown_defs<'a>(
+/// The definitions of the properties that the filter lets pass, in the order of the object's types.
+pub fn shown_defs<'a>(
     alloc: Global,
     state: &'a State,
     filter: &PropertyFilter,

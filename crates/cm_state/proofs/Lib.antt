@@ -1,9 +1,11 @@
+mod Among
 mod Bounds
-mod Children
-mod Grown
+mod Drafts
+pub mod Each
+mod Entries
+mod Filled
 pub mod Laws
-mod Moves
-mod Names
-mod Only
-mod Pairs
-mod Rekeyed
+mod Looked
+mod Numbers
+mod Others
+mod Stands

@@ -1,38 +1,22 @@
-//! An object more in a folder, and what all changes share. Each change answers a new state and leaves the old one.
-ghost use Rattle.std.specs.Prelude.{◌≡◌, ℕ, ◌+◌, ◌<◌, ◌^◌, List, [], ◌∷◌, ◌++◌, IfOk, map, unwrap_or, All, false, Some, ◌&&◌, if◌then◌else◌};
-ghost use Rattle.core.specs.Ordering.{nat_cmp, eq_by_cmp};
-ghost use Rattle.core.specs.Cmp.Lexicographic.{slice_cmp};
-ghost use Rattle.cm_lists.specs.Buckets.{find_in};
-ghost use Rattle.cmis_spec.specs.Repository.{same};
-ghost use Rattle.cm_base.specs.declared.log.ChangeKind.TheVariants.{Created};
-ghost use Rattle.cmis_spec.specs.Changes.{stepped, noted, with_object, with_pair};
-ghost use Rattle.cmis_spec.specs.Well.{IsWellFormed};
+//! The changes of which writes are made, but those of the filing. Each takes a draft and gives it back changed.
+ghost use Rattle.std.specs.Prelude.{◌≡◌, ◌+◌, ◌<◌, ◌^◌, [], ◌∷◌, ◌++◌, IfOk, map, All, is_some, true, if◌then◌else◌};
+ghost use Rattle.cmis_spec.specs.Repository.{same, object_at};
+ghost use Rattle.cm_state.specs.Told.{object_in};
+ghost use Rattle.cmis_spec.specs.Changes.{stepped, noted, with_object, edited};
 
-use crate::state::{State, Tree};
+use crate::draft::Draft;
+use crate::lists::Lists;
+use crate::told::retold;
 use cm_base::access::{AccessList, Aces};
-use cm_base::copies::Copies;
 use cm_base::filing::Applied;
-use cm_base::items::Items;
-use cm_base::log::{Change, ChangeKind};
+use cm_base::log::{Change, ChangeKind, Marks};
 use cm_base::number::{Moment, Oid};
 use cm_base::object::Object;
-use cm_base::text::Text;
 use cm_lists::sequence::Sequence;
 use std::alloc::{AllocError, Global};
-use std::sync::Arc;
-
-// The name that an object has of its own; of what has none, the empty text.
-pub(crate) fn own_name(alloc: Global, object: &Object) -> Result<Text, AllocError>
-    ensures { IfOk result (λ name. name ≡ unwrap_or object.now.name []) }
-{
-    match &object.name {
-        Some(name) => name.copied(alloc),
-        None => Ok(Text::empty(alloc)),
-    }
-}
 
 // The applied pairs, with each of the policies on the object.
-fn applied_with(
+pub(crate) fn applied_with(
     alloc: Global,
     pairs: &Sequence<Applied>,
     policies: &[Oid],
@@ -51,75 +35,124 @@ fn applied_with(
     Ok(all)
 }
 
-// The event of a change of an object that is there; nobody is marked.
-pub(crate) fn event(alloc: Global, kind: ChangeKind, object: Oid, moment: Moment) -> Change
-    ensures { result ≡ record { kind = kind; object = object; moment = moment; readers = [] } }
-{
-    Change {
-        kind,
-        object,
-        moment,
-        readers: Items::new(alloc),
-    }
-}
-
-// The tree with a child more under its name.
-fn tree_with(
+// The lists with an object more, its access list and its policies.
+fn lists_with(
     alloc: Global,
-    tree: &Tree,
-    folder: Oid,
-    name: Text,
-    child: Oid,
-) -> Result<Tree, AllocError>
-    requires new { All (λ p. same p.child child ≡ false) tree.now.filed }
-    ensures filed { IfOk result (λ t. t.filed ≡ tree.now.filed ++ record { folder = folder; child = child } ∷ []) }
-    ensures names { IfOk result (λ t. (f : ℕ) (n : List ℕ) → find_in nat_cmp (slice_cmp nat_cmp) t.names f n ≡ (if eq_by_cmp nat_cmp f folder.0 && eq_by_cmp (slice_cmp nat_cmp) n name then Some child else find_in nat_cmp (slice_cmp nat_cmp) tree.now.names f n)) }
+    lists: Lists,
+    object: Object,
+    aces: Aces,
+    policies: &[Oid],
+) -> Result<Lists, AllocError>
+    requires objects { All (λ x. x.id.0 < object.id.0) lists.objects }
+    requires access { All (λ l. l.at.0 < object.id.0) lists.access }
+    ensures { IfOk result (λ l. l ≡ record lists {
+        objects = lists.objects ++ object ∷ [];
+        access = lists.access ++ record { at = object.id; aces = aces } ∷ [];
+        applied = lists.applied ++ map (λ p. record { policy = p; object = object.id }) policies.now;
+      }) }
 {
-    let filed = tree.filed.with_pair(alloc, folder, child)?;
-    let names = tree.names.with(alloc, folder.0, name, child)?;
-    Ok(Tree { filed, names })
+    let number = object.id;
+    let objects = lists.objects.with_last(alloc, object)?;
+    let list = AccessList { at: number, aces };
+    let access = lists.access.with_last(alloc, list)?;
+    let applied = applied_with(alloc, &lists.applied, policies, number)?;
+    Ok(Lists {
+        objects,
+        access,
+        applied,
+        ..lists
+    })
 }
 
-impl State {
-    /// The state with a new object in a folder, one step further, with the event of its making.
-    pub fn with_child(
-        &self,
+// The lists with the object in place of the one that has its number.
+fn lists_edited(alloc: Global, lists: Lists, object: Object) -> Result<Lists, AllocError>
+    requires there { is_some (object_in lists.objects object.id) ≡ true }
+    ensures { IfOk result (λ l. l ≡ record lists { objects = map (λ x. if same x.id object.id then object else x) lists.objects }) }
+{
+    let objects = lists.objects.with_member(alloc, object)?;
+    Ok(Lists { objects, ..lists })
+}
+
+// The lists with an event at the end.
+fn lists_noted(alloc: Global, lists: Lists, event: Change) -> Result<Lists, AllocError>
+    ensures { IfOk result (λ l. l ≡ record lists { log = lists.log ++ event ∷ [] }) }
+{
+    let log = lists.log.with_last(alloc, event)?;
+    Ok(Lists { log, ..lists })
+}
+
+impl Draft {
+    /// One step further, at this cost.
+    pub fn stepped(self, cost: u64) -> Draft
+        requires step { self.step + 1 < 2 ^ 64 }
+        requires cost { self.cost + cost < 2 ^ 64 }
+        ensures { result ≡ stepped self cost }
+    {
+        Draft {
+            step: self.step + 1,
+            cost: self.cost + cost,
+            ..self
+        }
+    }
+
+    /// An event at the end of the log.
+    pub fn noted(
+        self,
+        alloc: Global,
+        kind: ChangeKind,
+        object: Oid,
+        moment: Moment,
+        readers: Marks,
+    ) -> Result<Draft, AllocError>
+        ensures { IfOk result (λ d. d ≡ noted self kind object moment readers) }
+    {
+        let event = Change {
+            kind,
+            object,
+            moment,
+            readers,
+        };
+        let lists = lists_noted(alloc, self.lists, event)?;
+        Ok(Draft { lists, ..self })
+    }
+
+    /// A new object, with its access list and its policies. Its number is above those of all objects and lists.
+    pub fn with_object(
+        self,
         alloc: Global,
         object: Object,
         aces: Aces,
         policies: &[Oid],
-        folder: Oid,
-        cost: u64,
-        moment: Moment,
-    ) -> Result<State, AllocError>
-        requires room { self.now.cost + cost < 2 ^ 64 }
-        requires well { IsWellFormed (noted (stepped (with_pair (with_object self.now object aces policies.now) folder object.id) cost) Created object.id moment []) }
-        ensures { IfOk result (λ s. s ≡ noted (stepped (with_pair (with_object self.now object aces policies.now) folder object.id) cost) Created object.id moment []) }
+    ) -> Result<Draft, AllocError>
+        requires room { self.next + 1 < 2 ^ 64 }
+        requires objects { All (λ x. x.id.0 < object.id.0) self.objects }
+        requires access { All (λ l. l.at.0 < object.id.0) self.access }
+        ensures { IfOk result (λ d. d ≡ with_object self object aces policies.now) }
     {
         let number = object.id;
+        let lists = lists_with(alloc, self.lists, object, aces, policies)?;
+        let filing = retold(alloc, &self.filing, &self.types, &lists, number)?;
         let next = self.next + 1;
-        let step = self.step + 1;
-        let name = own_name(alloc, &object)?;
-        let tree = tree_with(alloc, &self.tree, folder, name, number)?;
-        let objects = self.objects.with_last(alloc, object)?;
-        let access = self
-            .access
-            .with_last(alloc, AccessList { at: number, aces })?;
-        let applied = applied_with(alloc, &self.applied, policies, number)?;
-        let log = self
-            .log
-            .with_last(alloc, event(alloc, ChangeKind::Created, number, moment))?;
-        let still = Arc::try_clone(&self.still)?;
-        Ok(State {
-            still,
-            tree,
-            objects,
-            access,
-            applied,
-            log,
+        Ok(Draft {
+            filing,
+            lists,
             next,
-            step,
-            cost: self.cost + cost,
+            ..self
+        })
+    }
+
+    /// The object in place of the one that has its number.
+    pub fn edited(self, alloc: Global, object: Object) -> Result<Draft, AllocError>
+        requires there { is_some (object_at self object.id) ≡ true }
+        ensures { IfOk result (λ d. d ≡ edited self object.id (λ _. object)) }
+    {
+        let number = object.id;
+        let lists = lists_edited(alloc, self.lists, object)?;
+        let filing = retold(alloc, &self.filing, &self.types, &lists, number)?;
+        Ok(Draft {
+            filing,
+            lists,
+            ..self
         })
     }
 }

@@ -1,13 +1,20 @@
-//! The repository as a value that shares what does not change.
+//! The state of a repository, and the drafts of which states are made.
 #![tactic(auto)]
 
 ghost use Rattle.std.specs.Prelude.{◌≡◌};
 
+pub mod access;
 pub mod change;
-pub mod copy;
-pub mod editing;
+pub mod documents;
+pub mod draft;
 pub mod filing;
+pub mod lists;
 pub mod look;
-pub mod moving;
 pub mod open;
+pub mod removal;
+pub mod series;
+pub mod several;
+mod standing;
 pub mod state;
+mod told;
+pub mod typing;

@@ -1,26 +1,23 @@
-//! Look-ups. None takes memory but `children`.
-ghost use Rattle.std.specs.Prelude.{◌≡◌, Bool, if◌then◌else◌, option_and_then, ◌+◌, ◌<◌, ◌&&◌, Option, Some, None, IfOk, unwrap_or, find, bytes_eq, length};
+//! Look-ups in a draft. None takes memory.
+ghost use Rattle.std.specs.Prelude.{◌≡◌, Option, Some, None, map, length, unwrap_or};
+ghost use Rattle.std.specs.Prelude.{[], is_none, if◌then◌else◌};
 ghost use Rattle.std.specs.Option.{option_copied};
-ghost use Rattle.cm_base.specs.declared.object.Object.{Object};
-ghost use Rattle.cm_types.specs.Types.{type_in, same_base};
-ghost use Rattle.cmis_spec.specs.Repository.{object_at, series_at, series_of, owner_of, is_latest, is_a, parent_in, is_filed, entry_of, entry_name, is_taken};
+ghost use Rattle.cm_types.specs.Types.{type_in};
+ghost use Rattle.cmis_spec.specs.Repository.{object_at, series_at, series_of, owner_of, is_latest, latest_version, is_a, parent_in, is_filed, entry_of, entry_name, is_taken};
 ghost use Rattle.cmis_spec.specs.Access.{stands, groups_of};
-ghost use Rattle.cmis_spec.specs.Well.{IsWellFormed};
-ghost use Rattle.cm_state.specs.Filings.{IsSingle};
-ghost use Rattle.cm_state.specs.Looks.{list_at, content_at, numbers_in};
+ghost use Rattle.cm_state.specs.Looks.{list_at, content_at, entries_in, folders_in, child_in, own_at, standing_at};
 
-use crate::state::State;
+use crate::draft::Draft;
+use crate::told::is_of_base;
 use cm_base::access::AccessList;
 use cm_base::content::Content;
-use cm_base::number::{Oid, Oids};
+use cm_base::number::Oid;
 use cm_base::object::Object;
 use cm_base::series::Series;
-use cm_base::steps::Steps;
 use cm_base::text::{Text, Texts};
+use cm_map::map::Map;
 use cm_type_list::types::Types;
 use cm_types::definition::{BaseType, TypeDef};
-use std::alloc::{AllocError, Global};
-use std::sync::ledger::Ledger;
 
 /// Whether the object is the latest version of the series (CMIS 1.1, section 2.1.13.1). Takes no memory.
 pub fn is_latest(series: &Series, n: Oid) -> bool
@@ -32,20 +29,6 @@ pub fn is_latest(series: &Series, n: Oid) -> bool
     }
 }
 
-fn same_base_type(a: BaseType, b: BaseType) -> bool
-    ensures { result ≡ same_base a b }
-{
-    match (a, b) {
-        (BaseType::Document, BaseType::Document) => true,
-        (BaseType::Folder, BaseType::Folder) => true,
-        (BaseType::Relationship, BaseType::Relationship) => true,
-        (BaseType::Policy, BaseType::Policy) => true,
-        (BaseType::Item, BaseType::Item) => true,
-        (BaseType::Secondary, BaseType::Secondary) => true,
-        _ => false,
-    }
-}
-
 /// What is filed, named and listed for access: a document by its series, everything else by itself.
 pub fn entry_of(x: &Object) -> Oid
     ensures { result ≡ entry_of x.now }
@@ -53,59 +36,40 @@ pub fn entry_of(x: &Object) -> Oid
     x.series.unwrap_or(x.id)
 }
 
-impl State {
+impl Draft {
     /// The object of this number.
     pub fn object(&self, n: Oid) -> Option<&Object>
         ensures { option_copied result ≡ object_at self.now n }
     {
-        self.objects.get(n.0)
+        self.lists.object(n)
     }
 
-    /// The object of this number, and one step more on the counter of fetches.
-    pub fn fetch<L: Ledger>(&self, n: Oid, steps: &mut Steps<L>) -> Option<&Object>
-        ensures found { option_copied result ≡ object_at self.now n }
-        ensures ticked { steps.new ≡ steps.old + 1 }
-    {
-        steps.tick();
-        self.object(n)
-    }
-
-    /// How many objects there are.
-    pub fn len(&self) -> u64
-        ensures { result ≡ length self.now.objects }
-    {
-        self.objects.len()
-    }
-
-    /// The definitions of the types.
+    /// The list of types.
     pub fn types(&self) -> &Types
         ensures { result.now ≡ self.now.types }
     {
-        &self.still.types
+        &self.types
     }
 
     /// The definition of a type.
     pub fn type_named(&self, id: &Text) -> Option<&TypeDef>
         ensures { option_copied result ≡ type_in self.now.types id.now }
     {
-        self.types().find(id)
+        self.types.find(id)
     }
 
     /// The base type of x is this one.
     pub fn is_a(&self, base: BaseType, x: &Object) -> bool
         ensures { result ≡ is_a self.now base x.now }
     {
-        match self.type_named(&x.kind) {
-            Some(def) => same_base_type(base, def.base),
-            None => false,
-        }
+        is_of_base(&self.types, base, &x.kind)
     }
 
     /// The names of the users; the first is the administrator.
     pub fn users(&self) -> &Texts
         ensures { result.now ≡ self.now.users }
     {
-        &self.still.users
+        &self.people.users
     }
 
     /// The names of the groups that have the user as a member.
@@ -113,14 +77,14 @@ impl State {
         ensures { result.now ≡ groups_of self.now user.now }
     {
         let _ = user;
-        &self.still.no_groups
+        &self.people.no_groups
     }
 
     /// The series of this number.
     pub fn series(&self, n: Oid) -> Option<&Series>
         ensures { option_copied result ≡ series_at self.now n }
     {
-        self.still.series.get(n.0)
+        self.lists.series(n)
     }
 
     /// The series of a document.
@@ -153,90 +117,99 @@ impl State {
         }
     }
 
+    // The latest version of a series.
+    fn latest(&self, series: &Series) -> Option<&Object>
+        ensures { option_copied result ≡ latest_version self.now series.now }
+    {
+        match series.versions.as_slice().last() {
+            Some(version) => self.object(version.object),
+            None => None,
+        }
+    }
+
+    // The object of this number, where it is in no series.
+    fn own(&self, n: Oid) -> Option<&Object>
+        ensures { option_copied result ≡ own_at self.now n }
+    {
+        let x = self.object(n)?;
+        if x.series.is_none() {
+            Some(x)
+        } else {
+            None
+        }
+    }
+
+    /// What stands for an entry: the latest version of a series, or else the folder or item.
+    pub fn standing(&self, n: Oid) -> Option<&Object>
+        ensures { option_copied result ≡ standing_at self.now n }
+    {
+        match self.series(n) {
+            Some(series) => self.latest(series),
+            None => self.own(n),
+        }
+    }
+
     /// The content of a document.
     pub fn content(&self, n: Oid) -> Option<&Content>
         ensures { option_copied result ≡ content_at self.now n }
     {
-        self.still.contents.get(n.0)
+        self.lists.contents.get(n.0)
     }
 
     /// The access control list of an object that is no document, or of a series.
     pub fn access_list(&self, n: Oid) -> Option<&AccessList>
         ensures { option_copied result ≡ list_at self.now n }
     {
-        self.access.get(n.0)
+        self.lists.access.get(n.0)
     }
 
     /// The parent of a folder.
     pub fn parent(&self, n: Oid) -> Option<Oid>
         ensures { result ≡ parent_in self.now.filed n }
     {
-        self.tree.filed.parent(n)
+        self.filing.folder_of(n)
     }
 
-    /// Each child stands in one folder at most: no call files one twice yet.
-    pub fn filed_once(&self)
-        ensures { IsSingle self.now.filed }
+    /// The children of a folder, by the places of their pairs.
+    pub fn entries(&self, folder: Oid) -> Option<&Map<u64, Oid>>
+        ensures { map (λ e. e.1) (unwrap_or (option_copied result) []) ≡ entries_in self.now folder }
     {
-        let _single = self.tree.filed.parent(Oid(0));
+        self.filing.children(folder)
+    }
+
+    /// The folders of a child, by the places of its pairs.
+    pub fn folders(&self, n: Oid) -> Option<&Map<u64, Oid>>
+        ensures { map (λ e. e.1) (unwrap_or (option_copied result) []) ≡ folders_in self.now n }
+    {
+        self.filing.folders(n)
     }
 
     /// Whether the entry is filed in the folder.
     pub fn is_filed(&self, folder: Oid, n: Oid) -> bool
         ensures { result ≡ is_filed self.now folder n }
     {
-        self.tree.filed.has(folder, n)
+        self.filing.is_filed(folder, n)
     }
 
     /// The name of a folder, an item or a series.
     pub fn entry_text(&self, n: Oid) -> &str
         ensures { result.now ≡ entry_name self.now n }
     {
-        if let Some(series) = self.series(n) {
-            return series.name.as_str();
-        }
-        if let Some(x) = self.object(n) {
-            if let Some(own) = &x.name {
-                return own.as_str();
-            }
-        }
-        ""
-    }
-
-    /// The bytes of the name of a folder, an item or a series.
-    pub fn entry_name(&self, n: Oid) -> &[u8]
-        ensures { result.now ≡ entry_name self.now n }
-    {
-        self.entry_text(n).as_bytes()
+        self.lists.entry_text(n)
     }
 
     /// Whether another child of the folder has the name.
     pub fn is_taken(&self, folder: Oid, but: Oid, name: &Text) -> bool
         ensures { result ≡ is_taken self.now folder but name.now }
     {
-        match self.tree.names.get(&folder.0, name) {
-            Some(child) => *child != but,
-            None => false,
-        }
+        self.filing.is_taken(folder, but, name)
     }
 
-    /// The object that stands in the folder under the name.
-    pub fn child_standing(&self, folder: Oid, name: &Text) -> Option<&Object>
-        ensures { (keep : Object → Bool) → find (λ x. (is_filed self.now folder (entry_of x) && stands self.now x && keep x) && bytes_eq (entry_name self.now (entry_of x)) name.now) self.now.objects
-            ≡ option_and_then (λ x. if keep x then Some x else None) (option_copied result) }
+    /// The first child of the folder that has the name.
+    pub fn child_named(&self, folder: Oid, name: &Text) -> Option<Oid>
+        ensures { result ≡ child_in self.now folder name.now }
     {
-        match self.tree.names.get(&folder.0, name) {
-            Some(child) => self.object(*child),
-            None => None,
-        }
-    }
-
-    /// The numbers of the objects that stand in the folder, in their order.
-    pub fn children(&self, alloc: Global, folder: Oid) -> Result<Oids, AllocError>
-        ensures { IfOk result (λ all. all ≡ numbers_in self.now folder) }
-    {
-        let all = self.tree.filed.children(alloc, folder)?;
-        Ok(all)
+        self.filing.child_named(folder, name)
     }
 
     /// The number that the next object gets.
@@ -248,8 +221,7 @@ impl State {
 
     /// The number of accepted writes.
     pub fn step(&self) -> u64
-        ensures value { result ≡ self.now.step }
-        ensures well { IsWellFormed self.now }
+        ensures { result ≡ self.now.step }
     {
         self.step
     }
@@ -258,10 +230,10 @@ impl State {
     pub fn events(&self) -> u64
         ensures { result ≡ length self.now.log }
     {
-        self.log.len()
+        self.lists.log.len()
     }
 
-    /// What they cost.
+    /// What the accepted writes cost.
     pub fn cost(&self) -> u64
         ensures { result ≡ self.now.cost }
     {

@@ -1,10 +1,11 @@
 //! The opening.
 ghost use Rattle.std.specs.Prelude.{◌≡◌, [], ◌∷◌, IfOk, map};
-ghost use Rattle.cmis_spec.specs.Repository.{opening, root_folder, root_aces, administrator_of};
+ghost use Rattle.cmis_spec.specs.Repository.{opening, root, root_folder, root_aces, administrator_of};
 ghost use Rattle.cmis_spec.specs.Well.{IsWellFormed};
 
-use crate::filing::Filing;
-use crate::state::{State, Still, Tree};
+use crate::draft::{Draft, People};
+use crate::lists::Lists;
+use crate::state::State;
 use cm_base::access::{AccessList, Ace, Aces, Level};
 use cm_base::copies::Copies;
 use cm_base::items::Items;
@@ -12,7 +13,7 @@ use cm_base::number::{Moment, Oid};
 use cm_base::object::Object;
 use cm_base::text::{Text, Texts};
 use cm_base::user::{User, Users};
-use cm_lists::buckets::Buckets;
+use cm_folder::filing::Filing;
 use cm_lists::sequence::Sequence;
 use cm_lists::table::Table;
 use cm_type_list::types::Types;
@@ -90,6 +91,31 @@ fn root_aces(alloc: Global, administrator: &Text) -> Result<Aces, AllocError>
     }
 }
 
+// The lists with the root alone.
+fn first_lists(alloc: Global, folder: Object, aces: Aces) -> Result<Lists, AllocError>
+    ensures { IfOk result (λ l. l ≡ record {
+        objects = folder ∷ [];
+        series = [];
+        access = record { at = root; aces = aces } ∷ [];
+        applied = [];
+        contents = [];
+        renditions = [];
+        log = [];
+      }) }
+{
+    let objects = Table::empty(alloc).with_last(alloc, folder)?;
+    let access = Table::empty(alloc).with_last(alloc, AccessList { at: ROOT, aces })?;
+    Ok(Lists {
+        objects,
+        series: Table::empty(alloc),
+        access,
+        applied: Sequence::empty(alloc),
+        contents: Table::empty(alloc),
+        renditions: Table::empty(alloc),
+        log: Sequence::empty(alloc),
+    })
+}
+
 impl State {
     /// The repository with the root alone, made by the first user at this moment, with this step number.
     pub fn opening(
@@ -106,31 +132,22 @@ impl State {
         let administrator = administrator_of(alloc, names.as_slice())?;
         let root = root_folder(alloc, &administrator, moment, first_step)?;
         let aces = root_aces(alloc, &administrator)?;
-        let objects = Table::empty(alloc).with_last(alloc, root)?;
-        let access = Table::empty(alloc).with_last(alloc, AccessList { at: ROOT, aces })?;
-        let still = Still {
-            types,
+        let lists = first_lists(alloc, root, aces)?;
+        let types = Arc::new(alloc, types)?;
+        let people = People {
             users: names,
             no_groups: Items::new(alloc),
-            series: Table::empty(alloc),
-            contents: Table::empty(alloc),
-            renditions: Table::empty(alloc),
         };
-        let tree = Tree {
-            filed: Filing::empty(alloc),
-            names: Buckets::empty(alloc),
-        };
-        let still = Arc::new(alloc, still)?;
-        Ok(State {
-            still,
-            tree,
-            objects,
-            access,
-            applied: Sequence::empty(alloc),
-            log: Sequence::empty(alloc),
+        let people = Arc::new(alloc, people)?;
+        let draft = Draft {
+            types,
+            people,
+            filing: Filing::empty(alloc),
+            lists,
             next: 2,
             step: first_step,
             cost: 0,
-        })
+        };
+        Ok(draft.seal())
     }
 }

@@ -1,61 +1,251 @@
-//! The repository's parts.
-use crate::filing::Filing;
+//! A repository that is well formed.
+ghost use Rattle.std.specs.Prelude.{◌≡◌, Bool, if◌then◌else◌, option_and_then, ◌+◌, ◌<◌, ◌&&◌, Option, Some, None, IfOk, find, bytes_eq, length};
+ghost use Rattle.std.specs.Option.{option_copied};
+ghost use Rattle.cm_base.specs.declared.object.Object.{Object};
+ghost use Rattle.cm_types.specs.Types.{type_in};
+ghost use Rattle.cmis_spec.specs.Repository.{object_at, series_at, series_of, owner_of, is_a, parent_in, is_filed, entry_of, entry_name, is_taken};
+ghost use Rattle.cmis_spec.specs.Access.{stands, groups_of};
+ghost use Rattle.cmis_spec.specs.Well.{IsWellFormed};
+ghost use Rattle.cm_state.specs.Looks.{list_at, content_at, numbers_in};
+
+use crate::draft::Draft;
+use crate::standing::standing_among;
 use cm_base::access::AccessList;
-use cm_base::content::{Content, Rendition};
-use cm_base::filing::Applied;
-use cm_base::log::Change;
-use cm_base::number::Oid;
+use cm_base::content::Content;
+use cm_base::items::Items;
+use cm_base::number::{Oid, Oids};
 use cm_base::object::Object;
 use cm_base::series::Series;
+use cm_base::steps::Steps;
 use cm_base::text::{Text, Texts};
-use cm_lists::buckets::Buckets;
-use cm_lists::sequence::Sequence;
-use cm_lists::table::Table;
 use cm_type_list::types::Types;
+use cm_types::definition::{BaseType, TypeDef};
+use std::alloc::{AllocError, Global};
 use std::marker::Model;
-use std::sync::Arc;
+use std::sync::ledger::Ledger;
 
-/// What no change of the folder tree touches.
-#[derive(Drop)]
-pub struct Still {
-    pub types: Types,
-    pub users: Texts,
-    /// The names of no groups: the empty list.
-    pub no_groups: Texts,
-    pub series: Table<Series>,
-    pub contents: Table<Content>,
-    pub renditions: Table<Rendition>,
-}
-
-/// The filing pairs, and the child of each name.
-#[derive(Drop)]
-pub struct Tree {
-    pub filed: Filing,
-    /// By folder and name, the child of that name.
-    pub names: Buckets<u64, Text, Oid>,
-}
-
-/// A repository that is well formed, seen as the record of its lists. A new state shares with the old one all that stays.
+/// A repository that is well formed, seen as the record of its lists.
 #[derive(Drop)]
 pub struct State {
-    pub(crate) still: Arc<Still>,
-    pub(crate) tree: Tree,
-    pub(crate) objects: Table<Object>,
-    pub(crate) access: Table<AccessList>,
-    pub(crate) applied: Sequence<Applied>,
-    pub(crate) log: Sequence<Change>,
-    pub(crate) next: u64,
-    pub(crate) step: u64,
-    pub(crate) cost: u64,
+    draft: Draft,
 }
 
 impl Model for State {
     ghost use Rattle.cmis_spec.specs.Repository.{Repository};
-    ghost use Rattle.cm_state.specs.Kept.{repository_of, IsState};
+    ghost use Rattle.cmis_spec.specs.Well.{IsWellFormed};
 
     ghost Value = { Repository };
 
-    ghost view = { repository_of };
+    ghost view = { λ s. s.draft };
 
-    ghost invariant = { IsState };
+    ghost invariant = { λ s. IsWellFormed s.draft };
+}
+
+impl Draft {
+    /// The state that the draft is, where it is well formed.
+    pub fn seal(self) -> State
+        requires well { IsWellFormed self }
+        ensures { result ≡ self }
+    {
+        State { draft: self }
+    }
+}
+
+impl State {
+    /// A draft of what the state is now, which shares all with it.
+    pub fn draft(&self, alloc: Global) -> Result<Draft, AllocError>
+        ensures { IfOk result (λ d. d ≡ self.now) }
+    {
+        let draft = self.draft.share(alloc)?;
+        Ok(draft)
+    }
+
+    /// The same state once more. All that it holds is shared with this one.
+    pub fn copy(&self, alloc: Global) -> Result<State, AllocError>
+        ensures { IfOk result (λ s. s ≡ self.now) }
+    {
+        let draft = self.draft.share(alloc)?;
+        Ok(State { draft })
+    }
+
+    /// The object of this number.
+    pub fn object(&self, n: Oid) -> Option<&Object>
+        ensures { option_copied result ≡ object_at self.now n }
+    {
+        self.draft.object(n)
+    }
+
+    /// The object of this number, and one step more on the counter of fetches.
+    pub fn fetch<L: Ledger>(&self, n: Oid, steps: &mut Steps<L>) -> Option<&Object>
+        ensures found { option_copied result ≡ object_at self.now n }
+        ensures ticked { steps.new ≡ steps.old + 1 }
+    {
+        steps.tick();
+        self.object(n)
+    }
+
+    /// The list of types.
+    pub fn types(&self) -> &Types
+        ensures { result.now ≡ self.now.types }
+    {
+        self.draft.types()
+    }
+
+    /// The definition of a type.
+    pub fn type_named(&self, id: &Text) -> Option<&TypeDef>
+        ensures { option_copied result ≡ type_in self.now.types id.now }
+    {
+        self.draft.type_named(id)
+    }
+
+    /// The base type of x is this one.
+    pub fn is_a(&self, base: BaseType, x: &Object) -> bool
+        ensures { result ≡ is_a self.now base x.now }
+    {
+        self.draft.is_a(base, x)
+    }
+
+    /// The names of the users; the first is the administrator.
+    pub fn users(&self) -> &Texts
+        ensures { result.now ≡ self.now.users }
+    {
+        self.draft.users()
+    }
+
+    /// The names of the groups that have the user as a member.
+    pub fn groups_of(&self, user: &Text) -> &Texts
+        ensures { result.now ≡ groups_of self.now user.now }
+    {
+        self.draft.groups_of(user)
+    }
+
+    /// The series of this number.
+    pub fn series(&self, n: Oid) -> Option<&Series>
+        ensures { option_copied result ≡ series_at self.now n }
+    {
+        self.draft.series(n)
+    }
+
+    /// The series of a document.
+    pub fn series_of(&self, x: &Object) -> Option<&Series>
+        ensures { option_copied result ≡ series_of self.now x.now }
+    {
+        self.draft.series_of(x)
+    }
+
+    /// The owner of the working copy that x is, if it is one.
+    pub fn owner_of(&self, x: &Object) -> Option<&Text>
+        ensures { option_copied result ≡ owner_of self.now x.now }
+    {
+        self.draft.owner_of(x)
+    }
+
+    /// A folder, an item, or the latest version of a series.
+    pub fn stands(&self, x: &Object) -> bool
+        ensures { result ≡ stands self.now x.now }
+    {
+        self.draft.stands(x)
+    }
+
+    /// The content of a document.
+    pub fn content(&self, n: Oid) -> Option<&Content>
+        ensures { option_copied result ≡ content_at self.now n }
+    {
+        self.draft.content(n)
+    }
+
+    /// The access control list of an object that is no document, or of a series.
+    pub fn access_list(&self, n: Oid) -> Option<&AccessList>
+        ensures { option_copied result ≡ list_at self.now n }
+    {
+        self.draft.access_list(n)
+    }
+
+    /// The parent of a folder.
+    pub fn parent(&self, n: Oid) -> Option<Oid>
+        ensures { result ≡ parent_in self.now.filed n }
+    {
+        self.draft.parent(n)
+    }
+
+    /// Whether the entry is filed in the folder.
+    pub fn is_filed(&self, folder: Oid, n: Oid) -> bool
+        ensures { result ≡ is_filed self.now folder n }
+    {
+        self.draft.is_filed(folder, n)
+    }
+
+    /// The name of a folder, an item or a series.
+    pub fn entry_text(&self, n: Oid) -> &str
+        ensures { result.now ≡ entry_name self.now n }
+    {
+        self.draft.entry_text(n)
+    }
+
+    /// The bytes of the name of a folder, an item or a series.
+    pub fn entry_name(&self, n: Oid) -> &[u8]
+        ensures { result.now ≡ entry_name self.now n }
+    {
+        self.entry_text(n).as_bytes()
+    }
+
+    /// Whether another child of the folder has the name.
+    pub fn is_taken(&self, folder: Oid, but: Oid, name: &Text) -> bool
+        ensures { result ≡ is_taken self.now folder but name.now }
+    {
+        self.draft.is_taken(folder, but, name)
+    }
+
+    /// The object that stands in the folder under the name.
+    pub fn child_standing(&self, folder: Oid, name: &Text) -> Option<&Object>
+        ensures { (keep : Object → Bool) → find (λ x. (is_filed self.now folder (entry_of x) && stands self.now x && keep x) && bytes_eq (entry_name self.now (entry_of x)) name.now) self.now.objects
+            ≡ option_and_then (λ x. if keep x then Some x else None) (option_copied result) }
+    {
+        match self.draft.child_named(folder, name) {
+            Some(child) => self.draft.standing(child),
+            None => None,
+        }
+    }
+
+    /// The numbers of the objects that stand in the folder, in their order.
+    pub fn children(&self, alloc: Global, folder: Oid) -> Result<Oids, AllocError>
+        ensures { IfOk result (λ all. all ≡ numbers_in self.now folder) }
+    {
+        match self.draft.entries(folder) {
+            Some(entries) => {
+                let all = standing_among(alloc, &self.draft, entries)?;
+                Ok(all)
+            }
+            None => Ok(Items::new(alloc)),
+        }
+    }
+
+    /// The number that the next object gets.
+    pub fn next_number(&self) -> u64
+        ensures { result ≡ self.now.next }
+    {
+        self.draft.next_number()
+    }
+
+    /// The number of accepted writes.
+    pub fn step(&self) -> u64
+        ensures value { result ≡ self.now.step }
+        ensures well { IsWellFormed self.now }
+    {
+        self.draft.step()
+    }
+
+    /// The number of events in the change log.
+    pub fn events(&self) -> u64
+        ensures { result ≡ length self.now.log }
+    {
+        self.draft.events()
+    }
+
+    /// What they cost.
+    pub fn cost(&self) -> u64
+        ensures { result ≡ self.now.cost }
+    {
+        self.draft.cost()
+    }
 }

@@ -1,3 +1,4 @@
+pub mod BaseTypes
 pub mod Changes
 pub mod Properties
 pub mod Types

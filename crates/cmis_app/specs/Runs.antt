@@ -5,7 +5,7 @@ use Rattle.outside.specs.Outside.{SourceTold, SinkTold, Took, Rose}
 use Rattle.http_reply.specs.Sent.{TookFront}
 use Rattle.cm_base.specs.declared.number.Moment.{Moment}
 use Rattle.cm_base.specs.declared.user.User.{User}
-use Rattle.cm_basetypes.specs.BaseTypes.{base_types}
+use Rattle.cm_types.specs.BaseTypes.{base_types}
 use Rattle.cm_call.specs.declared.write.Write.{Write}
 use Rattle.cm_call.specs.declared.question.Question.{Question}
 use Rattle.cmis_spec.specs.Repository.{Repository, opening}

@@ -4,8 +4,13 @@
 ghost use Rattle.std.specs.Prelude.{◌≡◌};
 
 mod lent;
-mod run;
+mod line;
+mod many;
+mod once;
+mod program;
 #[cfg(test)]
 mod tests;
 
-pub use run::run_once;
+pub use many::serve;
+pub use once::run_once;
+pub use program::{Ran, run};

@@ -14,8 +14,8 @@ use Rattle.cm_types.specs.Properties.{value_in, texts_of}
 use Rattle.cmis_spec.specs.Repository.{Repository, same, object_at, series_at, is_a, entry_of, entry_name, new_number}
 use Rattle.cmis_spec.specs.Access.{oid_named}
 use Rattle.cmis_spec.specs.Changes.{with_object}
-use Rattle.cmis_spec.specs.Well.{Apart, IsThere, IsBaseAt, IsEntryAt, HasNumbers, HasSeriesNumbers, HasFirsts, HasRenditions, IsRendition, IsPair, HasNames, Differ, HasDocuments, Belongs, HasSeries, IsMember, members, HasSome, HasPlain, IsAlone, is_plain, HasOwnNames, is_version, HasRelationships, IsEnd, HasEnds, HasPolicies, HasAccess, IsAccess, IsAceList, HasContents, HasTyped, IsTyped, HasKept, IsKept, HasTokens, HasBounds, IsWellFormed}
-use Rattle.cmis_laws.proofs.Lists.{find_more, find_last, find_none, find_passed_over, apart_push, apart_weaker, all_zip, same_refl}
+use Rattle.cmis_spec.specs.Well.{Apart, IsThere, IsBaseAt, IsEntryAt, HasNumbers, HasSeriesNumbers, HasFirsts, HasRenditions, IsRendition, IsPair, HasNames, Differ, HasDocuments, Belongs, HasSeries, IsMember, members, HasSome, HasPlain, IsAlone, is_plain, HasOwnNames, is_version, HasRelationships, IsEnd, HasEnds, HasPolicies, HasAccess, IsAccess, IsAceList, HasLists, is_listed, HasContents, HasTyped, IsTyped, HasKept, IsKept, HasOwnValues, OwnsValues, HasTokens, HasBounds, IsWellFormed}
+use Rattle.cmis_laws.proofs.Lists.{any_pushed, any_new, find_more, find_last, find_none, find_passed_over, apart_push, apart_weaker, all_zip, same_refl}
 use Rattle.cmis_laws.proofs.Entries.{is_other, is_other', object_below, series_below, all_there, IsNamed, entry_is_named, belongs_is_named, kept_by_name, name_by_entry}
 
 -- what a new object must be; documents come with their series and are none of these
@@ -26,6 +26,7 @@ pub record IsNewObject (r : Repository) (x : Object) (aces : List Ace) (policies
   pub no_document : is_a r bases.Document x ≡ false
   pub typed : IsTyped r.types x
   pub kept : IsKept r (props_of r.types x.kind x.secondary) x
+  pub owned : OwnsValues r.types x
   pub ends : is_a r bases.Relationship x ≡ true → HasEnds r x
   pub token : x.token ≤ r.step
   pub room : r.next ≤ r.step + 1
@@ -147,7 +148,7 @@ module _ (r : Repository) (x : Object) (aces : List Ace) (policies : List Oid) (
       (All-weaker (IsBaseAt r bases.Policy) (λ p. IsBaseAt after bases.Policy p × IsThere after x.id) (λ p h. (base_stays bases.Policy p h, (x, object_new))) policies f.applied))
 
   access_stays : (l : AccessList) → IsAccess r l → IsAccess after l
-  access_stays l (inl h, a) = (inl (there_stays l.at h), a)
+  access_stays l (inl h, a) = (inl (h.0, object_stays l.at h.0 h.1, h.2), a)
   access_stays l (inr h, a) = (inr h, a)
 
   access_below : (l : AccessList) → IsAccess r l → l.at.0 < x.id.0
@@ -157,8 +158,17 @@ module _ (r : Repository) (x : Object) (aces : List Ace) (policies : List Oid) (
   pub access_with : HasAccess after
   access_with = (
     apart_push (λ k l. k.at.0 < l.at.0) r.access (record { at = x.id; aces = aces }) w.access.0 (All-weaker (IsAccess r) (λ l. l.at.0 < x.id.0) access_below r.access w.access.1),
-    All-push (IsAccess after) r.access (record { at = x.id; aces = aces }) (All-weaker (IsAccess r) (IsAccess after) access_stays r.access w.access.1) (inl (x, object_new), f.listed),
+    All-push (IsAccess after) r.access (record { at = x.id; aces = aces }) (All-weaker (IsAccess r) (IsAccess after) access_stays r.access w.access.1) (inl (x, object_new, f.no_document), f.listed),
   )
+
+  pub lists_with : HasLists after
+  lists_with = All-push (λ y. is_listed after.access (entry_of y) ≡ true) r.objects x
+      (All-weaker (λ y. is_listed r.access (entry_of y) ≡ true) (λ y. is_listed after.access (entry_of y) ≡ true)
+      (λ y h. any_pushed (λ l. same l.at (entry_of y)) r.access (record { at = x.id; aces = aces }) h) r.objects w.listed)
+      (any_new (λ l. same l.at (entry_of x)) r.access (record { at = x.id; aces = aces }) (ap (λ o. same x.id (unwrap_or o x.id)) f.alone ∙ same_refl x.id))
+
+  pub own_values_with : HasOwnValues after
+  own_values_with = All-push (OwnsValues r.types) r.objects x w.own_values f.owned
 
   pub contents_with : HasContents after
   contents_with = (w.contents.0, All-weaker (λ c. IsBaseAt r bases.Document c.of × (c.step ≤ r.step)) (λ c. IsBaseAt after bases.Document c.of × (c.step ≤ r.step)) (λ c h. (base_stays bases.Document c.of h.0, h.1)) r.contents w.contents.1)

@@ -1,5 +1,5 @@
 -- An object changed in its place: its name, its values, its secondary types, its change token and its last change are others.
-use Rattle.std.specs.Prelude.{◌≡◌, ℕ, ◌≤◌, ◌<◌, Bool, true, false, not, ◌&&◌, if◌then◌else◌, ◌⊎◌, List, [], ◌∷◌, ◌++◌, map, count_by, All, Contains, Option, Some, None, IfSome, is_some, unwrap_or, option_map, option_and_then, bytes_eq, codes}
+use Rattle.std.specs.Prelude.{◌≡◌, ℕ, ◌≤◌, ◌<◌, Bool, true, false, not, ◌&&◌, if◌then◌else◌, ◌⊎◌, List, [], ◌++◌, map, count_by, All, Contains, Option, Some, None, IfSome, is_some, unwrap_or, option_map, option_and_then, bytes_eq, codes}
 use Rattle.std.specs.List.{list_any}
 use Rattle.std.proofs.Common.{refl, sym, ap, subst, ◌∙◌, inl, inr, ⊎_elim}
 use Rattle.std.proofs.lemmas.Bool.{both_ways}
@@ -16,10 +16,10 @@ use Rattle.cm_types.specs.declared.definition.BaseType.{BaseType}
 use Rattle.cm_types.specs.declared.definition.BaseType.TheVariants as bases
 use Rattle.cm_types.specs.Types.{is_of_base, type_in, props_of}
 use Rattle.cm_types.specs.Properties.{value_in, texts_of}
-use Rattle.cmis_spec.specs.Repository.{Repository, same, root, object_at, series_at, is_a, entry_name, is_taken}
+use Rattle.cmis_spec.specs.Repository.{Repository, same, root, object_at, series_at, is_a, entry_of, entry_name, is_taken}
 use Rattle.cmis_spec.specs.Access.{oid_named}
 use Rattle.cmis_spec.specs.Changes.{edited, stepped, noted}
-use Rattle.cmis_spec.specs.Well.{Apart, IsThere, IsBaseAt, IsEntryAt, HasWay, IsPair, Differ, Belongs, members, IsMember, HasSome, IsAlone, is_plain, is_version, IsEnd, HasEnds, IsRendition, IsAccess, IsTyped, IsKept, IsWellFormed}
+use Rattle.cmis_spec.specs.Well.{Apart, IsThere, IsBaseAt, IsEntryAt, HasWay, IsPair, Differ, Belongs, members, IsMember, HasSome, IsAlone, is_plain, is_version, IsEnd, HasEnds, IsRendition, IsAccess, is_listed, IsTyped, IsKept, OwnsValues, IsWellFormed}
 use Rattle.cmis_laws.proofs.Lists.{by_test, find_alike, bytes_turned, none_some, some_eq, found_holds, same_eq, same_refl, all_zip, all_from_any, apart_weaker, apart_map}
 use Rattle.cmis_laws.proofs.Entries.{not_both, number_found, all_there, one_there, kept_by_name}
 use Rattle.cmis_laws.proofs.Kept.{find_mapped}
@@ -36,6 +36,7 @@ pub record IsEdit (r : Repository) (x y : Object) : Type 0 where
   pub free : All (λ p. x.series ≡ None → same p.child x.id ≡ true → is_taken r p.folder x.id (unwrap_or y.name []) ≡ false) r.filed
   pub typed : IsTyped r.types y
   pub kept : IsKept r (props_of r.types y.kind y.secondary) y
+  pub owned : OwnsValues r.types y
   pub ends : is_a r bases.Relationship x ≡ true → HasEnds r y
   pub token : y.token ≤ r.step
 
@@ -266,8 +267,11 @@ module _ (r : Repository) (x : Object) (change : Object → Object) (w : IsWellF
       (texts_of (value_in y.values (codes "cmis:sourceId")) ++ texts_of (value_in y.values (codes "cmis:targetId"))) h
 
   access_stays : (l : AccessList) → IsAccess r l → IsAccess after l
-  access_stays l (inl h, a) = (inl (there_stays l.at h), a)
+  access_stays l (inl h, a) = (inl (put h.0, object_found l.at h.0 h.1, base_same bases.Document h.0 (put h.0) (alike_found l.at h.0 h.1) ∙ h.2), a)
   access_stays l (inr h, a) = (inr h, a)
+
+  entry_same : (z v : Object) → Alike z v → entry_of v ≡ entry_of z
+  entry_same z v a = ap (λ o. unwrap_or o v.id) a.series ∙ ap (unwrap_or z.series) a.id
 
   -- ---- all
 
@@ -298,6 +302,9 @@ module _ (r : Repository) (x : Object) (change : Object → Object) (w : IsWellF
     policies = All-weaker (λ p. IsBaseAt r bases.Policy p.policy × IsThere r p.object) (λ p. IsBaseAt after bases.Policy p.policy × IsThere after p.object)
         (λ p l. (base_stays bases.Policy p.policy l.0, there_stays p.object l.1)) r.applied w.policies;
     access = (w.access.0, All-weaker (IsAccess r) (IsAccess after) access_stays r.access w.access.1);
+    listed = all_put (λ z. is_listed r.access (entry_of z) ≡ true) (λ z. is_listed r.access (entry_of z) ≡ true) (λ z t h. subst (λ n. is_listed r.access n ≡ true) (sym (entry_same z (put z) (alike z t))) h) w.listed;
+    sizes = w.sizes;
+    own_values = by_object (OwnsValues r.types) (OwnsValues r.types) f.owned (λ z h. h) w.own_values;
     contents = (w.contents.0, All-weaker (λ c. IsBaseAt r bases.Document c.of × (c.step ≤ r.step)) (λ c. IsBaseAt after bases.Document c.of × (c.step ≤ r.step)) (λ c h. (base_stays bases.Document c.of h.0, h.1)) r.contents w.contents.1);
     typed = by_object (IsTyped r.types) (IsTyped r.types) f.typed (λ z h. h) w.typed;
     types = w.types;

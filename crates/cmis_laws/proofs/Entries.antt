@@ -1,8 +1,8 @@
 -- What is there: objects and series under their numbers, their base types and their names.
 use Rattle.std.specs.Prelude.{◌≡◌, ◌<◌, true, false, if◌then◌else◌, ◌⊎◌, List, [], ◌∷◌, find, All, Option, Some, None, IfSome, option_map, unwrap_or, bytes_eq, codes}
-use Rattle.std.proofs.Common.{refl, sym, ap, subst, ◌∙◌, inl, inr, arith}
+use Rattle.std.proofs.Common.{refl, sym, ap, subst, ◌∙◌, inl, inr, ⊎_elim, arith}
 use Rattle.std.proofs.lemmas.Bool.{both_ways}
-use Rattle.std.proofs.lemmas.List.Elements.{All-nil, All-cons}
+use Rattle.std.proofs.lemmas.List.Elements.{All-nil, All-cons, All-weaker}
 use Rattle.cm_base.specs.declared.number.Oid.{Oid}
 use Rattle.cm_base.specs.declared.object.Object.{Object}
 use Rattle.cm_base.specs.declared.series.Series.{Series}
@@ -13,7 +13,7 @@ use Rattle.cm_types.specs.Types.{same_base, base_of}
 use Rattle.cm_types.specs.Properties.{value_in, is_faulty}
 use Rattle.cmis_spec.specs.Repository.{Repository, same, object_at, series_at, is_a, entry_of, entry_name, name_of}
 use Rattle.cmis_spec.specs.Values.{words, texts}
-use Rattle.cmis_spec.specs.Well.{Apart, IsThere, IsBaseAt, IsSeriesAt, IsEntryAt, HasNumbers, HasSeriesNumbers, HasFirsts, HasDocuments, Belongs, IsKept}
+use Rattle.cmis_spec.specs.Well.{Apart, IsThere, IsBaseAt, IsSeriesAt, IsEntryAt, HasNumbers, HasSeriesNumbers, HasFirsts, HasDocuments, Belongs, IsKept, HasAccess, IsAccess}
 use Rattle.cmis_laws.proofs.Lists.{by_test, find_yes, find_no, found_holds, found_passes, same_eq, same_refl, differ, some_eq, all_zip}
 
 -- ---- base types
@@ -57,6 +57,10 @@ pub entry_below : (r : Repository) (n : Oid) → HasNumbers r → HasSeriesNumbe
 entry_below r n h k (inl e) = object_below r n e.0 h e.1
 entry_below r n h k (inr (inl e)) = object_below r n e.0 h e.1
 entry_below r n h k (inr (inr e)) = series_below r n e.0 k e.1
+
+-- and so are those of the access lists
+pub lists_below : (r : Repository) → HasNumbers r → HasSeriesNumbers r → HasAccess r → All (λ l. l.at.0 < r.next) r.access
+lists_below r h k a = All-weaker (IsAccess r) (λ l. l.at.0 < r.next) (λ l i. ⊎_elim (λ t. object_below r l.at t.0 h t.1) (λ t. series_below r l.at t.0 k t.1) i.0) r.access a.1
 
 -- each object is found by its number
 pub all_there : (xs : List Object) → Apart (λ x y. x.id.0 < y.id.0) xs → All (λ x. find (λ y. same y.id x.id) xs ≡ Some x) xs

@@ -1,10 +1,10 @@
 -- The values that a create keeps have no fault.
-use Rattle.std.specs.Prelude.{◌≡◌, ℕ, zero, suc, Bool, true, false, not, ◌&&◌, ◌||◌, if◌then◌else◌, List, [], ◌∷◌, map, filter, find, reverse, All, Contains, Option, Some, None, Ok, option_map, unwrap_or, bytes_eq, codes}
+use Rattle.std.specs.Prelude.{◌≡◌, ℕ, zero, suc, Bool, true, false, not, ◌&&◌, ◌||◌, if◌then◌else◌, List, [], ◌∷◌, map, filter, find, is_some, reverse, All, Contains, Option, Some, None, Ok, option_map, unwrap_or, bytes_eq, codes}
 use Rattle.std.specs.List.{flat_map}
 use mathlib.Core.List.{reverse_aux}
 use Rattle.std.proofs.Common.{refl, sym, ap, subst, ◌∙◌}
 use Rattle.std.proofs.lemmas.Bool.{both_ways}
-use Rattle.std.proofs.lemmas.List.Elements.{All-nil, All-cons, All-head, All-tail, All-append, All-filter, All-contains, All-contains_itself}
+use Rattle.std.proofs.lemmas.List.Elements.{All-nil, All-cons, All-head, All-tail, All-append, All-filter, All-map, All-weaker, All-contains, All-contains_itself}
 use Rattle.std.proofs.lemmas.Slice.Eq.{bytes_eq-Decides}
 use Rattle.cm_base.specs.declared.object.Object.{Object}
 use Rattle.cm_base.specs.declared.value.Slot.{Slot}
@@ -17,12 +17,13 @@ use Rattle.cm_base.specs.Judged.{first_cause}
 use Rattle.cm_types.specs.declared.definition.TypeDef.{TypeDef}
 use Rattle.cm_types.specs.declared.property.PropDef.{PropDef}
 use Rattle.cm_types.specs.declared.given.Given.{Given}
+use Rattle.cm_types.specs.declared.given.PropertyCall.{PropertyCall}
 use Rattle.cm_types.specs.declared.given.PropertyCall.TheVariants as calls
 use Rattle.cm_types.specs.Types.{type_in, chain_of, chain, longest_chain, first_of_each, types_of, props_of}
-use Rattle.cm_types.specs.Properties.{value_in, is_set, value_fault, is_faulty, may_give, breaks_cardinality, breaks_form, stated, fault_by, def_of, property_fault, given_cause, given_of, kept_value, kept_values, is_missing, missing_cause, judge_properties}
+use Rattle.cm_types.specs.Properties.{value_in, is_set, value_fault, is_faulty, may_give, breaks_cardinality, breaks_form, stated, fault_by, def_of, property_fault, given_cause, given_of, value_before, kept_value, kept_values, is_missing, missing_cause, judge_properties}
 use Rattle.cmis_spec.specs.Repository.{Repository, name_of}
 use Rattle.cmis_spec.specs.Values.{words, texts, is_apart, kept_beside, form_value}
-use Rattle.cmis_spec.specs.Well.{IsDef, Agrees, HasDefs, TakesTexts, IsKept}
+use Rattle.cmis_spec.specs.Well.{IsDef, Agrees, HasDefs, TakesTexts, IsKept, IsOwn, OwnsValues}
 use Rattle.cmis_laws.proofs.Lists.{by_test, find_yes, find_no, found_holds, found_passes, none_some, all_zip}
 use Rattle.cmis_laws.proofs.Passed.{first_none, then_ok, some_none}
 
@@ -90,14 +91,14 @@ all_unfound p (x ∷ xs) h = by_test (p x)
     (λ e. All-cons (λ x. p x ≡ false) x xs e (all_unfound p xs (sym (find_no p x xs e) ∙ h)))
 
 -- of one that is found: in the part that is kept it is found too, or nothing is
-find_left : {A : Type 0} (p q : A → Bool) (x : A) (xs : List A) → All (λ y. p y ≡ true → y ≡ x) xs → q x ≡ false → find p (filter q xs) ≡ None
+pub find_left : {A : Type 0} (p q : A → Bool) (x : A) (xs : List A) → All (λ y. p y ≡ true → y ≡ x) xs → q x ≡ false → find p (filter q xs) ≡ None
 find_left p q x [] same h = refl
 find_left p q x (y ∷ ys) same h = by_test (q y)
     (λ e. rw e (find_no p y (filter q ys) (by_test (p y) (λ d. absurd (both_ways (q x) h (subst (λ z. q z ≡ true) (All-head (λ y. p y ≡ true → y ≡ x) y ys same d) e))) (λ d. d))
     ∙ find_left p q x ys (All-tail (λ y. p y ≡ true → y ≡ x) y ys same) h))
     (λ e. rw e (find_left p q x ys (All-tail (λ y. p y ≡ true → y ≡ x) y ys same) h))
 
-find_kept : {A : Type 0} (p q : A → Bool) (x : A) (xs : List A) → All (λ y. p y ≡ true → y ≡ x) xs → q x ≡ true → find p xs ≡ Some x → find p (filter q xs) ≡ Some x
+pub find_kept : {A : Type 0} (p q : A → Bool) (x : A) (xs : List A) → All (λ y. p y ≡ true → y ≡ x) xs → q x ≡ true → find p xs ≡ Some x → find p (filter q xs) ≡ Some x
 find_kept p q x [] same h e = e
 find_kept p q x (y ∷ ys) same h e = by_test (p y)
     (λ d. let at : y ≡ x = All-head (λ y. p y ≡ true → y ≡ x) y ys same d in
@@ -106,7 +107,7 @@ find_kept p q x (y ∷ ys) same h e = by_test (p y)
     by_test (q y) (λ k. rw k (find_no p y (filter q ys) d ∙ rest)) (λ k. rw k rest))
 
 -- a definition is the one that its id finds
-find_first : (defs : List PropDef) (d : PropDef) → Agrees d defs → Contains defs d → find (λ e. bytes_eq e.id d.id) defs ≡ Some d
+pub find_first : (defs : List PropDef) (d : PropDef) → Agrees d defs → Contains defs d → find (λ e. bytes_eq e.id d.id) defs ≡ Some d
 find_first defs d agree there = elim (find (λ e. bytes_eq e.id d.id) defs) as (λ o. find (λ e. bytes_eq e.id d.id) defs ≡ o → o ≡ Some d) [
   | None ↦ λ h. absurd (both_ways (bytes_eq d.id d.id) (All-contains (λ e. bytes_eq e.id d.id ≡ false) defs d (all_unfound (λ e. bytes_eq e.id d.id) defs h) there) (bytes_same d.id d.id refl))
   | Some e ↦ λ h. ap Some (sym (found_holds (λ e. (bytes_eq d.id e.id || bytes_eq d.query_name e.query_name) ≡ true → d ≡ e) (λ e. bytes_eq e.id d.id) defs e agree h
@@ -126,32 +127,32 @@ map_none : {A B : Type 0} (f : A → B) (o : Option A) → option_map f o ≡ No
 map_none f None h = refl
 map_none f (Some x) h = absurd (some_none (f x) h)
 
-kept_right : (defs : List PropDef) (given : List Given) (d : PropDef) → All (λ g. given_cause calls.Create defs g ≡ None) given → find (λ e. bytes_eq e.id d.id) defs ≡ Some d
-    → value_fault d d.default ≡ None → value_fault d (kept_value calls.Create [] given d) ≡ None
-kept_right defs given d ok first def = elim (given_of given d.id) as (λ o. given_of given d.id ≡ o → value_fault d (unwrap_or (option_map (stated d) o) d.default) ≡ None) [
-  | None ↦ λ e. def
+pub kept_right : (call : PropertyCall) (old : List Slot) (defs : List PropDef) (given : List Given) (d : PropDef) → All (λ g. given_cause call defs g ≡ None) given → find (λ e. bytes_eq e.id d.id) defs ≡ Some d
+    → value_fault d (value_before call old d) ≡ None → value_fault d (kept_value call old given d) ≡ None
+kept_right call old defs given d ok first before = elim (given_of given d.id) as (λ o. given_of given d.id ≡ o → value_fault d (unwrap_or (option_map (stated d) o) (value_before call old d)) ≡ None) [
+  | None ↦ λ e. before
   | Some g ↦ λ e.
       let at : g.id ≡ d.id = bytes_true g.id d.id (found_passes (λ g. bytes_eq g.id d.id) given g e) in
       let defined : def_of defs g.id ≡ Some d = subst (λ i. find (λ e. bytes_eq e.id i) defs ≡ Some d) (sym at) first in
-      let none : property_fault calls.Create defs g ≡ None = map_none (causes.Property g.id) (property_fault calls.Create defs g) (found_holds (λ g. given_cause calls.Create defs g ≡ None) (λ g. bytes_eq g.id d.id) given g ok e) in
-      let by_def : fault_by calls.Create d g ≡ None = sym (ap (λ o. unwrap_or (option_map (λ d. fault_by calls.Create d g) o) (Some faults.Unknown)) defined) ∙ none in
-      no_fault (not (may_give calls.Create d.updatability)) (breaks_cardinality d g) (breaks_form d g) (value_fault d (stated d g)) by_def
+      let none : property_fault call defs g ≡ None = map_none (causes.Property g.id) (property_fault call defs g) (found_holds (λ g. given_cause call defs g ≡ None) (λ g. bytes_eq g.id d.id) given g ok e) in
+      let by_def : fault_by call d g ≡ None = sym (ap (λ o. unwrap_or (option_map (λ d. fault_by call d g) o) (Some faults.Unknown)) defined) ∙ none in
+      no_fault (not (may_give call d.updatability)) (breaks_cardinality d g) (breaks_form d g) (value_fault d (stated d g)) by_def
 ] refl
 
-missing_not : (given : List Given) (d : PropDef) → missing_cause calls.Create [] given d ≡ None → is_missing calls.Create [] given d ≡ false
-missing_not given d h = flip (is_missing calls.Create [] given d) h
+pub missing_not : (call : PropertyCall) (old : List Slot) (given : List Given) (d : PropDef) → missing_cause call old given d ≡ None → is_missing call old given d ≡ false
+missing_not call old given d h = flip (is_missing call old given d) h
   where
     flip : (b : Bool) → if b then Some (causes.Property d.id faults.Required) else None ≡ None → b ≡ false
     flip true h = absurd (some_none (causes.Property d.id faults.Required) h)
     flip false h = refl
 
-faultless : (d : PropDef) (v : Value) → value_fault d v ≡ None → d.required && not (is_set v) ≡ false → is_faulty d v ≡ false
+pub faultless : (d : PropDef) (v : Value) → value_fault d v ≡ None → d.required && not (is_set v) ≡ false → is_faulty d v ≡ false
 faultless d v a b = ap (λ o. unwrap_or (option_map (λ f. true) o) (d.required && not (is_set v))) a ∙ b
 
 -- ---- the values beside
 
 -- a kept value is found by its id; what is unset is not kept
-beside_value : (defs : List PropDef) (value : PropDef → Value) (d : PropDef) → Agrees d defs → find (λ e. bytes_eq e.id d.id) defs ≡ Some d → is_apart d.id ≡ false
+pub beside_value : (defs : List PropDef) (value : PropDef → Value) (d : PropDef) → Agrees d defs → find (λ e. bytes_eq e.id d.id) defs ≡ Some d → is_apart d.id ≡ false
     → value_in (kept_beside (map (λ e. record { id = e.id; value = value e }) defs)) d.id ≡ value d
 beside_value defs value d agree first other =
     let slots : List Slot = map (λ (e : PropDef). record { id = e.id; value = value e }) defs in
@@ -182,7 +183,7 @@ beside_value defs value d agree first other =
 -- ---- all
 
 -- by the three that are kept apart, and then the others
-form_is : (r : Repository) (x : Object) (d : PropDef) → TakesTexts d → (is_apart d.id ≡ false → is_faulty d (value_in x.values d.id) ≡ false) → is_faulty d (form_value r x d.id) ≡ false
+pub form_is : (r : Repository) (x : Object) (d : PropDef) → TakesTexts d → (is_apart d.id ≡ false → is_faulty d (value_in x.values d.id) ≡ false) → is_faulty d (form_value r x d.id) ≡ false
 form_is r x d takes other = by_cases (bytes_eq d.id (codes "cmis:name")) (bytes_eq d.id (codes "cmis:objectTypeId")) (bytes_eq d.id (codes "cmis:secondaryObjectTypeIds")) takes.0 takes.1 other
   where
     by_cases : (a b c : Bool) → (a || b ≡ true → (t : List ℕ) → is_faulty d (words t) ≡ false) → (c ≡ true → (ts : List (List ℕ)) → is_faulty d (texts ts) ≡ false)
@@ -192,6 +193,22 @@ form_is r x d takes other = by_cases (bytes_eq d.id (codes "cmis:name")) (bytes_
     by_cases false true c f g h = f refl x.kind
     by_cases false false true f g h = g refl x.secondary
     by_cases false false false f g h = h refl
+
+-- what is kept neither with the name nor with the types has its value from the values alone
+pub apart_value : (r : Repository) (x : Object) (id : List ℕ) → is_apart id ≡ false → form_value r x id ≡ value_in x.values id
+apart_value r x id h = by_cases (bytes_eq id (codes "cmis:name")) (bytes_eq id (codes "cmis:objectTypeId")) (bytes_eq id (codes "cmis:secondaryObjectTypeIds")) h
+  where
+    by_cases : (a b c : Bool) → a || b || c ≡ false → (if a then words (name_of r x) else if b then words x.kind else if c then texts x.secondary else value_in x.values id) ≡ value_in x.values id
+    by_cases true b c h = absurd (both_ways true h refl)
+    by_cases false true c h = absurd (both_ways true h refl)
+    by_cases false false true h = absurd (both_ways true h refl)
+    by_cases false false false h = refl
+
+-- values without a fault have none under another name, or in another repository with the same types
+pub kept_anywhere : (r r' : Repository) (x y : Object) → HasDefs r.types → y.values ≡ x.values → IsKept r (props_of r.types x.kind x.secondary) x → IsKept r' (props_of r.types x.kind x.secondary) y
+kept_anywhere r r' x y types values k = all_zip (IsDef r.types) (λ d. is_faulty d (form_value r x d.id) ≡ false) (λ d. is_faulty d (form_value r' y d.id) ≡ false) (props_of r.types x.kind x.secondary)
+    (λ d i h. form_is r' y d i.2 (λ other. ap (λ vs. is_faulty d (value_in vs d.id)) values ∙ (ap (is_faulty d) (sym (apart_value r x d.id other)) ∙ h)))
+    (props_all (IsDef r.types) r.types x.kind x.secondary types) k
 
 -- the values of a new object, once its properties are judged
 pub kept_new : (r : Repository) (kind : List ℕ) (secondary : List (List ℕ)) (given : List Given) (x : Object) → HasDefs r.types → judge_properties calls.Create (props_of r.types kind secondary) [] given ≡ Ok tt
@@ -207,6 +224,22 @@ kept_new r kind secondary given x types h values =
     let first = find_first defs d agree i.1 in
     form_is r x d i.0.2 (λ other.
     let v : value_in x.values d.id ≡ kept_value calls.Create [] given d = ap (λ vs. value_in vs d.id) values ∙ beside_value defs (kept_value calls.Create [] given) d agree first other in
-    ap (is_faulty d) v ∙ faultless d (kept_value calls.Create [] given d) (kept_right defs given d given_ok first i.0.1) (missing_not given d m)))
+    ap (is_faulty d) v ∙ faultless d (kept_value calls.Create [] given d) (kept_right calls.Create [] defs given d given_ok first i.0.1) (missing_not calls.Create [] given d m)))
     (all_zip (IsDef r.types) (Contains defs) (λ d. IsDef r.types d × Contains defs d) defs (λ d a b. (a, b)) is_def (All-contains_itself defs))
     (first_none (missing_cause calls.Create [] given) defs parts.1)
+
+-- what is kept of an object's properties is of its own properties
+pub owns_kept : (types : List TypeDef) (call : PropertyCall) (old : List Slot) (given : List Given) (x : Object) → All (IsOwn types x) (kept_beside (kept_values call (props_of types x.kind x.secondary) old given))
+owns_kept types call old given x = All-filter (λ s. not (is_apart s.id) && is_set s.value) (IsOwn types x) (kept_values call (props_of types x.kind x.secondary) old given)
+    (All-map (IsOwn types x) (λ d. record { id = d.id; value = kept_value call old given d }) (props_of types x.kind x.secondary)
+    (All-weaker (Contains (props_of types x.kind x.secondary)) (λ d. is_some (def_of (props_of types x.kind x.secondary) d.id) ≡ true) (λ d. there (props_of types x.kind x.secondary) d)
+    (props_of types x.kind x.secondary) (All-contains_itself (props_of types x.kind x.secondary))))
+  where
+    there : (defs : List PropDef) (d : PropDef) → Contains defs d → is_some (def_of defs d.id) ≡ true
+    there defs d h = elim (def_of defs d.id) as (λ o. def_of defs d.id ≡ o → is_some o ≡ true) [
+      | None ↦ λ e. absurd (both_ways (bytes_eq d.id d.id) (All-contains (λ e. bytes_eq e.id d.id ≡ false) defs d (all_unfound (λ e. bytes_eq e.id d.id) defs e) h) (bytes_same d.id d.id refl))
+      | Some e ↦ λ k. refl
+    ] refl
+
+pub owns_new : (types : List TypeDef) (given : List Given) (x : Object) → x.values ≡ kept_beside (kept_values calls.Create (props_of types x.kind x.secondary) [] given) → OwnsValues types x
+owns_new types given x values = subst (All (IsOwn types x)) (sym values) (owns_kept types calls.Create [] given x)

@@ -126,7 +126,28 @@ count_last p xs y all =
     let b : cond (p y) 1 0 ≤ 1 = by_test (p y) (λ h. rw h (omega arith)) (λ h. rw h (omega arith)) in
     omega (arith, e, z, b)
 
+-- ---- one of a list
+
+pub any_pushed : {A : Type 0} (p : A → Bool) (xs : List A) (y : A) → list_any p xs ≡ true → list_any p (xs ++ y ∷ []) ≡ true
+any_pushed p [] y h = absurd (both_ways false refl h)
+any_pushed p (x ∷ xs) y h = by_test (p x) (λ e. rw e refl) (λ e. rw e (any_pushed p xs y (rw e at h)))
+
+pub any_new : {A : Type 0} (p : A → Bool) (xs : List A) (y : A) → p y ≡ true → list_any p (xs ++ y ∷ []) ≡ true
+any_new p [] y h = rw h refl
+any_new p (x ∷ xs) y h = by_test (p x) (λ e. rw e refl) (λ e. rw e (any_new p xs y h))
+
+pub any_mapped : {A : Type 0} (p : A → Bool) (f : A → A) (xs : List A) → ((x : A) → p (f x) ≡ p x) → list_any p (map f xs) ≡ list_any p xs
+any_mapped p f [] h = refl
+any_mapped p f (x ∷ xs) h = rw (h x, any_mapped p f xs h) refl
+
 -- ---- numbers in order
+
+-- each is found by its number
+pub all_found : {A : Type 0} (id : A → Oid) (xs : List A) → Apart (λ x y. (id x).0 < (id y).0) xs → All (λ x. find (λ y. same (id y) (id x)) xs ≡ Some x) xs
+all_found id [] a = All-nil (λ x. find (λ y. same (id y) (id x)) [] ≡ Some x)
+all_found id (x ∷ xs) a = All-cons (λ z. find (λ y. same (id y) (id z)) (x ∷ xs) ≡ Some z) x xs (find_yes (λ y. same (id y) (id x)) x xs (same_refl (id x)))
+    (all_zip (λ z. (id x).0 < (id z).0) (λ z. find (λ y. same (id y) (id z)) xs ≡ Some z) (λ z. find (λ y. same (id y) (id z)) (x ∷ xs) ≡ Some z) xs
+    (λ z l e. find_no (λ y. same (id y) (id z)) x xs (differ (id x) (id z) (λ k. let n : (id x).0 ≡ (id z).0 = ap (λ m. m.0) k in omega (arith, n, l))) ∙ e) a.0 (all_found id xs a.1))
 
 -- what a search finds is found by its number
 pub found_by_number : {A : Type 0} (id : A → Oid) (q : A → Bool) (xs : List A) (x : A) → Apart (λ y z. (id y).0 < (id z).0) xs → find q xs ≡ Some x → find (λ y. same (id y) (id x)) xs ≡ Some x

@@ -11,7 +11,7 @@ use Rattle.cm_types.specs.declared.definition.BaseType.TheVariants as bases
 use Rattle.cm_types.specs.Types.{props_of}
 use Rattle.cmis_spec.specs.Repository.{Repository, most_levels, is_a, new_number, depth_of, is_taken}
 use Rattle.cmis_spec.specs.Changes.{with_object, with_pair, stepped, noted}
-use Rattle.cmis_spec.specs.Well.{IsBaseAt, IsTyped, IsKept, HasEnds, IsAceList, IsWellFormed}
+use Rattle.cmis_spec.specs.Well.{IsBaseAt, IsTyped, IsKept, OwnsValues, HasEnds, IsAceList, IsWellFormed}
 use Rattle.cmis_laws.proofs.Entries.{not_both}
 use Rattle.cmis_laws.proofs.Added.{IsNewObject}
 use Rattle.cmis_laws.proofs.Objects.{object_keeps}
@@ -26,6 +26,7 @@ pub record IsMade (r : Repository) (cost : ℕ) (x : Object) (aces : List Ace) (
   pub no_document : is_a r bases.Document x ≡ false
   pub typed : IsTyped r.types x
   pub kept : IsKept r (props_of r.types x.kind x.secondary) x
+  pub owned : OwnsValues r.types x
   pub ends : is_a r bases.Relationship x ≡ true → HasEnds r x
   pub token : x.token ≤ r.step + 1
   pub listed : IsAceList aces
@@ -40,6 +41,7 @@ new_object r cost x aces policies w f = record {
   no_document = f.no_document;
   typed = f.typed;
   kept = f.kept;
+  owned = f.owned;
   ends = f.ends;
   token = f.token;
   room = omega (arith, w.bounds.2);
@@ -72,6 +74,7 @@ pub record IsNewFolder (r : Repository) (cost : ℕ) (folder : Oid) (x : Object)
   pub base : is_a r bases.Folder x ≡ true
   pub typed : IsTyped r.types x
   pub kept : IsKept r (props_of r.types x.kind x.secondary) x
+  pub owned : OwnsValues r.types x
   pub token : x.token ≤ r.step + 1
   pub listed : IsAceList aces
   pub applied : All (IsBaseAt r bases.Policy) policies
@@ -90,6 +93,7 @@ folder_keeps r cost m folder x aces policies w f = made_in_keeps r cost m folder
       no_document = not_both r x bases.Folder bases.Document refl f.base;
       typed = f.typed;
       kept = f.kept;
+      owned = f.owned;
       ends = λ e. absurd (both_ways (is_a r bases.Relationship x) (not_both r x bases.Folder bases.Relationship refl f.base) e);
       token = f.token;
       listed = f.listed;

@@ -1,5 +1,5 @@
 -- The repository that is opened is well formed.
-use Rattle.std.specs.Prelude.{◌≡◌, ℕ, ◌<◌, ◌≤◌, Bool, true, false, if◌then◌else◌, not, List, [], ◌∷◌, map, All, Option, Some, None, IfSome, is_some, option_map, unwrap_or, bytes_eq, codes}
+use Rattle.std.specs.Prelude.{◌≡◌, ℕ, ◌<◌, ◌≤◌, Bool, true, false, if◌then◌else◌, not, List, [], ◌∷◌, map, length, All, Option, Some, None, IfSome, is_some, option_map, unwrap_or, bytes_eq, codes}
 use Rattle.std.proofs.Common.{refl, ap, subst, ◌∙◌, inl, arith}
 use Rattle.std.proofs.lemmas.Bool.{both_ways}
 use Rattle.std.proofs.lemmas.List.Elements.{All-nil, All-cons, All-weaker}
@@ -19,9 +19,9 @@ use Rattle.cm_types.specs.declared.definition.TypeDef.{TypeDef}
 use Rattle.cm_types.specs.declared.definition.BaseType.TheVariants as bases
 use Rattle.cm_types.specs.Types.{type_in, same_base, props_of}
 use Rattle.cm_types.specs.Properties.{is_faulty}
-use Rattle.cmis_spec.specs.Repository.{object_at, series_at, root, same, most_steps, most_cost, is_a, opening, root_folder, root_access, administrator_of}
+use Rattle.cmis_spec.specs.Repository.{object_at, series_at, root, same, most_steps, most_cost, is_a, opening, root_folder, root_access, administrator_of, entry_of, longest_stream}
 use Rattle.cmis_spec.specs.Values.{words, form_value}
-use Rattle.cmis_spec.specs.Well.{MayOpen, root_value, IsTyped, IsKept, IsAceList, ComesBefore, IsAccess, IsRendition, IsPair, HasWay, Belongs, IsMember, members, HasSome, IsBaseAt, IsThere, HasEnds, IsLabel, IsAlone, is_plain, is_version, Apart, IsWellFormed}
+use Rattle.cmis_spec.specs.Well.{MayOpen, root_value, IsTyped, IsKept, IsAceList, ComesBefore, IsAccess, is_listed, IsOwn, OwnsValues, IsRendition, IsPair, HasWay, Belongs, IsMember, members, HasSome, IsBaseAt, IsThere, HasEnds, IsLabel, IsAlone, is_plain, is_version, Apart, IsWellFormed}
 use Rattle.cmis_laws.proofs.Entries.{not_both}
 
 one : {A : Type 0} (P : A → Type 0) (x : A) → P x → All P (x ∷ [])
@@ -81,7 +81,10 @@ opening_is types users m n f bound =
       own_names = one (λ y. is_some y.name ≡ not (is_version r y)) x refl;
       relationships = one (λ y. is_a r bases.Relationship y ≡ true → HasEnds r y) x (λ e. absurd (both_ways (is_a r bases.Relationship x) (not_both r x bases.Folder bases.Relationship refl f.folder) e));
       policies = All-nil (λ p. IsBaseAt r bases.Policy p.policy × IsThere r p.object);
-      access = ((All-nil (λ l. root.0 < l.at.0), tt), one (IsAccess r) (root_access admin) (inl (x, refl), two_aces admin (codes "anyone") (slice_cmp nat_cmp admin (codes "anyone")) refl));
+      access = ((All-nil (λ l. root.0 < l.at.0), tt), one (IsAccess r) (root_access admin) (inl (x, refl, not_both r x bases.Folder bases.Document refl f.folder), two_aces admin (codes "anyone") (slice_cmp nat_cmp admin (codes "anyone")) refl));
+      listed = one (λ y. is_listed (root_access admin ∷ []) (entry_of y) ≡ true) x refl;
+      sizes = All-nil (λ c. length c.stream.pieces ≤ longest_stream);
+      own_values = one (OwnsValues types) x (All-nil (IsOwn types x));
       contents = (tt, All-nil (λ c. IsBaseAt r bases.Document c.of × (c.step ≤ n)));
       typed = one (IsTyped types) x (there (type_in types (codes "cmis:folder")) f.folder, All-nil (λ s. is_some (type_in types s) ≡ true));
       types = f.well;

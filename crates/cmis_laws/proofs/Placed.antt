@@ -82,11 +82,14 @@ module _ (r : Repository) (x : Object) (aces : List Ace) (policies : List Oid) (
         relationships = Added.relationships_with r x aces policies w f;
         policies = Added.policies_with r x aces policies w f;
         access = Added.access_with r x aces policies w f;
+        listed = Added.lists_with r x aces policies w f;
         contents = Added.contents_with r x aces policies w f;
+        sizes = w.sizes;
         typed = Added.typed_with r x aces policies w f;
         types = w.types;
         defs = w.defs;
         kept = Added.kept_with r x aces policies w f;
+        own_values = Added.own_values_with r x aces policies w f;
         bounds = Added.bounds_with r x aces policies w f;
         tokens = Added.tokens_with r x aces policies w f;
         labels = w.labels;

@@ -20,14 +20,14 @@ label_stepped : (step : ℕ) (o : Option Label) → IfSome o (IsLabel step) → 
 label_stepped step None h = h
 label_stepped step (Some l) h = (omega (arith, h.0), omega (arith, h.1))
 
-labels_stepped : (r : Repository) (cost : ℕ) → HasLabels r → HasLabels (stepped r cost)
+pub labels_stepped : (r : Repository) (cost : ℕ) → HasLabels r → HasLabels (stepped r cost)
 labels_stepped r cost h = All-weaker (λ s. All (λ v. IfSome v.label (IsLabel r.step)) s.versions) (λ s. All (λ v. IfSome v.label (IsLabel (r.step + 1))) s.versions)
     (λ s l. All-weaker (λ v. IfSome v.label (IsLabel r.step)) (λ v. IfSome v.label (IsLabel (r.step + 1))) (λ v k. label_stepped r.step v.label k) s.versions l) r.series h
 
-tokens_stepped : (r : Repository) (cost : ℕ) → HasTokens r → HasTokens (stepped r cost)
+pub tokens_stepped : (r : Repository) (cost : ℕ) → HasTokens r → HasTokens (stepped r cost)
 tokens_stepped r cost h = All-weaker (λ y. y.token ≤ r.step) (λ y. y.token ≤ r.step + 1) (λ y m. omega (arith, m)) r.objects h
 
-contents_stepped : (r : Repository) (cost : ℕ) → HasContents r → HasContents (stepped r cost)
+pub contents_stepped : (r : Repository) (cost : ℕ) → HasContents r → HasContents (stepped r cost)
 contents_stepped r cost h = (h.0, All-weaker (λ c. IsBaseAt r bases.Document c.of × (c.step ≤ r.step)) (λ c. IsBaseAt r bases.Document c.of × (c.step ≤ r.step + 1)) (λ c k. (k.0, omega (arith, k.1))) r.contents h.1)
 
 pub step_keeps : (r : Repository) (cost : ℕ) → IsWellFormed r → HasRoom r cost → IsWellFormed (stepped r cost)
@@ -48,11 +48,14 @@ step_keeps r cost w room = record {
   relationships = w.relationships;
   policies = w.policies;
   access = w.access;
+  listed = w.listed;
   contents = contents_stepped r cost w.contents;
+  sizes = w.sizes;
   typed = w.typed;
   types = w.types;
   defs = w.defs;
   kept = w.kept;
+  own_values = w.own_values;
   bounds = (room.steps, room.bytes, omega (arith, w.bounds.2));
   tokens = tokens_stepped r cost w.tokens;
   labels = labels_stepped r cost w.labels;
@@ -77,11 +80,14 @@ note_keeps r kind n m readers w = record {
   relationships = w.relationships;
   policies = w.policies;
   access = w.access;
+  listed = w.listed;
   contents = w.contents;
+  sizes = w.sizes;
   typed = w.typed;
   types = w.types;
   defs = w.defs;
   kept = w.kept;
+  own_values = w.own_values;
   bounds = w.bounds;
   tokens = w.tokens;
   labels = w.labels;

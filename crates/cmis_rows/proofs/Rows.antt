@@ -8,7 +8,7 @@ use Rattle.cm_base.specs.declared.access.Ace.{Ace}
 use Rattle.cm_base.specs.declared.access.Level.TheVariants as levels
 use Rattle.cm_base.specs.declared.log.ChangeKind.TheVariants as changes
 use Rattle.cm_base.specs.declared.user.User.{User}
-use Rattle.cm_basetypes.specs.BaseTypes.{base_types}
+use Rattle.cm_types.specs.BaseTypes.{base_types}
 use Rattle.cmis_spec.specs.Repository.{Repository, opening, root, depth_of, is_under, is_taken, path_of, levels_up}
 use Rattle.cmis_spec.specs.Access.{level_of_caller, reads, object_named, read_named, at_path, children_of, lacks}
 use Rattle.cmis_spec.specs.Changes.{stepped, noted, with_object, with_pair}

@@ -63,6 +63,10 @@ most_steps = 1048576
 unfoldable pub most_cost : ℕ
 most_cost = 2147483648
 
+-- the most bytes of a content
+unfoldable pub longest_stream : ℕ
+longest_stream = 33554432
+
 -- ---- numbers
 
 abbrev pub same : Oid → Oid → Bool

@@ -12,15 +12,18 @@ use Rattle.cm_base.specs.declared.filing.Filed.{Filed}
 use Rattle.cm_base.specs.declared.series.Series.{Series}
 use Rattle.cm_base.specs.declared.series.Label.{Label}
 use Rattle.cm_base.specs.declared.content.Rendition.{Rendition}
+use Rattle.cm_base.specs.declared.value.Slot.{Slot}
 use Rattle.cm_base.specs.declared.value.Value.{Value}
 use Rattle.cm_base.specs.declared.value.Value.TheVariants.{Unset}
 use Rattle.cm_types.specs.declared.definition.TypeDef.{TypeDef}
 use Rattle.cm_types.specs.declared.definition.BaseType.{BaseType}
 use Rattle.cm_types.specs.declared.definition.BaseType.TheVariants as bases
 use Rattle.cm_types.specs.declared.property.PropDef.{PropDef}
-use Rattle.cm_types.specs.Types.{type_in, is_of_base, props_of, longest_chain}
-use Rattle.cm_types.specs.Properties.{value_in, texts_of, value_fault, is_faulty}
-use Rattle.cmis_spec.specs.Repository.{Repository, same, root, most_levels, most_steps, most_cost, object_at, series_at, is_a, type_of, entry_name, parent_in}
+use Rattle.cm_types.specs.Types.{type_in, is_of_base, props_of, chain, longest_chain}
+use Rattle.cm_types.specs.Changes.{base_id}
+use Rattle.cm_types.specs.BaseTypes.{base_types}
+use Rattle.cm_types.specs.Properties.{value_in, texts_of, value_fault, is_faulty, def_of}
+use Rattle.cmis_spec.specs.Repository.{Repository, same, root, most_levels, most_steps, most_cost, longest_stream, object_at, series_at, is_a, type_of, entry_of, entry_name, parent_in, last_of}
 use Rattle.cmis_spec.specs.Access.{object_named, rank}
 use Rattle.cmis_spec.specs.Values.{words, texts, form_value}
 
@@ -171,15 +174,31 @@ ComesBefore a b = ordering_then (slice_cmp nat_cmp a.principal b.principal) (nat
 abbrev pub IsAceList : List Ace → Type 0
 IsAceList aces = Apart ComesBefore aces × All (λ a. 1 ≤ rank a.level) aces
 
+-- an object that is no document
+abbrev pub IsAloneAt : Repository → Oid → Type 0
+IsAloneAt r n = (x : Object) × (object_at r n ≡ Some x) × (is_a r bases.Document x ≡ false)
+
+-- a list is of such an object, or of a series
 abbrev pub IsAccess : Repository → AccessList → Type 0
-IsAccess r l = (IsThere r l.at ⊎ IsSeriesAt r l.at) × IsAceList l.aces
+IsAccess r l = (IsAloneAt r l.at ⊎ IsSeriesAt r l.at) × IsAceList l.aces
 
 abbrev pub HasAccess : Repository → Type 0
 HasAccess r = Apart (λ k l. k.at.0 < l.at.0) r.access × All (IsAccess r) r.access
 
+abbrev pub is_listed : List AccessList → Oid → Bool
+is_listed access n = list_any (λ l. same l.at n) access
+
+-- and each has one: each object by itself, a document by its series
+abbrev pub HasLists : Repository → Type 0
+HasLists r = All (λ x. is_listed r.access (entry_of x) ≡ true) r.objects
+
 -- contents are of documents
 abbrev pub HasContents : Repository → Type 0
 HasContents r = Apart (λ c d. c.of.0 < d.of.0) r.contents × All (λ c. IsBaseAt r bases.Document c.of × (c.step ≤ r.step)) r.contents
+
+-- and have no more bytes than this
+abbrev pub HasSizes : Repository → Type 0
+HasSizes r = All (λ c. length c.stream.pieces ≤ longest_stream) r.contents
 
 -- ---- types and values
 
@@ -194,22 +213,35 @@ abbrev pub ends_at_base : ℕ → List TypeDef → List ℕ → Bool
 ends_at_base zero types id = false
 ends_at_base (suc n) types id = unwrap_or (option_map (λ t. unwrap_or (option_map (ends_at_base n types) t.parent) true) (type_in types id)) false
 
--- type ids and query names are unique, and each chain ends at a base type
+-- each base type is there as its row says
+unfoldable pub HasBases : List TypeDef → Type 0
+HasBases types = All (λ b. type_in types b.id ≡ Some b) base_types
+
+-- the last of its chain is the base type of its base
+abbrev pub IsRooted : List TypeDef → TypeDef → Type 0
+IsRooted types t = option_map (λ b. b.id) (last_of (chain types t.id)) ≡ Some (base_id t.base)
+
+-- type ids and query names are unique, and each chain ends at a base type; types and their properties stand in byte order
 abbrev pub HasTypes : List TypeDef → Type 0
 HasTypes types =
     Apart (λ s t. bytes_eq s.id t.id ≡ false) types
     × Apart (λ s t. bytes_eq s.query_name t.query_name ≡ false) types
     × All (λ t. ends_at_base longest_chain types t.id ≡ true) types
+    × HasBases types
+    × All (IsRooted types) types
+    × Apart (λ s t. slice_cmp nat_cmp s.id t.id ≡ Less) types
+    × All (λ t. Apart (λ d e. slice_cmp nat_cmp d.id e.id ≡ Less) t.properties) types
 
 -- no other property has this one's id or query name
 abbrev pub Agrees : PropDef → List PropDef → Type 0
 Agrees d defs = All (λ e. (bytes_eq d.id e.id || bytes_eq d.query_name e.query_name) ≡ true → d ≡ e) defs
 
--- every text is a value of the properties that are kept beside the others
+-- every text is a value of the properties that are kept beside the others; the comment of a check-in is any text or none
 abbrev pub TakesTexts : PropDef → Type 0
 TakesTexts d =
     ((bytes_eq d.id (codes "cmis:name") || bytes_eq d.id (codes "cmis:objectTypeId")) ≡ true → (t : List ℕ) → is_faulty d (words t) ≡ false)
     × (bytes_eq d.id (codes "cmis:secondaryObjectTypeIds") ≡ true → (ts : List (List ℕ)) → is_faulty d (texts ts) ≡ false)
+    × (bytes_eq d.id (codes "cmis:checkinComment") ≡ true → (is_faulty d Unset ≡ false) × ((t : List ℕ) → is_faulty d (words t) ≡ false))
 
 -- and its default value has no fault of its own
 abbrev pub IsDef : List TypeDef → PropDef → Type 0
@@ -224,6 +256,16 @@ IsKept r defs x = All (λ d. is_faulty d (form_value r x d.id) ≡ false) defs
 
 abbrev pub HasKept : Repository → Type 0
 HasKept r = All (λ x. IsKept r (props_of r.types x.kind x.secondary) x) r.objects
+
+-- an object keeps values of its own properties alone
+abbrev pub IsOwn : List TypeDef → Object → Slot → Type 0
+IsOwn types x s = is_some (def_of (props_of types x.kind x.secondary) s.id) ≡ true
+
+abbrev pub OwnsValues : List TypeDef → Object → Type 0
+OwnsValues types x = All (IsOwn types x) x.values
+
+abbrev pub HasOwnValues : Repository → Type 0
+HasOwnValues r = All (OwnsValues r.types) r.objects
 
 -- ---- bounds
 
@@ -258,11 +300,14 @@ pub record IsWellFormed (r : Repository) : Type 0 where
   pub relationships : HasRelationships r
   pub policies : HasPolicies r
   pub access : HasAccess r
+  pub listed : HasLists r
   pub contents : HasContents r
+  pub sizes : HasSizes r
   pub typed : HasTyped r
   pub types : HasTypes r.types
   pub defs : HasDefs r.types
   pub kept : HasKept r
+  pub own_values : HasOwnValues r
   pub bounds : HasBounds r
   pub tokens : HasTokens r
   pub labels : HasLabels r

@@ -4,6 +4,7 @@
 ghost use Rattle.std.specs.Prelude.{◌≡◌};
 
 pub mod laws;
+pub mod serve;
 #[cfg(test)]
 mod tests;
 pub mod words;

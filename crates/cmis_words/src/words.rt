@@ -44,7 +44,7 @@ pub enum WordsStop {
     Memory,
 }
 
-fn behind<'a>(word: &'a [u8], name: &[u8]) -> Option<&'a [u8]>
+pub(crate) fn behind<'a>(word: &'a [u8], name: &[u8]) -> Option<&'a [u8]>
     ensures { option_map (λ s. s.now) result ≡ behind name.now word.now }
 {
     word.strip_prefix(name)

@@ -1,8 +1,9 @@
 //! The program: it makes the real objects, calls the top call and ends with its status.
 #![tactic(auto)]
 
-use cmis_app::run_once;
-use real_edge::{StdSink, StdSource, SystemClock};
+use cmis_app::run;
+use outside::OpenGate;
+use real_edge::{StdSink, StdSource, SystemClock, TcpHost};
 use std::alloc::{AllocError, Global};
 use std::env;
 use std::process::ExitCode;
@@ -26,8 +27,19 @@ fn main(rt: HostRuntime) -> ExitCode {
         Ok(words) => {
             let mut input = StdSource::new(rt.stdin());
             let mut output = StdSink::new(rt.stdout());
+            let mut host = TcpHost::new(&rt);
             let mut clock = SystemClock::new(&rt);
-            ExitCode::from(run_once(alloc, &words, &mut input, &mut output, &mut clock))
+            let ran = run(
+                &rt,
+                alloc,
+                &words,
+                &mut input,
+                &mut output,
+                &mut host,
+                &mut clock,
+                &OpenGate,
+            );
+            ExitCode::from(ran.status)
         }
         Err(_) => ExitCode::from(7),
     }

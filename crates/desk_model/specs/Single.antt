@@ -28,6 +28,10 @@ with_made d m = record { opening = d.opening; journal = d.journal; base = d.base
 abbrev pub with_journal : {S C : Type 0} → Single S C → List (Entry C) → Single S C
 with_journal d h = record { opening = d.opening; journal = h; base = d.base; made = d.made; words = d.words }
 
+-- a desk of one thread is alone
+abbrev pub the_place : {S C : Type 0} → Known S C → List ℕ
+the_place p = []
+
 -- the pass is one of the desk, and all entries of its number in the desk's journal are its own
 pub record IsOf {S C A X : Type 0} (next : S → Entry C → Result (S × A) X) (d : Single S C) (p : Known S C) : Type 0 where
   pub opening : p.opening ≡ d.opening

@@ -1,5 +1,5 @@
 //! Desks: where writes are made one after the other, and looked at.
-ghost use Rattle.std.specs.Prelude.{◌≡◌, ◌≢◌, ℕ, Option, Some, IfSome, MatchResult, Result, drop};
+ghost use Rattle.std.specs.Prelude.{◌≡◌, ◌≢◌, ℕ, List, Option, Some, IfSome, MatchResult, Result, drop};
 ghost use Rattle.outside.specs.Clocks.{Words, first_word, rest_words};
 ghost use Rattle.desk_model.specs.Clocks.{moment_of};
 ghost use Rattle.desk_model.specs.Histories.{CallersBelow};
@@ -24,6 +24,9 @@ pub trait Desk {
 
     /// What a pass knows.
     ghost known: { Self.Pass → Known Self.Kind.State Self.Kind.Call };
+
+    /// What tells the pass's desk from others, as numbers.
+    ghost place: { Self.Pass → List ℕ };
 
     /// The words of the clock that are still to come, where the desk tells them.
     ghost words: { Self → Option Words };
@@ -52,6 +55,7 @@ pub trait Desk {
         ensures wrote { Wrote Self.Kind.next Self.Kind.number (known pass.old) least user.now moment call result (known pass.new) }
         ensures words { words self.new ≡ words self.old }
         ensures is_of { is_of self.new pass.new }
+        ensures place { place pass.new ≡ place pass.old }
         ensures callers { callers self.new ≡ callers self.old }
         ensures passes { (p : Self.Pass) → (known p).caller ≢ (known pass.old).caller → is_of self.old p → is_of self.new p };
 
@@ -65,6 +69,7 @@ pub trait Desk {
         ensures looked { MatchResult result (λ v. Looked (known pass.old) v (known pass.new)) (λ _. known pass.new ≡ known pass.old) }
         ensures words { words self.new ≡ words self.old }
         ensures is_of { is_of self.new pass.new }
+        ensures place { place pass.new ≡ place pass.old }
         ensures callers { callers self.new ≡ callers self.old }
         ensures passes { (p : Self.Pass) → is_of self.old p → is_of self.new p };
 

@@ -4,7 +4,7 @@ ghost use Rattle.std.specs.Arc.{arc_value};
 ghost use Rattle.desk_model.specs.Histories.{History, own, IsLegal, grown, shown_by, state_of};
 ghost use Rattle.desk_model.specs.Desks.{Known, known_at, entry_of, Wrote, Looked};
 ghost use Rattle.desk_model.specs.Halts.{TellsThird};
-ghost use Rattle.desk_model.specs.Single.{Single, IsOf, Kept, with_made};
+ghost use Rattle.desk_model.specs.Single.{Single, IsOf, Kept, the_place, with_made};
 
 use crate::clock::moment_of_word;
 use crate::desk::Desk;
@@ -150,6 +150,8 @@ impl<M: Machine, C: Clock> Desk for OneDesk<M, C> {
 
     ghost known = { λ p. p };
 
+    ghost place = { the_place };
+
     ghost words = { λ d. d.words };
 
     ghost callers = { λ d. d.made };
@@ -173,6 +175,7 @@ impl<M: Machine, C: Clock> Desk for OneDesk<M, C> {
         ensures kept { Kept self.old self.new pass.new (entry_of pass.old user.now moment call) result }
         ensures words { self.new.words ≡ self.old.words }
         ensures is_of { IsOf M.next self.new pass.new }
+        ensures place { the_place pass.new ≡ the_place pass.old }
         ensures callers { self.new.made ≡ self.old.made }
         ensures passes { (p : Known M.State M.Call) → p.caller ≢ pass.old.caller → IsOf M.next self.old p → IsOf M.next self.new p }
     {
@@ -209,6 +212,7 @@ impl<M: Machine, C: Clock> Desk for OneDesk<M, C> {
         ensures kept { self.new ≡ self.old }
         ensures words { self.new.words ≡ self.old.words }
         ensures is_of { IsOf M.next self.new pass.new }
+        ensures place { the_place pass.new ≡ the_place pass.old }
         ensures callers { self.new.made ≡ self.old.made }
         ensures passes { (p : Known M.State M.Call) → IsOf M.next self.old p → IsOf M.next self.new p }
     {

@@ -10,3 +10,4 @@ pub mod read;
 mod tests;
 pub mod tree;
 pub mod values;
+pub mod write;

@@ -5,4 +5,4 @@ ghost use Rattle.std.specs.Prelude.{◌≡◌};
 
 pub mod children;
 pub mod law;
-mod page;
+pub mod page;

@@ -36,14 +36,14 @@ fn front<'a, 'b, T>(most: u64, items: &'a [&'b T]) -> &'a [&'b T]
 }
 
 /// The page of at most so many items behind those that are passed over, and of at most 1000.
-pub(crate) fn page<'a, 'b, T>(skip: u64, asked: u64, items: &'a [&'b T]) -> &'a [&'b T]
+pub fn page<'a, 'b, T>(skip: u64, asked: u64, items: &'a [&'b T]) -> &'a [&'b T]
     ensures { result.now ≡ page skip asked items.now }
 {
     front(page_size(asked), behind(skip, items))
 }
 
 /// Whether items come after the page.
-pub(crate) fn has_more<T>(skip: u64, asked: u64, items: &[&T]) -> bool
+pub fn has_more<T>(skip: u64, asked: u64, items: &[&T]) -> bool
     ensures { result ≡ has_more skip asked items.now }
 {
     skip.saturating_add(page_size(asked)) < items.len() as u64

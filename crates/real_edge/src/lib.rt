@@ -1,13 +1,15 @@
-//! The real objects behind the traits of `outside`: standard input, standard output and the system's clock.
+//! The real objects behind the traits of `outside`: standard input, standard output, the system's clock, and connections on loopback.
 //! They keep their count of faults, and tell nothing of content.
 #![tactic(auto)]
 
 mod clock;
 mod sink;
 mod source;
+mod tcp;
 #[cfg(test)]
 mod tests;
 
 pub use clock::{LATEST_MS, SystemClock};
 pub use sink::StdSink;
 pub use source::StdSource;
+pub use tcp::{TcpHost, TcpLink};

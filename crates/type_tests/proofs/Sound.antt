@@ -10,7 +10,7 @@ use Rattle.cm_types.specs.declared.property.Cardinality.TheVariants.{Single, Mul
 use Rattle.cm_types.specs.declared.property.Updatability.{Updatability}
 use Rattle.cm_types.specs.declared.definition.BaseType.TheVariants as bases
 use Rattle.cm_types.specs.Changes.{of_kind, has_wrong_value}
-use Rattle.cm_basetypes.specs.BaseTypes.{prop, base_row}
+use Rattle.cm_types.specs.BaseTypes.{prop, base_row}
 use Rattle.type_keys.specs.Words.{is_id, is_query_name}
 use Rattle.type_show.specs.ReadBack.{IsSoundProp, IsSoundType}
 

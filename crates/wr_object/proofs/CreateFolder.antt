@@ -29,8 +29,9 @@ use Rattle.cmis_spec.specs.Well.{Apart, ComesBefore, IsBaseAt, IsWellFormed}
 use Rattle.cmis_laws.proofs.Lists.{none_some}
 use Rattle.cmis_laws.proofs.Made.{folder_keeps}
 use Rattle.wr_rules.specs.Rules.{judge_storage, distinct, name_in, type_id_in, secondary_in, unknown_type, has_other_secondary, bars_child, unread_cause, read_all, has_other_policy, policies_in, has_unknown_permission, aces_of, aces_in, new_aces}
-use Rattle.cmis_laws.proofs.Kept.{kept_new}
+use Rattle.cmis_laws.proofs.Kept.{kept_new, owns_new}
 use Rattle.cmis_laws.proofs.Passed.{refused_not, then_ok, refuse_ok, find_ok, first_none, some_none, not_false, or_left, or_right}
+use Rattle.wr_rules.proofs.Known.{known_types}
 use Rattle.wr_rules.proofs.Found.{addressed_there, read_there, named_there}
 use Rattle.wr_object.specs.CreateFolder.{folder_props, is_uncontrollable, refusal_create_folder, new_folder, after_create_folder_in, after_create_folder}
 
@@ -83,15 +84,6 @@ passes r u m cost call h =
       free = refused_not causes.NameTaken (is_taken r a.0.id (new_number r) (name_in call.properties)) n.1;
     }
 
--- ---- parts
-
-typed_of : (types : List TypeDef) (ids : List (List ℕ)) → All (λ id. unknown_type types id ≡ None) ids → All (λ s. is_some (type_in types s) ≡ true) ids
-typed_of types ids h = All-weaker (λ id. unknown_type types id ≡ None) (λ s. is_some (type_in types s) ≡ true) (λ s e. one (type_in types s) e) ids h
-  where
-    one : (o : Option TypeDef) → (if is_none o then Some causes.TypeNotFound else None) ≡ None → is_some o ≡ true
-    one None e = absurd (some_none causes.TypeNotFound e)
-    one (Some t) e = refl
-
 -- ---- the access list permits something in each entry
 
 abbrev Permits : Ace → Type 0
@@ -132,7 +124,7 @@ added_permit : (aces add : List Ace) → All Permits aces → All Permits add �
 added_permit aces [] all more = all
 added_permit aces (a ∷ add) all more = added_permit (with_ace aces a) add (with_permits aces a all (All-head Permits a add more)) (All-tail Permits a add more)
 
-new_permit : (u : List ℕ) (remove add : List AceRequest) → All Permits (new_aces u remove add)
+pub new_permit : (u : List ℕ) (remove add : List AceRequest) → All Permits (new_aces u remove add)
 new_permit u remove add =
     let own : Ace = record { principal = u; level = levels.All } in
     added_permit (without_aces (aces_in remove) (own ∷ [])) (aces_in add)
@@ -145,15 +137,15 @@ policy_at : (r : Repository) (u : List ℕ) (id : List ℕ) (x : Object) → rea
 policy_at r u id x h k = (x, named_there r id x (read_there r u (object_named r id) x h).0, not_false (is_a r bases.Policy x) k)
 
 -- what is asked for of the texts holds of each one where it stands first
-distinct_all : (P : List ℕ → Type 0) (ids : List (List ℕ)) → All P ids → All P (distinct ids)
+pub distinct_all : (P : List ℕ → Type 0) (ids : List (List ℕ)) → All P ids → All P (distinct ids)
 distinct_all P [] all = All-nil P
 distinct_all P (id ∷ ids) all = All-cons P id (filter (λ s. not (bytes_eq s id)) (distinct ids)) (All-head P id ids all)
     (All-filter (λ s. not (bytes_eq s id)) P (distinct ids) (distinct_all P ids (All-tail P id ids all)))
 
-abbrev IsGood : Repository → List ℕ → List ℕ → Type 0
+abbrev pub IsGood : Repository → List ℕ → List ℕ → Type 0
 IsGood r u id = (x : Object) → read_named r u id ≡ Some x → IsBaseAt r bases.Policy x.id
 
-good_all : (r : Repository) (u : List ℕ) (ids : List (List ℕ)) → has_other_policy r u ids ≡ false → All (IsGood r u) ids
+pub good_all : (r : Repository) (u : List ℕ) (ids : List (List ℕ)) → has_other_policy r u ids ≡ false → All (IsGood r u) ids
 good_all r u [] h = All-nil (IsGood r u)
 good_all r u (id ∷ ids) h = elim (read_named r u id) as (λ o. read_named r u id ≡ o → list_any (λ x. not (is_a r bases.Policy x)) (cons_option o (read_all r u ids)) ≡ false → All (IsGood r u) (id ∷ ids)) [
   | None ↦ λ e k. All-cons (IsGood r u) id ids (λ x f. absurd (none_some x (sym e ∙ f))) (good_all r u ids k)
@@ -165,7 +157,7 @@ good_all r u (id ∷ ids) h = elim (read_named r u id) as (λ o. read_named r u 
     same_found : (y x : Object) → Some y ≡ Some x → y ≡ x
     same_found y x h = ap (λ o. elim o [ None ↦ y | Some z ↦ z ]) h
 
-named_all : (r : Repository) (u : List ℕ) (ids : List (List ℕ)) → All (IsGood r u) ids → All (IsBaseAt r bases.Policy) (map (λ (x : Object). x.id) (read_all r u ids))
+pub named_all : (r : Repository) (u : List ℕ) (ids : List (List ℕ)) → All (IsGood r u) ids → All (IsBaseAt r bases.Policy) (map (λ (x : Object). x.id) (read_all r u ids))
 named_all r u [] all = All-nil (IsBaseAt r bases.Policy)
 named_all r u (id ∷ ids) all = elim (read_named r u id) as (λ o. read_named r u id ≡ o → All (IsBaseAt r bases.Policy) (map (λ (x : Object). x.id) (cons_option o (read_all r u ids)))) [
   | None ↦ λ e. named_all r u ids (All-tail (IsGood r u) id ids all)
@@ -189,8 +181,9 @@ keeps_create_folder r u m cost call w h ordered =
       name = name_in call.properties;
       named = refl;
       base = rw p.kind (not_false (same_base bases.Folder p.def.base) (or_left (not (same_base bases.Folder p.def.base)) (has_other_secondary r.types (secondary_in call.properties)) p.base));
-      typed = (ap is_some p.kind, typed_of r.types (secondary_in call.properties) p.known);
+      typed = (ap is_some p.kind, known_types r.types (secondary_in call.properties) p.known);
       kept = kept_new r (type_id_in call.properties) (secondary_in call.properties) call.properties x w.defs p.properties refl;
+      owned = owns_new r.types call.properties x refl;
       token = omega arith;
       listed = (ordered, new_permit u call.remove call.add);
       applied = named_all r u (distinct call.policies) policies_ok;

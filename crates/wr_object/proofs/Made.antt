@@ -1,6 +1,6 @@
 -- What createFolder makes: the room for it, the repository after it, and the folder in it.
 use Rattle.std.specs.Prelude.{◌≡◌, ℕ, ◌+◌, ◌<◌, ◌^◌, false, List, [], ◌∷◌, All, Ok, Some}
-use Rattle.std.proofs.Common.{sym, subst, ◌∙◌, arith}
+use Rattle.std.proofs.Common.{◌∙◌, arith}
 use Rattle.std.proofs.lemmas.Bool.{ltb-false}
 use Rattle.std.proofs.lemmas.List.Elements.{All-weaker}
 use Rattle.cm_base.specs.declared.number.Oid.{Oid}
@@ -11,21 +11,25 @@ use Rattle.cm_base.specs.declared.log.ChangeKind.TheVariants as changes
 use Rattle.cm_call.specs.declared.write.CreateFolder.{CreateFolder}
 use Rattle.cmis_spec.specs.Repository.{Repository, same, most_steps, most_cost, object_at, new_number}
 use Rattle.cmis_spec.specs.Changes.{stepped, noted, with_object, with_pair}
-use Rattle.cmis_spec.specs.Well.{Apart, ComesBefore, HasNumbers, IsWellFormed}
+use Rattle.cmis_spec.specs.Well.{HasNumbers, IsWellFormed}
 use Rattle.cmis_laws.proofs.Lists.{find_last, same_refl}
 use Rattle.cmis_laws.proofs.Entries.{is_other}
 use Rattle.wr_rules.specs.Rules.{policies_in, new_aces}
 use Rattle.wr_object.specs.CreateFolder.{refusal_create_folder, new_folder, after_create_folder}
 use Rattle.wr_object.specs.Parts.{parent_of}
-use Rattle.wr_object.proofs.CreateFolder.{passes, keeps_create_folder}
+use Rattle.wr_object.proofs.CreateFolder.{passes}
 
--- one more step and its cost stay numbers of 64 bits
-pub room_of : (r : Repository) (u : List ℕ) (m : Moment) (cost : ℕ) (call : CreateFolder) → refusal_create_folder r u m cost call ≡ Ok tt
-    → (r.step + 1 < 2 ^ 64) × (r.cost + cost < 2 ^ 64)
+-- one more number, step and cost stay numbers of 64 bits
+pub record HasRoom (r : Repository) (cost : ℕ) : Type 0 where
+  pub next : r.next + 1 < 2 ^ 64
+  pub step : r.step + 1 < 2 ^ 64
+  pub paid : r.cost + cost < 2 ^ 64
+
+pub room_of : (r : Repository) (u : List ℕ) (m : Moment) (cost : ℕ) (call : CreateFolder) → IsWellFormed r → refusal_create_folder r u m cost call ≡ Ok tt → HasRoom r cost
 unfolding most_steps most_cost
-room_of r u m cost call h =
+room_of r u m cost call w h =
     let p = passes r u m cost call h in
-    (omega (arith, ltb-false most_steps (r.step + 1) p.steps), omega (arith, ltb-false most_cost (r.cost + cost) p.bytes))
+    record { next = omega (arith, w.bounds.2, ltb-false most_steps (r.step + 1) p.steps); step = omega (arith, ltb-false most_steps (r.step + 1) p.steps); paid = omega (arith, ltb-false most_cost (r.cost + cost) p.bytes) }
 
 -- the change that is made is the repository after the call
 pub made_is : (r : Repository) (u : List ℕ) (m : Moment) (cost : ℕ) (call : CreateFolder) (x : Object) (aces : List Ace) (policies : List Oid) (parent : Oid)
@@ -33,15 +37,6 @@ pub made_is : (r : Repository) (u : List ℕ) (m : Moment) (cost : ℕ) (call : 
     → noted (stepped (with_pair (with_object r x aces policies) parent x.id) cost) changes.Created x.id m [] ≡ after_create_folder r u m cost call
 made_is r u m cost call x aces policies parent e f g h =
     λ i. noted (stepped (with_pair (with_object r (e i) (f i) (g i)) (h i) (e i).id) cost) changes.Created (e i).id m []
-
--- and it is well formed
-pub made_well : (r : Repository) (u : List ℕ) (m : Moment) (cost : ℕ) (call : CreateFolder) (x : Object) (aces : List Ace) (policies : List Oid) (parent : Oid)
-    → IsWellFormed r → refusal_create_folder r u m cost call ≡ Ok tt → Apart ComesBefore aces
-    → x ≡ new_folder r u m call → aces ≡ new_aces u call.remove call.add → policies ≡ policies_in r u call.policies → parent ≡ parent_of r u call
-    → IsWellFormed (noted (stepped (with_pair (with_object r x aces policies) parent x.id) cost) changes.Created x.id m [])
-made_well r u m cost call x aces policies parent w h ordered e f g k =
-    subst IsWellFormed (sym (made_is r u m cost call x aces policies parent e f g k))
-    (keeps_create_folder r u m cost call w h (subst (Apart ComesBefore) f ordered))
 
 -- the new folder is found under its number
 pub new_is_there : (r : Repository) (u : List ℕ) (m : Moment) (cost : ℕ) (call : CreateFolder) → HasNumbers r → object_at (after_create_folder r u m cost call) (new_number r) ≡ Some (new_folder r u m call)

@@ -15,6 +15,7 @@ ghost use Rattle.wr_object.specs.CreateFolder.{cost_create_folder, refusal_creat
 ghost use Rattle.wr_object.specs.Parts.{wanted_in, judge_found, refusal_in_parts, parent_of};
 
 use crate::folder_rules::{judge_kinds, judge_name, judge_place, judge_values};
+use crate::making::made_in;
 use crate::wanted::{Wanted, wanted_by};
 use cm_base::cause::Cause;
 use cm_base::copies::Copies;
@@ -189,8 +190,8 @@ fn with_folder(
     let aces = new_aces(alloc, user, call.remove.as_slice(), call.add.as_slice())?;
     let policies = policies_in(alloc, state, user, call.policies.as_slice())?;
     let policies = policies.as_slice();
-    let made = state.with_child(alloc, object, aces, policies, parent, cost, moment)?;
-    Ok(made)
+    let draft = made_in(alloc, state, object, aces, policies, parent, cost, moment)?;
+    Ok(draft.seal())
 }
 
 // The reply that shows an object which was just made.

@@ -5,4 +5,5 @@ ghost use Rattle.std.specs.Prelude.{◌≡◌};
 
 pub mod create_folder;
 mod folder_rules;
+mod making;
 pub mod wanted;

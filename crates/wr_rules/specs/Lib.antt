@@ -1,3 +1,4 @@
+pub mod Documents
 pub mod Rules
 pub mod Firsts
 pub mod Named

@@ -1,5 +1,5 @@
 use Rattle.std.proofs.Common.{◌≡◌, map, take}
-use Rattle.cm_basetypes.specs.BaseTypes.{base_row}
+use Rattle.cm_types.specs.BaseTypes.{base_row}
 use Rattle.cm_basetypes.proofs.base_types.table.Given as goal
 
 abbrev pub invariant-loop-base : goal.invariant-loop-base

@@ -1,5 +1,5 @@
 use Rattle.std.proofs.Common.{◌≡◌, ◌++◌, map, take}
-use Rattle.cm_basetypes.specs.BaseTypes.{prop}
+use Rattle.cm_types.specs.BaseTypes.{prop}
 use Rattle.cm_basetypes.proofs.props.add_rows.Given as goal
 
 abbrev pub invariant-loop-id : goal.invariant-loop-id

@@ -22,6 +22,7 @@ steps-init g c = record {
     fault_head = c.fault_holds_its_head.ensures;
   };
   callers = refl;
+  place = refl;
   is_of = c.requires.is_of;
   few = omega arith;
   stands_for = refl;
@@ -41,6 +42,7 @@ steps-preserved g c =
     record {
       laws = c.steps.invariant.laws;
       callers = c.step.ensures.callers ∙ c.steps.invariant.callers;
+      place = c.step.ensures.place ∙ c.steps.invariant.place;
       is_of = c.step.ensures.is_of;
       few = on.0;
       stands_for = c.step.ensures.stands_for ∙ c.steps.invariant.stands_for;

@@ -8,6 +8,7 @@ abbrev pub invariant-steps : goal.invariant-steps
 invariant-steps g l = record {
   laws : GrammarLaws;
   callers : g.D.Desk.callers l.desk ≡ g.D.Desk.callers l.fn.desk;
+  place : g.D.Desk.place l.pass ≡ g.D.Desk.place l.fn.pass;
   is_of : g.D.Desk.is_of l.desk l.pass;
   few : l.count < 1000;
   stands_for : g.L.Link.stands_for l.link ≡ g.L.Link.stands_for l.fn.link;

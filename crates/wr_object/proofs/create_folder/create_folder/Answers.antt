@@ -8,7 +8,7 @@ use Rattle.wr_object.proofs.Made.{room_of, made_is_found}
 use Rattle.wr_object.proofs.create_folder.create_folder.Goals as goal
 
 pub new_folder-requires : goal.new_folder-requires
-new_folder-requires c = record { room = (room_of c.args.state.now c.args.user.now c.args.moment c.cost_of-cost.result c.args.call.now c.in_ok-parent.ensures.0).0 }
+new_folder-requires c = record { room = (room_of c.args.state.now c.args.user.now c.args.moment c.cost_of-cost.result c.args.call.now c.step-step.ensures.well c.in_ok-parent.ensures.0).step }
 
 pub with_reply-requires : goal.with_reply-requires
 with_reply-requires c = record {

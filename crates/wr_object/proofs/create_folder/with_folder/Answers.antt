@@ -1,16 +1,38 @@
-use Rattle.std.proofs.Common.{◌≡◌, ap, ◌∙◌}
+use Rattle.std.proofs.Common.{◌≡◌, ap, sym, subst, ◌∙◌}
+use Rattle.cmis_spec.specs.Well.{Apart, ComesBefore, IsWellFormed}
 use Rattle.wr_rules.specs.Rules.{policies_in, new_aces}
-use Rattle.wr_object.proofs.Made.{room_of, made_well}
+use Rattle.wr_object.specs.CreateFolder.{after_create_folder}
+use Rattle.wr_object.proofs.CreateFolder.{keeps_create_folder}
+use Rattle.wr_object.proofs.Made.{room_of, made_is}
 use Rattle.wr_object.proofs.create_folder.with_folder.Goals as goal
+use Rattle.wr_object.proofs.create_folder.with_folder.Goals.{In_ok-draft}
 
-pub with_child-requires-clause-room : goal.with_child-requires-clause-room
-with_child-requires-clause-room c = (room_of c.args.state.now c.args.user.now c.args.moment c.args.cost c.args.call.now c.requires.allowed).1
+pub made_in-requires : goal.made_in-requires
+made_in-requires c =
+    let room = room_of c.args.state.now c.args.user.now c.args.moment c.args.cost c.args.call.now c.step-step.ensures.well c.requires.allowed in
+    record { number = ap (λ x. x.id) c.requires.object; next = room.next; step = room.step; cost = room.paid }
 
-pub with_child-requires-clause-well : goal.with_child-requires-clause-well
-with_child-requires-clause-well c =
+aces_are : (c : In_ok-draft) → c.in_ok-aces.aces ≡ new_aces c.args.user.now c.args.call.now.remove c.args.call.now.add
+aces_are c = c.in_ok-aces.ensures.list ∙ (λ i. new_aces c.args.user.now (c.as_slice.ensures i) (c.as_slice-2.ensures i))
+
+is_after : (c : In_ok-draft) → c.in_ok-draft.draft ≡ after_create_folder c.args.state.now c.args.user.now c.args.moment c.args.cost c.args.call.now
+is_after c =
+    let r = c.args.state.now in
     let u = c.args.user.now in
     let call = c.args.call.now in
-    let aces : c.in_ok-aces.aces ≡ new_aces u call.remove call.add = c.in_ok-aces.ensures.list ∙ (λ i. new_aces u (c.as_slice.ensures i) (c.as_slice-2.ensures i)) in
-    let policies : c.as_slice-policies.result.now ≡ policies_in c.args.state.now u call.policies = c.as_slice-policies.ensures ∙ c.in_ok-policies.ensures ∙ ap (policies_in c.args.state.now u) c.as_slice-3.ensures in
-    made_well c.args.state.now u c.args.moment c.args.cost call c.args.object c.in_ok-aces.aces c.as_slice-policies.result.now c.args.parent
-    c.step-step.ensures.well c.requires.allowed c.in_ok-aces.ensures.ordered c.requires.object aces policies c.requires.parent
+    c.in_ok-draft.ensures ∙ made_is r u c.args.moment c.args.cost call c.args.object c.in_ok-aces.aces c.as_slice-policies.result.now c.args.parent c.requires.object (aces_are c)
+    (c.as_slice-policies.ensures ∙ c.in_ok-policies.ensures ∙ ap (policies_in r u) c.as_slice-3.ensures) c.requires.parent
+
+pub seal-requires : goal.seal-requires
+seal-requires c = record {
+  well = subst IsWellFormed (sym (is_after c)) (keeps_create_folder c.args.state.now c.args.user.now c.args.moment c.args.cost c.args.call.now c.step-step.ensures.well c.requires.allowed (subst (Apart ComesBefore) (aces_are c) c.in_ok-aces.ensures.ordered));
+}
+
+pub returns : goal.returns
+returns c =
+    let r = c.args.state.now in
+    let u = c.args.user.now in
+    let call = c.args.call.now in
+    c.seal.ensures ∙ (c.in_ok-draft.ensures ∙ made_is r u c.args.moment c.args.cost call c.args.object c.in_ok-aces.aces c.as_slice-policies.result.now c.args.parent c.requires.object
+    (c.in_ok-aces.ensures.list ∙ (λ i. new_aces u (c.as_slice.ensures i) (c.as_slice-2.ensures i)))
+    (c.as_slice-policies.ensures ∙ c.in_ok-policies.ensures ∙ ap (policies_in r u) c.as_slice-3.ensures) c.requires.parent)

@@ -5,14 +5,14 @@ use Rattle.cm_folder.specs.Filings.{is_name_taken}
 use Rattle.cm_folder.proofs.Lookups.{folders_of, taken_in_one}
 use Rattle.cm_folder.proofs.filing.Filing.is_name_taken.Goals as goal
 
-pub returns-in_ok-taken-in-Some : goal.returns-in_ok-taken-in-Some
-returns-in_ok-taken-in-Some c =
+pub returns-in-Some : goal.returns-in-Some
+returns-in-Some c =
     let list = c.args.self.now in
     let n = c.args.child in
     let name = c.args.name.now in
     let s = c.self.inside in
-    c.in_ok-taken-in-Some.ensures.value
-    ∙ ap (list_any (λ e. is_name_taken list e.1 n name)) (folders_of s.parts.entries s.parts.by_child s.parts.by_folder s.parts.by_name c.self.invariant.indexed n.0 _ (ap option_copied (sym c.in-Some.is) ∙ c.bucket.ensures) c.in_ok-taken-in-Some.ensures.sorted)
+    c.is_taken_in_one.ensures.value
+    ∙ ap (list_any (λ e. is_name_taken list e.1 n name)) (folders_of s.parts.entries s.parts.by_child s.parts.by_folder s.parts.by_name c.self.invariant.indexed n.0 _ (ap option_copied (sym c.in-Some.is) ∙ c.bucket.ensures) c.is_taken_in_one.ensures.sorted)
     ∙ taken_in_one n (λ f. is_name_taken list f n name) s.parts.entries
     ∙ ap (list_any (λ e. same e.child n && is_name_taken list e.folder n name)) c.self.view_is
 

@@ -17,7 +17,6 @@ returns c =
     record {
       indexed = indexed_changed old.entries c.in_ok-entries.entries n e (Some e) old.by_child c.in_ok-by_child.by_child old.by_folder c.in_ok-by_folder.by_folder old.by_name c.in_ok-by_name.by_name c.requires.indexed (inl (c.requires.free, refl))
           (subst (λ l. T (is_sorted nat_cmp l)) (sym at) (is_sorted-put nat_cmp nat_cmp_total n e old.entries c.requires.indexed.sorted))
-          (λ p. ap (find nat_cmp p) at ∙ find-put_at p n e old.entries) c.in_ok-by_child.ensures.found c.in_ok-by_folder.ensures.found
-          (λ k p. c.in_ok-by_name.ensures.found k p ∙ (λ i. if eq_by_cmp name_order k (e.folder.0, c.in_ok-name.ensures i) && eq_by_cmp nat_cmp p n then Some e.child else find_in name_order nat_cmp old.by_name k p));
+          (λ p. ap (find nat_cmp p) at ∙ find-put_at p n e old.entries) c.in_ok-by_child.ensures.found c.in_ok-by_folder.ensures.found c.in_ok-by_name.ensures;
       entries = at;
     }

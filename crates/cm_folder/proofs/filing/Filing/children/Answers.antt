@@ -1,0 +1,16 @@
+use Rattle.std.proofs.Common.{map, option_copied, sym, ap, ◌∙◌}
+use Rattle.cm_folder.specs.Filings.{children_in}
+use Rattle.cm_folder.proofs.Lookups.{children_of, children_same}
+use Rattle.cm_folder.proofs.filing.Filing.children.Goals as goal
+
+pub returns-in-Some : goal.returns-in-Some
+returns-in-Some c =
+    let s = c.self.inside in
+    ap (map (λ e. e.1)) (children_of s.parts.entries s.parts.by_child s.parts.by_folder s.parts.by_name c.self.invariant.indexed c.args.folder.0 _ (ap option_copied (sym c.in-Some.is) ∙ c.bucket.ensures) c.len-sorted.ensures.sorted)
+    ∙ children_same c.args.folder s.parts.entries ∙ ap (λ l. children_in l c.args.folder) c.self.view_is
+
+pub returns-in-None : goal.returns-in-None
+returns-in-None c =
+    let s = c.self.inside in
+    ap (map (λ e. e.1)) (children_of s.parts.entries s.parts.by_child s.parts.by_folder s.parts.by_name c.self.invariant.indexed c.args.folder.0 _ (ap option_copied (sym c.in-None.is) ∙ c.bucket.ensures) tt)
+    ∙ children_same c.args.folder s.parts.entries ∙ ap (λ l. children_in l c.args.folder) c.self.view_is

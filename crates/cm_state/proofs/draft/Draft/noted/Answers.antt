@@ -1,0 +1,11 @@
+use Rattle.std.proofs.Common.{ap, ◌∙◌}
+use Rattle.cmis_spec.specs.Changes.{noted}
+use Rattle.cm_state.specs.Kept.{repository_of}
+use Rattle.cm_state.proofs.Drafts.{beside_draft}
+use Rattle.cm_state.proofs.draft.Draft.noted.Goals as goal
+
+pub invariant_of-result : goal.invariant_of-result
+invariant_of-result c = beside_draft c.self.inside c.in_ok-lists.lists (ap (λ l. l.objects) c.in_ok-lists.ensures) (ap (λ l. l.series) c.in_ok-lists.ensures) c.self.invariant
+
+pub returns : goal.returns
+returns c = ap (λ l. repository_of (record c.self.inside { lists = l })) c.in_ok-lists.ensures ∙ ap (λ r. noted r c.args.kind c.args.object c.args.moment c.args.readers) c.self.view_is

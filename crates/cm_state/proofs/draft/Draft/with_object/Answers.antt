@@ -1,0 +1,28 @@
+use Rattle.std.proofs.Common.{◌+◌, ◌<◌, All, refl, sym, ap, subst, ◌∙◌}
+use Rattle.std.specs.Arc.{arc_value}
+use Rattle.cmis_spec.specs.Changes.{with_object}
+use Rattle.cm_state.proofs.Entries.{object_agrees}
+use Rattle.cm_state.proofs.Others.{other_last}
+use Rattle.cm_state.proofs.Drafts.{retold_is, retold_draft}
+use Rattle.cm_state.proofs.draft.Draft.with_object.Goals as goal
+
+pub invariant_of-result : goal.invariant_of-result
+invariant_of-result c =
+    let s = c.self.inside in
+    let x = c.args.object in
+    retold_draft s _ c.deref.ensures c.in_ok-lists.lists _ c.in_ok-lists.ensures (s.next + 1) c.in_ok-filing.filing x.id c.in_ok-filing.ensures c.self.invariant
+    (λ m o. object_agrees (arc_value s.types) s.lists.series s.lists.objects _ m (other_last (λ y. y.id) s.lists.objects x x.id m refl o))
+
+pub returns : goal.returns
+returns c =
+    let s = c.self.inside in
+    let x = c.args.object in
+    retold_is s _ c.deref.ensures c.in_ok-lists.lists _ c.in_ok-lists.ensures (s.next + 1) c.in_ok-filing.filing x.id c.in_ok-filing.ensures c.self.invariant
+    (λ m o. object_agrees (arc_value s.types) s.lists.series s.lists.objects _ m (other_last (λ y. y.id) s.lists.objects x x.id m refl o))
+    ∙ ap (λ r. with_object r x c.args.aces c.args.policies.now) c.self.view_is
+
+pub lists_with-requires : goal.lists_with-requires
+lists_with-requires c = record {
+  objects = subst (λ r. All (λ x. x.id.0 < c.args.object.id.0) r.objects) (sym c.self.view_is) c.requires.objects;
+  access = subst (λ r. All (λ l. l.at.0 < c.args.object.id.0) r.access) (sym c.self.view_is) c.requires.access;
+}

@@ -1,6 +1,0 @@
-use Rattle.std.proofs.Common.{◌≡◌, map}
-use Rattle.map_keys.specs.Parts.{pointee}
-use Rattle.cm_state.proofs.filing.numbers.Given as goal
-
-abbrev pub invariant-loop-entry : goal.invariant-loop-entry
-invariant-loop-entry l = l.all ≡ map (λ e. record { 0 = e.0 }) (map pointee l.yielded)

@@ -1,0 +1,77 @@
+//! The changes of which new documents are made: an object of a series, policies, and a content at the end.
+ghost use Rattle.std.specs.Prelude.{◌≡◌, ◌+◌, ◌<◌, ◌^◌, [], ◌∷◌, ◌++◌, IfOk, map, All};
+ghost use Rattle.cmis_spec.specs.Documents.{with_member, with_policies, with_content};
+
+use crate::change::applied_with;
+use crate::draft::Draft;
+use crate::lists::Lists;
+use crate::told::retold;
+use cm_base::content::Content;
+use cm_base::number::Oid;
+use cm_base::object::Object;
+use std::alloc::{AllocError, Global};
+
+fn lists_with(alloc: Global, lists: Lists, object: Object) -> Result<Lists, AllocError>
+    requires above { All (λ x. x.id.0 < object.id.0) lists.objects }
+    ensures { IfOk result (λ l. l ≡ record lists { objects = lists.objects ++ object ∷ [] }) }
+{
+    let objects = lists.objects.with_last(alloc, object)?;
+    Ok(Lists { objects, ..lists })
+}
+
+fn lists_applied(alloc: Global, lists: Lists, object: Oid, policies: &[Oid]) -> Result<Lists, AllocError>
+    ensures { IfOk result (λ l. l ≡ record lists { applied = lists.applied ++ map (λ p. record { policy = p; object = object }) policies.now }) }
+{
+    let applied = applied_with(alloc, &lists.applied, policies, object)?;
+    Ok(Lists { applied, ..lists })
+}
+
+fn lists_filled(alloc: Global, lists: Lists, content: Content) -> Result<Lists, AllocError>
+    requires above { All (λ c. c.of.0 < content.of.0) lists.contents }
+    ensures { IfOk result (λ l. l ≡ record lists { contents = lists.contents ++ content ∷ [] }) }
+{
+    let contents = lists.contents.with_last(alloc, content)?;
+    Ok(Lists { contents, ..lists })
+}
+
+impl Draft {
+    /// A new object of a series, without an access list of its own. Its number is above those of all others.
+    pub fn with_member(self, alloc: Global, object: Object) -> Result<Draft, AllocError>
+        requires room { self.next + 1 < 2 ^ 64 }
+        requires above { All (λ x. x.id.0 < object.id.0) self.objects }
+        ensures { IfOk result (λ d. d ≡ with_member self object) }
+    {
+        let number = object.id;
+        let lists = lists_with(alloc, self.lists, object)?;
+        let filing = retold(alloc, &self.filing, &self.types, &lists, number)?;
+        let next = self.next + 1;
+        Ok(Draft {
+            filing,
+            lists,
+            next,
+            ..self
+        })
+    }
+
+    /// Policies more on an object.
+    pub fn with_policies(
+        self,
+        alloc: Global,
+        object: Oid,
+        policies: &[Oid],
+    ) -> Result<Draft, AllocError>
+        ensures { IfOk result (λ d. d ≡ with_policies self object policies.now) }
+    {
+        let lists = lists_applied(alloc, self.lists, object, policies)?;
+        Ok(Draft { lists, ..self })
+    }
+
+    /// The content of a document whose number is above those of all others that have one.
+    pub fn with_new_content(self, alloc: Global, content: Content) -> Result<Draft, AllocError>
+        requires above { All (λ c. c.of.0 < content.of.0) self.contents }
+        ensures { IfOk result (λ d. d ≡ with_content self content) }
+    {
+        let lists = lists_filled(alloc, self.lists, content)?;
+        Ok(Draft { lists, ..self })
+    }
+}

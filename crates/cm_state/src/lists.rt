@@ -1,0 +1,80 @@
+//! The lists of a repository by their numbers and places.
+ghost use Rattle.std.specs.Prelude.{◌≡◌, IfOk};
+ghost use Rattle.std.specs.Option.{option_copied};
+ghost use Rattle.cm_state.specs.Told.{object_in, series_in, name_by};
+
+use cm_base::access::AccessList;
+use cm_base::content::{Content, Rendition};
+use cm_base::filing::Applied;
+use cm_base::log::Change;
+use cm_base::number::Oid;
+use cm_base::object::Object;
+use cm_base::series::Series;
+use cm_lists::sequence::Sequence;
+use cm_lists::table::Table;
+use std::alloc::{AllocError, Global};
+
+/// What a repository has of each kind, but the filing. A changed list shares with the old one all that stays.
+#[derive(Drop)]
+pub struct Lists {
+    pub objects: Table<Object>,
+    pub series: Table<Series>,
+    pub access: Table<AccessList>,
+    pub applied: Sequence<Applied>,
+    pub contents: Table<Content>,
+    pub renditions: Table<Rendition>,
+    pub log: Sequence<Change>,
+}
+
+impl Lists {
+    /// The same lists once more, by sharing.
+    pub fn share(&self, alloc: Global) -> Result<Lists, AllocError>
+        ensures { IfOk result (λ s. s ≡ self.now) }
+    {
+        let objects = self.objects.share(alloc)?;
+        let series = self.series.share(alloc)?;
+        let access = self.access.share(alloc)?;
+        let applied = self.applied.share(alloc)?;
+        let contents = self.contents.share(alloc)?;
+        let renditions = self.renditions.share(alloc)?;
+        let log = self.log.share(alloc)?;
+        Ok(Lists {
+            objects,
+            series,
+            access,
+            applied,
+            contents,
+            renditions,
+            log,
+        })
+    }
+
+    /// The object of this number.
+    pub fn object(&self, n: Oid) -> Option<&Object>
+        ensures { option_copied result ≡ object_in self.now.objects n }
+    {
+        self.objects.get(n.0)
+    }
+
+    /// The series of this number.
+    pub fn series(&self, n: Oid) -> Option<&Series>
+        ensures { option_copied result ≡ series_in self.now.series n }
+    {
+        self.series.get(n.0)
+    }
+
+    /// The name of a folder, an item or a series.
+    pub fn entry_text(&self, n: Oid) -> &str
+        ensures { result.now ≡ name_by self.now.series self.now.objects n }
+    {
+        if let Some(series) = self.series(n) {
+            return series.name.as_str();
+        }
+        if let Some(x) = self.object(n) {
+            if let Some(own) = &x.name {
+                return own.as_str();
+            }
+        }
+        ""
+    }
+}

@@ -1,0 +1,170 @@
+//! One run of the program in one thread.
+ghost use Rattle.std.specs.Prelude.{◌≡◌, ◌⊎◌, ◌≤◌, ℕ, map, codes, string_bytes, Some, None, IfSome};
+ghost use Rattle.cm_types.specs.BaseTypes.{base_types};
+ghost use Rattle.cmis_spec.specs.Repository.{opening};
+ghost use Rattle.desk_model.specs.Clocks.{moment_of};
+ghost use Rattle.cmis_words.specs.Programs.{words_of};
+ghost use Rattle.cmis_words.specs.Bounds.{IsMoment};
+ghost use Rattle.cmis_app.specs.Runs.{status_of, OnlyWhereFailed, always, Wrote, Unbegun, Served, Piped, Ran};
+
+use crate::lent::Lent;
+use cm_base::number::Moment;
+use cm_base::user::Users;
+use cm_face::face::Face;
+use cm_opening::open::open;
+use cm_state::state::State;
+use cmis_words::laws::words_are_bounded;
+use cmis_words::words::{Pipe, Words, WordsStop, read_words};
+use desk_model::moment_of_word;
+use http_reply::send;
+use outside::{Clock, FixedClock, Link, OpenGate, Sink, Source};
+use std::alloc::Global;
+use talk::{End, run_alone};
+
+/// The line for words that the program does not have.
+const NOT_VALID: &str = "cmisd: words are not valid\n";
+
+/// The status where memory is wanted.
+const WANTS_MEMORY: u8 = 7;
+
+// A line, and then the status; 4 where the output fails on it.
+fn refused<L: Link>(link: &mut L) -> u8
+    ensures line { Wrote (codes "cmisd: words are not valid") 2 (L.Sink.told link.old) (L.Sink.told link.new) result }
+    ensures unread { L.Source.told link.new ≡ L.Source.told link.old }
+    ensures stands_for { L.stands_for link.new ≡ L.stands_for link.old }
+{
+    match send(link, NOT_VALID.as_bytes()) {
+        Ok(()) => 2,
+        Err(_) => 4,
+    }
+}
+
+fn status_of(end: End) -> u8
+    ensures { result ≡ status_of end }
+{
+    match end {
+        End::Ended => 0,
+        End::ReadFault => 3,
+        End::WriteFault => 4,
+        End::Starved => WANTS_MEMORY,
+        End::Bad(_) => 8,
+    }
+}
+
+// Serves one session over an opening.
+fn serve<L: Link, C: Clock + Drop>(
+    alloc: Global,
+    opening: State,
+    clock: C,
+    users: &Users,
+    link: &mut L,
+) -> u8
+    ensures ran { Unbegun (L.Source.told link.old) (L.Sink.told link.old) (L.Source.told link.new) (L.Sink.told link.new) result
+        ⊎ Served opening users.now (C.words clock) (L.Source.told link.old) (L.Sink.told link.old) (L.Source.told link.new) (L.Sink.told link.new) result }
+    ensures stands_for { L.stands_for link.new ≡ L.stands_for link.old }
+{
+    match run_alone::<Face, C, L, OpenGate>(alloc, opening, clock, users, link, &OpenGate) {
+        Ok(end) => status_of(end),
+        Err(_) => WANTS_MEMORY,
+    }
+}
+
+// The natural number that a moment after 1970 is.
+#[tactic(auto, using(crate::proofs::Moments::is_of_word))]
+fn word_of(moment: Moment) -> u64
+    requires { IsMoment moment }
+    ensures { moment ≡ moment_of result }
+{
+    moment.0.unsigned_abs()
+}
+
+// Serves a session of which each moment is this one.
+#[tactic(auto, unfolding(cmis_spec::specs::Repository::most_steps))]
+fn at_moment<L: Link>(alloc: Global, users: &Users, moment: Moment, from: u64, link: &mut L) -> u8
+    requires moment { IsMoment moment }
+    requires from { from ≤ 1048576 }
+    ensures ran { Unbegun (L.Source.told link.old) (L.Sink.told link.old) (L.Source.told link.new) (L.Sink.told link.new) result
+        ⊎ ((word : ℕ) × (moment ≡ moment_of word) × Served (opening base_types users.now moment from) users.now (Some (always word)) (L.Source.told link.old) (L.Sink.told link.old) (L.Source.told link.new) (L.Sink.told link.new) result) }
+    ensures stands_for { L.stands_for link.new ≡ L.stands_for link.old }
+{
+    let word = word_of(moment);
+    match open(alloc, users, moment, from) {
+        Ok(state) => serve(alloc, state, FixedClock::new(word), users, link),
+        Err(_) => WANTS_MEMORY,
+    }
+}
+
+// Serves a session of which the clock's first word is the moment of the root, and the next ones are those of the writes.
+#[tactic(auto, unfolding(cmis_spec::specs::Repository::most_steps))]
+fn by_clock<L: Link, C: Clock>(
+    alloc: Global,
+    users: &Users,
+    from: u64,
+    link: &mut L,
+    clock: &mut C,
+) -> u8
+    requires from { from ≤ 1048576 }
+    ensures ran { Unbegun (L.Source.told link.old) (L.Sink.told link.old) (L.Source.told link.new) (L.Sink.told link.new) result
+        ⊎ Piped users.now None from (C.words clock.old) (L.Source.told link.old) (L.Sink.told link.old) (L.Source.told link.new) (L.Sink.told link.new) result }
+    ensures stands_for { L.stands_for link.new ≡ L.stands_for link.old }
+{
+    let root = moment_of_word(clock.now());
+    match open(alloc, users, root, from) {
+        Ok(state) => serve(alloc, state, clock, users, link),
+        Err(_) => WANTS_MEMORY,
+    }
+}
+
+// Serves one session.
+fn piped<L: Link, C: Clock>(alloc: Global, asked: &Pipe, link: &mut L, clock: &mut C) -> u8
+    requires at { IfSome asked.now.at IsMoment }
+    requires from { asked.now.from ≤ 1048576 }
+    ensures ran { Unbegun (L.Source.told link.old) (L.Sink.told link.old) (L.Source.told link.new) (L.Sink.told link.new) result
+        ⊎ Piped asked.now.users asked.now.at asked.now.from (C.words clock.old) (L.Source.told link.old) (L.Sink.told link.old) (L.Source.told link.new) (L.Sink.told link.new) result }
+    ensures stands_for { L.stands_for link.new ≡ L.stands_for link.old }
+{
+    match asked.at {
+        Some(moment) => at_moment(alloc, &asked.users, moment, asked.from, link),
+        None => by_clock(alloc, &asked.users, asked.from, link, clock),
+    }
+}
+
+// Runs the program with these words.
+fn run_words<L: Link, C: Clock>(alloc: Global, words: &[String], link: &mut L, clock: &mut C) -> u8
+    ensures ran { Ran (words_of (map string_bytes words.now)) (C.words clock.old) (L.Source.told link.old) (L.Sink.told link.old) (L.Source.told link.new) (L.Sink.told link.new) result }
+    ensures stands_for { L.stands_for link.new ≡ L.stands_for link.old }
+{
+    words_are_bounded();
+    match read_words(alloc, words) {
+        Ok(Words::Pipe(asked)) => piped(alloc, &asked, link, clock),
+        Err(WordsStop::NotValid) => refused(link),
+        Err(WordsStop::Memory) => WANTS_MEMORY,
+    }
+}
+
+// The same, and what the statuses of the sides that failed say.
+fn run_link<L: Link, C: Clock>(alloc: Global, words: &[String], link: &mut L, clock: &mut C) -> u8
+    ensures ran { Ran (words_of (map string_bytes words.now)) (C.words clock.old) (L.Source.told link.old) (L.Sink.told link.old) (L.Source.told link.new) (L.Sink.told link.new) result }
+    ensures failed { OnlyWhereFailed (L.Source.told link.old) (L.Sink.told link.old) (L.Source.told link.new) (L.Sink.told link.new) result }
+    ensures stands_for { L.stands_for link.new ≡ L.stands_for link.old }
+{
+    run_words(alloc, words, link, clock)
+}
+
+/// Runs the program with these words, and answers its status.
+///
+/// 0: the session ended well. 2: the words are not valid. 3, 4: the input, the output failed. 7: memory was wanted.
+/// 8: the bytes of a request have a fault.
+pub fn run_once<I: Source, O: Sink, C: Clock>(
+    alloc: Global,
+    words: &[String],
+    input: &mut I,
+    output: &mut O,
+    clock: &mut C,
+) -> u8
+    ensures ran { Ran (words_of (map string_bytes words.now)) (C.words clock.old) (I.told input.old) (O.told output.old) (I.told input.new) (O.told output.new) result }
+    ensures failed { OnlyWhereFailed (I.told input.old) (O.told output.old) (I.told input.new) (O.told output.new) result }
+{
+    let mut link = Lent { input, output };
+    run_link(alloc, words, &mut link, clock)
+}

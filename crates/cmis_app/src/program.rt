@@ -1,0 +1,143 @@
+//! One run of the program, with one connection or with many.
+ghost use Rattle.std.specs.Prelude.{◌≡◌, ◌⊎◌, ℕ, map, string_bytes, length, Some, None, IfSome, MatchOption};
+ghost use Rattle.desk_model.specs.Histories.{state_of};
+ghost use Rattle.cm_face.specs.Faces.{shown_step};
+ghost use Rattle.cmis_words.specs.Programs.{words_of};
+ghost use Rattle.cmis_words.specs.Serving.{serve_of};
+ghost use Rattle.cmis_app.specs.Runs.{Ran as RunsOnce, OnlyWhereFailed};
+ghost use Rattle.cmis_app.specs.Many.{ServedAll, Hosted, Summed, Unserved, summary, status_of_end, status_of_loss};
+
+use crate::line::summary;
+use crate::many::serve;
+use crate::once::run_once;
+use cm_face::face::Face;
+use cmis_words::serve::{Serve, read_serve};
+use cmis_words::words::WordsStop;
+use desk_serve::{Closing, HostEnd};
+use http_reply::send;
+use outside::{Clock, Gate, Host, Link, Sink, Source};
+use std::alloc::Global;
+use std::sync::Wait;
+
+/// The status where memory is wanted.
+const WANTS_MEMORY: u8 = 7;
+
+/// The status where the host fails.
+const HOST_FAILED: u8 = 5;
+
+/// What a run answers: its status, and what stands once all connections are served, if they were.
+#[derive(Drop)]
+pub struct Ran<L> {
+    pub status: u8,
+    pub closing: Option<Closing<Face, L>>,
+}
+
+fn status_of_end(end: HostEnd) -> u8
+    ensures { result ≡ status_of_end end }
+{
+    match end {
+        HostEnd::Empty | HostEnd::Many => 0,
+        HostEnd::Fault => HOST_FAILED,
+        HostEnd::Memory => WANTS_MEMORY,
+    }
+}
+
+fn status_of_loss(end: HostEnd) -> u8
+    ensures { result ≡ status_of_loss end }
+{
+    match end {
+        HostEnd::Empty | HostEnd::Many => 4,
+        HostEnd::Fault => HOST_FAILED,
+        HostEnd::Memory => WANTS_MEMORY,
+    }
+}
+
+// Writes the line that is written in the end, and answers the status.
+fn sum_up<O: Sink>(output: &mut O, sessions: u64, steps: u64, end: HostEnd) -> u8
+    ensures { Summed end (summary sessions steps) (O.told output.old) (O.told output.new) result }
+{
+    let line = summary(sessions, steps);
+    match send(output, line.bytes()) {
+        Ok(()) => status_of_end(end),
+        Err(_) => status_of_loss(end),
+    }
+}
+
+// Serves many connections.
+fn run_serve<O: Sink, H: Host, C: Clock, G: Gate, R: Wait>(
+    rt: &R,
+    alloc: Global,
+    asked: &Serve,
+    output: &mut O,
+    host: &mut H,
+    clock: &mut C,
+    gate: &G,
+) -> Ran<H::Link>
+    ensures served { MatchOption result.closing (Unserved (H.told host.old) (H.told host.new) result.status × (O.told output.new ≡ O.told output.old))
+        (λ c. ServedAll H.Link.Source.told H.Link.Sink.told asked.now.users (C.words clock.old) (H.left host.old) c.last c.ended
+        × Hosted asked.now (H.told host.old) (H.left host.old) (H.told host.new) (H.left host.new) (length c.ended) c.end
+        × Summed c.end (summary (length c.ended) (state_of shown_step c.last).step) (O.told output.old) (O.told output.new) result.status) }
+{
+    match host.begin(asked.port, asked.links) {
+        Ok(()) => {}
+        Err(_) => {
+            return Ran {
+                status: HOST_FAILED,
+                closing: None,
+            };
+        }
+    }
+    match serve(rt, alloc, &asked.users, host, clock, gate) {
+        Ok(closing) => {
+            let sessions = closing.ended.len() as u64;
+            let steps = closing.last.number();
+            let status = sum_up(output, sessions, steps, closing.end);
+            Ran {
+                status,
+                closing: Some(closing),
+            }
+        }
+        Err(_) => Ran {
+            status: WANTS_MEMORY,
+            closing: None,
+        },
+    }
+}
+
+/// Runs the program with these words, and answers its status.
+///
+/// `serve USERS PORT WORKERS [links=K]` serves the host's links at this port. 0: the host had none to give, or as many were served as may be;
+/// 4: the line at the end could not be written; 5: the host failed; 7: memory was wanted. Every other list of words is run by `run_once`.
+pub fn run<I: Source, O: Sink, H: Host, C: Clock, G: Gate, R: Wait>(
+    rt: &R,
+    alloc: Global,
+    words: &[String],
+    input: &mut I,
+    output: &mut O,
+    host: &mut H,
+    clock: &mut C,
+    gate: &G,
+) -> Ran<H::Link>
+    ensures once { serve_of (map string_bytes words.now) ≡ None → (result.closing ≡ None) × ((result.status ≡ 7) × (I.told input.new ≡ I.told input.old) × (O.told output.new ≡ O.told output.old) ⊎ RunsOnce (words_of (map string_bytes words.now)) (C.words clock.old) (I.told input.old) (O.told output.old) (I.told input.new) (O.told output.new) result.status
+        × OnlyWhereFailed (I.told input.old) (O.told output.old) (I.told input.new) (O.told output.new) result.status) }
+    ensures served { IfSome (serve_of (map string_bytes words.now)) (λ asked. MatchOption result.closing (Unserved (H.told host.old) (H.told host.new) result.status × (O.told output.new ≡ O.told output.old))
+        (λ c. ServedAll H.Link.Source.told H.Link.Sink.told asked.users (C.words clock.old) (H.left host.old) c.last c.ended
+        × Hosted asked (H.told host.old) (H.left host.old) (H.told host.new) (H.left host.new) (length c.ended) c.end
+        × Summed c.end (summary (length c.ended) (state_of shown_step c.last).step) (O.told output.old) (O.told output.new) result.status)) }
+    ensures unread { IfSome (serve_of (map string_bytes words.now)) (λ asked. I.told input.new ≡ I.told input.old) }
+{
+    match read_serve(alloc, words) {
+        Ok(asked) => run_serve(rt, alloc, &asked, output, host, clock, gate),
+        Err(WordsStop::NotValid) => {
+            let status = run_once(alloc, words, input, output, clock);
+            Ran {
+                status,
+                closing: None,
+            }
+        }
+        Err(WordsStop::Memory) => Ran {
+            status: WANTS_MEMORY,
+            closing: None,
+        },
+    }
+}

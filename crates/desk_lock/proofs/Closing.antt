@@ -1,0 +1,173 @@
+-- The lock is closed by the pass that all others have ended into.
+use Rattle.std.proofs.Common.{◌≡◌, ℕ, ◌+◌, ◌<◌, ◌≤◌, eqb, zero, suc, Bool, true, false, List, [], ◌∷◌, ◌++◌, map, length, drop, get_or, set, sym, refl, ap, ◌∙◌, subst, ⊎_elim, ◌⊎◌, inl, inr, arith, Option, Some, None, ◌||◌, eq-eqb, ne_eqb, eqb-true, get_or-set_other}
+use Rattle.std.proofs.Math.Seq.{drop-append_seam}
+use Rattle.std.proofs.lemmas.Map.Steps.{length-le_from_distinct_below}
+use Rattle.std.proofs.lemmas.Map.Keys.{IsDistinct-from_apart}
+use Rattle.std.specs.List.{IsDistinct, list_any}
+use mathlib.Core.Logic.{dite}
+use native.Mathlib.Decide.{ℕ_discrete}
+use mathlib.Core.Option.{some, some-injective, some-ne-none}
+use mathlib.Core.List.{IsPrefix}
+use lib.ListN.{get_elem?}
+use Rattle.std.specs.Arc.{arc_value}
+use Rattle.std_alloc.specs.declared.arc.Arc.{Arc}
+use Rattle.atomic_table.specs.Table.{State, Final, Seen}
+use Rattle.atomic_table.specs.Seated.{TableId}
+use Rattle.atomic_table.proofs.Lists.{at_map}
+use Rattle.desk_model.specs.declared.entry.Entry.{Entry}
+use Rattle.desk_model.specs.Histories.{History, CountsFrom}
+use Rattle.desk_lock.specs.declared.board.View.{View}
+use Rattle.desk_lock.specs.declared.board.Turn.{Turn}
+use Rattle.desk_lock.specs.declared.board.Turn.TheVariants.{NoTurn, HasTurn, Committed}
+use Rattle.desk_lock.specs.Numbers.{Card, Ranks, by, IsIn, AreApart, names, numbers, numbers_at}
+use Rattle.desk_lock.specs.Board.{Slot, limit, KnowsTurn, Kept, card, IsTurn, InTurn}
+use Rattle.desk_lock.specs.Seats.{IsIdle}
+use Rattle.desk_lock.specs.Words.{LockView, PassView, Closes}
+use Rattle.desk_lock.proofs.Lists.{same_at, some_same, prefix_into}
+use Rattle.desk_lock.proofs.Keeping.{not_turn}
+use Rattle.desk_lock.proofs.Knowing.{seat_pass}
+
+abbrev IsFalse : Bool → Type 0
+IsFalse true = ⊥
+IsFalse false = Unit {0}
+
+or_split : (b c : Bool) → (b || c) ≡ true → (b ≡ true) ⊎ (c ≡ true)
+or_split true c e = inl refl
+or_split false c e = inr e
+
+or_right : (b c : Bool) → c ≡ true → (b || c) ≡ true
+or_right true c e = refl
+or_right false c e = e
+
+found : (l : List ℕ) (n : ℕ) → list_any (eqb n) l ≡ true → IsIn n l
+found [] n is = absurd (subst IsFalse is tt)
+found (x ∷ l) n is = ⊎_elim (λ e. (0, ap some (sym (eqb-true n x e)))) (λ e. let h = found l n e in (suc h.0, h.1)) (or_split (eqb n x) (list_any (eqb n) l) is)
+
+member : (l : List ℕ) (n k : ℕ) → get_elem? l k ≡ some n → list_any (eqb n) l ≡ true
+member [] n k e = absurd (some-ne-none n (sym e))
+member (x ∷ l) n zero e = ap (λ b. b || list_any (eqb n) l) (eq-eqb n x (sym (some-injective x n e)))
+member (x ∷ l) n (suc k) e = or_right (eqb n x) (list_any (eqb n) l) (member l n k e)
+
+added : (l : List ℕ) (n : ℕ) → AreApart l → list_any (eqb n) l ≡ false → AreApart (n ∷ l)
+added l n apart is zero zero q a b = refl
+added l n apart is zero (suc j) q a b = absurd (subst IsFalse (sym is ∙ member l n j (b ∙ sym a)) tt)
+added l n apart is (suc i) zero q a b = absurd (subst IsFalse (sym is ∙ member l n i (a ∙ sym b)) tt)
+added l n apart is (suc i) (suc j) q a b = ap suc (apart i j q a b)
+
+at_or : (l : List ℕ) (i d : ℕ) → i < length l → get_elem? l i ≡ some (get_or l i d)
+at_or [] i d h = absurd (omega arith)
+at_or (x ∷ l) zero d h = refl
+at_or (x ∷ l) (suc i) d h = at_or l i d (omega arith)
+
+apart_false : (l : List ℕ) → AreApart l → (i j d : ℕ) → i < j → j < length l → eqb (get_or l i d) (get_or l j d) ≡ false
+apart_false l apart i j d lt inside = ne_eqb (get_or l i d) (get_or l j d) (λ same. let e = apart i j (get_or l j d) (at_or l i d (omega arith) ∙ ap some same) (at_or l j d inside) in omega arith)
+
+under : (l : List ℕ) (n m q : ℕ) → n < m → (IsIn q l → q < m) → list_any (eqb q) (n ∷ l) ≡ true → q < m
+under l n m q small each is = ⊎_elim (λ e. let same = eqb-true q n e in omega arith) (λ e. each (found l q e)) (or_split (eqb q n) (list_any (eqb q) l) is)
+
+-- a list of m numbers below m, no two of them equal, has each of these
+full : (l : List ℕ) (m n : ℕ) → AreApart l → ((q : ℕ) → IsIn q l → q < m) → m ≤ length l → n < m → IsIn n l
+full l m n apart below long small = dite' (list_any (eqb n) l) refl
+  where
+    dite' : (b : Bool) → list_any (eqb n) l ≡ b → IsIn n l
+    dite' true is = found l n is
+    dite' false is = let d : IsDistinct eqb (n ∷ l) = IsDistinct-from_apart eqb (n ∷ l) (apart_false (n ∷ l) (added l n apart is)) in
+        let h = length-le_from_distinct_below (n ∷ l) m d (λ q is'. under l n m q small (λ i. below q i) is') in absurd (omega arith)
+
+alive : {C : Type 0} (t : Turn C) (h owed : List (Entry C)) (turn holder j live : ℕ) → IsTurn t → KnowsTurn h owed turn holder j live t → live ≡ 1
+alive NoTurn h owed turn holder j live is k = absurd is
+alive (HasTurn g) h owed turn holder j live is k = k.3
+alive (Committed g) h owed turn holder j live is k = k.3
+
+module _ {C : Type 0} where
+  length_names : (es : List (ℕ × List (Entry C))) → length (names es) ≡ length es
+  length_names [] = refl
+  length_names (x ∷ es) = let h = length_names es in omega arith
+
+-- a place that was emptied
+emptied : (l : List Bool) (i : ℕ) → get_or (set l i false) i false ≡ false
+emptied [] i = refl
+emptied (x ∷ l) zero = refl
+emptied (x ∷ l) (suc i) = emptied l i
+
+-- both slots are empty, once both were taken out
+pub both_empty : (l m : List Bool) (n : ℕ) → m ≡ set (set l 0 false) 1 false → n ≡ 2 → (k : ℕ) → k < n → get_or m k false ≡ false
+both_empty l m n is two k small = ap (λ (z : List Bool). get_or z k false) is ∙ dite (ℕ_discrete k 1)
+    (λ e. subst (λ (z : ℕ). get_or (set (set l 0 false) 1 false) z false ≡ false) (sym e) (emptied (set l 0 false) 1))
+    (λ ne. let zero_is : k ≡ 0 = omega arith in get_or-set_other (set l 0 false) 1 k false false ne ∙ subst (λ (z : ℕ). get_or (set l 0 false) z false ≡ false) (sym zero_is) (emptied l 0))
+
+abbrev IsHeld : {X : Type 0} → Option X → Type 0
+IsHeld None = ⊥
+IsHeld (Some a) = Unit {0}
+
+module _ {S C : Type 0} where
+  -- the first pass has every number
+  every : (news : List (Entry C)) (cards : List (Card C)) → Ranks news cards → (id : ℕ) (v : View S C) → get_elem? cards id ≡ some (card v) → v.live ≡ 1 → v.made ≡ 1 + length v.ended
+      → (n : ℕ) → n < v.made → IsIn n (numbers (card v))
+  every news cards r id v at live all n small =
+      let mine = (r.one_first id (card v) at (omega arith)).1 in
+      let long : length (numbers_at 1 v.number v.ended) ≡ 1 + length v.ended = (let h = length_names v.ended in omega arith) in
+      let long' : length (numbers (card v)) ≡ 1 + length v.ended = subst (λ (k : ℕ). length (numbers_at k v.number v.ended) ≡ 1 + length v.ended) (sym live) long in
+      full (numbers (card v)) v.made n (r.apart id (card v) at) (λ q i. let b = (r.kept id q (card v) at i).1 in omega arith) (omega arith) small
+
+module _ {S C A : Type 0} (base : History S C) where
+  -- at the end nobody has the turn
+  free : (s : State (Slot S C A) (View S C)) → (r : Kept base s) → (id : ℕ) (v : View S C) → get_elem? s.views id ≡ some v → v.live ≡ 1 → IsIdle v → v.made ≡ 1 + length v.ended → r.now.turn ≡ 0
+  free s r id v at live idle all =
+      let n = r.now in
+      let at' : get_elem? (map card s.views) id ≡ some (card v) = at_map card s.views id v at in
+      let has : (k : ℕ) → k < v.made → IsIn k (numbers (card v)) = every n.news (map card s.views) r.ranks id v at' live all in
+      let made : v.made ≡ r.ranks.made = (r.ranks.one_first id (card v) at' (omega arith)).1 in
+      dite (ℕ_discrete n.turn 0) (λ e. e) (λ ne. absurd (
+      let h = r.manned.turn ne in let u : View S C = h.0 in let there' : get_elem? (map card s.views) n.holder ≡ some (card u) = at_map card s.views n.holder u h.1 in
+      let up : u.live ≡ 1 = alive u.turn _ _ _ _ _ u.live h.2 (r.each n.holder u h.1).turn in
+      let in_u : IsIn u.number (numbers (card u)) = subst (λ (k : ℕ). IsIn u.number (numbers_at k u.number u.ended)) (sym up) (0, refl) in
+      let k = r.ranks.kept n.holder u.number (card u) there' in_u in let below = k.1 in
+      let k' = r.ranks.kept id u.number (card v) at' (has u.number (omega arith)) in
+      let one : n.holder ≡ id = sym k.0 ∙ k'.0 in
+      let same : u ≡ v = same_at s.views id u v (subst (λ (z : ℕ). get_elem? s.views z ≡ some u) one h.1) at in
+      not_turn v.turn idle.0 (subst InTurn same h.2)))
+
+  closes : (s : State (Slot S C A) (View S C)) → Kept base s → (id : ℕ) (v : View S C) → get_elem? s.views id ≡ some v → v.live ≡ 1 → IsIdle v → v.made ≡ 1 + length v.ended
+      → (items : List (Slot S C A)) → ((k : ℕ) (y : Slot S C A) → get_elem? s.homes k ≡ some (some y) → get_elem? items k ≡ some y) → (x : Slot S C A) → get_elem? items 0 ≡ some x
+      → (z y : TableId) (o : S) → (a : Arc (History S C) A) × (x ≡ Some a) × Closes record { table = z; version = base } (seat_pass y o v) (arc_value a)
+  closes s r id v at live idle all items values x there z y o =
+      let n = r.now in
+      let f = r.each id v at in
+      let at' : get_elem? (map card s.views) id ≡ some (card v) = at_map card s.views id v at in
+      let has : (k : ℕ) → k < v.made → IsIn k (numbers (card v)) = every n.news (map card s.views) r.ranks id v at' live all in
+      let made : v.made ≡ r.ranks.made = (r.ranks.one_first id (card v) at' (omega arith)).1 in
+      let home = r.slots.home (free s r id v at live idle all) in
+      let a : Arc (History S C) A = home.0 in
+      let j : (arc_value a).journal ≡ base.journal ++ n.news = home.3 in
+      let news : drop (length base.journal) (arc_value a).journal ≡ n.news = ap (drop (length base.journal)) j ∙ drop-append_seam base.journal n.news in
+      let listed : numbers (card v) ≡ v.number ∷ names v.ended = ap (λ (k : ℕ). numbers_at k v.number v.ended) live in
+      let seen : IsPrefix v.seen (base.journal ++ n.shelved) = subst (λ (t : Turn C). IsPrefix v.seen (base.journal ++ limit n.news n.shelved t)) idle.0 f.seen in (
+        a,
+        same_at items 0 x (Some a) there (values 0 (Some a) home.1),
+        record {
+          opening = home.2;
+          seen = subst (IsPrefix v.seen) (sym j) (prefix_into v.seen base.journal n.shelved n.news seen (n.owed, sym r.level));
+          serials = λ k. subst (CountsFrom 0) (sym (ap (by k) news)) (r.serials k);
+          apart = subst AreApart listed (r.ranks.apart id (card v) at');
+          mine = ap (by v.number) news ∙ f.own live;
+          ended = λ k e is. ap (by e.0) news ∙ r.ranks.ended id k (card v) e at' is;
+          all = λ k e is. let c = r.ranks.covered k e (subst (λ (l : List (Entry C)). get_elem? l k ≡ some e) news is) in let b = (r.ranks.kept c.0 e.caller c.1 c.2 c.3).1 in subst (IsIn e.caller) listed (has e.caller (omega arith));
+        },
+      )
+
+  -- what stands at the end, for the lock and the pass as callers see them
+  abbrev pub End : LockView S C → PassView S C → Slot S C A → Type 0
+  End l q x = (a : Arc (History S C) A) × (x ≡ Some a) × Closes l q (arc_value a)
+
+  pub ends : (l : LockView S C) (q : PassView S C) (z y : TableId) (o : S) (id : ℕ) (v : View S C) (ws : List ℕ) (items : List (Slot S C A)) (x : Slot S C A) → record { table = z; version = base } ≡ l → seat_pass y o v ≡ q
+      → Final (Seen (Kept base) id v) ws items → v.live ≡ 1 → IsIdle v → q.made ≡ 1 + length q.ended → get_elem? items 0 ≡ some x → End l q x
+  ends l q z y o id v ws items x is same fin live idle all there =
+      let all' : v.made ≡ 1 + length v.ended = subst (λ (p : PassView S C). p.made ≡ 1 + length p.ended) (sym same) all in
+      subst (λ (e : LockView S C × PassView S C). End e.0 e.1 x) (λ i. (is i, same i)) (closes fin.0 fin.1.0 id v fin.1.1 live idle all' items fin.4 x there z y o)
+
+  pub never_none : (l : LockView S C) (q : PassView S C) (x : Slot S C A) → End l q x → x ≡ None → ⊥
+  never_none l q x h is = subst (λ (o : Slot S C A). IsHeld o) (sym h.1 ∙ is) tt
+
+  pub that_one : (l : LockView S C) (q : PassView S C) (x : Slot S C A) (b : Arc (History S C) A) → End l q x → x ≡ Some b → Closes l q (arc_value b)
+  that_one l q x b h is = subst (λ (a : Arc (History S C) A). Closes l q (arc_value a)) (some_same h.0 b (sym h.1 ∙ is)) h.2

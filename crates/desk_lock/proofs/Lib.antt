@@ -1,0 +1,12 @@
+mod Lists
+mod Ranking
+mod Keeping
+mod Turning
+mod Shelving
+mod Splitting
+mod Beginning
+mod Knowing
+mod Writing
+mod Closing
+mod Meeting
+mod Bearing

@@ -1,0 +1,122 @@
+-- The rule of the lock: what holds of the table between any two steps.
+use Rattle.std.specs.Prelude.{◌≡◌, ◌≢◌, ℕ, List, [], ◌++◌, map, length, slice_index, Option, Some}
+use mathlib.Core.Option.{some}
+use mathlib.Core.Option as maybe
+use mathlib.Core.List.{IsPrefix}
+use lib.ListN.{get_elem?}
+use Rattle.std.specs.Arc.{arc_value}
+use Rattle.std_alloc.specs.declared.arc.Arc.{Arc}
+use Rattle.atomic_table.specs.Table.{State}
+use Rattle.atomic_table.specs.Seated.{TableId}
+use Rattle.desk_model.specs.declared.entry.Entry.{Entry}
+use Rattle.desk_model.specs.Histories.{History, CountsFrom}
+use Rattle.desk_lock.specs.declared.board.View.{View}
+use Rattle.desk_lock.specs.declared.board.Turn.{Turn}
+use Rattle.desk_lock.specs.declared.board.Turn.TheVariants.{NoTurn, HasTurn, Committed}
+use Rattle.desk_lock.specs.declared.board.Hold.{Hold}
+use Rattle.desk_lock.specs.declared.board.Hold.TheVariants.{NoShelf, HasShelf}
+use Rattle.desk_lock.specs.Numbers.{Card, Ranks, by}
+
+-- four words and two slots
+abbrev pub IsSized : TableId → Type 0
+IsSized z = (z.words ≡ 4) × (z.slots ≡ 2)
+
+abbrev pub Slot : Type 0 → Type 0 → Type 0 → Type 0
+Slot S C A = Option (Arc (History S C) A)
+
+-- Where the lock is: the history past its beginning, the part of it that stands on the shelf, and the part that the turn's holder still owes to the shelf;
+-- the words of the turn and of the shelf, and the seats that hold them where they are held
+pub record Now (C : Type 0) : Type 0 where
+  pub news : List (Entry C)
+  pub shelved : List (Entry C)
+  pub owed : List (Entry C)
+  pub turn : ℕ
+  pub holder : ℕ
+  pub shelf : ℕ
+  pub shower : ℕ
+
+module _ {C : Type 0} where
+  abbrev pub IsTurn : Turn C → Type 0
+  IsTurn NoTurn = ⊥
+  IsTurn (HasTurn h) = Unit {0}
+  IsTurn (Committed h) = Unit {0}
+
+  abbrev pub IsShelf : Hold C → Type 0
+  IsShelf NoShelf = ⊥
+  IsShelf (HasShelf g) = Unit {0}
+
+  -- what a seat can have seen past the beginning: what stands on the shelf, or the whole history if the seat has just committed
+  abbrev pub limit : List (Entry C) → List (Entry C) → Turn C → List (Entry C)
+  limit news shelved NoTurn = shelved
+  limit news shelved (HasTurn h) = shelved
+  limit news shelved (Committed h) = news
+
+  -- the seat j that says that it has the turn is the turn's one holder, and knows the history; it owes the shelf one entry from its commit on
+  abbrev pub KnowsTurn : List (Entry C) → List (Entry C) → ℕ → ℕ → ℕ → ℕ → Turn C → Type 0
+  KnowsTurn history owed turn holder j live NoTurn = Unit {0}
+  KnowsTurn history owed turn holder j live (HasTurn h) = (turn ≡ 1) × (j ≡ holder) × (h ≡ history) × (live ≡ 1) × (owed ≡ [])
+  KnowsTurn history owed turn holder j live (Committed h) = (turn ≡ 1) × (j ≡ holder) × (h ≡ history) × (live ≡ 1) × (length owed ≡ 1)
+
+  -- the seat j that says that it has the shelf is the shelf's one holder, and knows what stands there
+  abbrev pub KnowsShelf : List (Entry C) → ℕ → ℕ → ℕ → ℕ → Hold C → Type 0
+  KnowsShelf journal shelf shower j live NoShelf = Unit {0}
+  KnowsShelf journal shelf shower j live (HasShelf g) = (shelf ≡ 1) × (j ≡ shower) × (g ≡ journal) × (live ≡ 1)
+
+-- what holds of the seat j
+pub record Fits {S C : Type 0} (base : History S C) (n : Now C) (j : ℕ) (v : View S C) : Type 0 where
+  pub origin : v.live ≡ 1 → v.origin ≡ Some base.opening
+  pub start : v.live ≡ 1 → v.start ≡ length base.journal
+  pub seen : IsPrefix v.seen (base.journal ++ limit n.news n.shelved v.turn)
+  pub told : IsPrefix v.told (base.journal ++ n.shelved)
+  pub own : v.live ≡ 1 → by v.number n.news ≡ v.own
+  pub turn : KnowsTurn (base.journal ++ n.news) n.owed n.turn n.holder j v.live v.turn
+  pub shelf : KnowsShelf (base.journal ++ n.shelved) n.shelf n.shower j v.live v.shelf
+
+-- what the words say
+pub record Counted {C : Type 0} (words : List ℕ) (n : Now C) : Type 0 where
+  pub wide : length words ≡ 4
+  pub count : slice_index words 0 ≡ length n.news
+  pub turn : slice_index words 1 ≡ n.turn
+  pub shelf : slice_index words 2 ≡ n.shelf
+  pub shelf_number : slice_index words 3 ≡ length n.shelved
+
+module _ {S C A : Type 0} where
+  -- a slot has a version with this opening and journal
+  abbrev pub HasVersion : S → List (Entry C) → maybe.Option (maybe.Option (Slot S C A)) → Type 0
+  HasVersion o h x = (a : Arc (History S C) A) × (x ≡ some (some (Some a))) × ((arc_value a).opening ≡ o) × ((arc_value a).journal ≡ h)
+
+-- where nobody has the turn, the version is at home and the shelf is owed nothing; where nobody has the shelf, a version stands on it
+pub record Housed {S C A : Type 0} (base : History S C) (homes : List (maybe.Option (Slot S C A))) (n : Now C) : Type 0 where
+  pub home : n.turn ≡ 0 → HasVersion base.opening (base.journal ++ n.news) (get_elem? homes 0)
+  pub owes : n.turn ≡ 0 → n.owed ≡ []
+  pub stand : n.shelf ≡ 0 → HasVersion base.opening (base.journal ++ n.shelved) (get_elem? homes 1)
+
+module _ {S C : Type 0} where
+  abbrev pub card : View S C → Card C
+  card v = record { live = v.live; number = v.number; made = v.made; ended = v.ended }
+
+  abbrev pub InTurn : View S C → Type 0
+  InTurn v = IsTurn v.turn
+
+  abbrev pub AtShelf : View S C → Type 0
+  AtShelf v = IsShelf v.shelf
+
+  -- the seat j has a view of this kind
+  abbrev pub Held : (View S C → Type 0) → List (View S C) → ℕ → Type 0
+  Held P views j = (v : View S C) × (get_elem? views j ≡ some v) × P v
+
+-- who holds the turn, and who the shelf
+pub record Manned {S C : Type 0} (views : List (View S C)) (n : Now C) : Type 0 where
+  pub turn : n.turn ≢ 0 → Held InTurn views n.holder
+  pub shelf : n.shelf ≢ 0 → Held AtShelf views n.shower
+
+-- the rule
+pub record Kept {S C A : Type 0} (base : History S C) (s : State (Slot S C A) (View S C)) : Type 0 where
+  pub now : Now C
+  pub words : Counted s.words now
+  pub level : now.news ≡ now.shelved ++ now.owed
+  pub slots : Housed base s.homes now
+  pub manned : Manned s.views now
+  pub each : (j : ℕ) (v : View S C) → get_elem? s.views j ≡ some v → Fits base now j v
+  pub serials : (n : ℕ) → CountsFrom 0 (by n now.news)
+  pub ranks : Ranks now.news (map card s.views)

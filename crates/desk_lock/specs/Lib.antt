@@ -1,0 +1,6 @@
+pub mod Numbers
+pub mod Board
+pub mod Seats
+pub mod Steps
+pub mod Words
+pub mod Slow

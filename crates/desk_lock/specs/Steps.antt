@@ -1,0 +1,116 @@
+-- What each step tells the seat that makes it.
+use Rattle.std.specs.Prelude.{◌≡◌, ◌≢◌, ℕ, ◌+◌, ◌<◌, ◌≤◌, ◌⊎◌, List, [], ◌∷◌, drop, length, Some, None}
+use mathlib.Core.List.{IsPrefix}
+use Rattle.std.specs.Arc.{arc_value}
+use Rattle.std_alloc.specs.declared.arc.Arc.{Arc}
+use Rattle.atomic_table.specs.Table.{Me, Step, rest}
+use Rattle.desk_model.specs.declared.entry.Entry.{Entry}
+use Rattle.desk_model.specs.Histories.{History, CallersBelow}
+use Rattle.desk_lock.specs.declared.board.View.{View}
+use Rattle.desk_lock.specs.declared.board.Turn.{Turn}
+use Rattle.desk_lock.specs.declared.board.Turn.TheVariants.{NoTurn, HasTurn, Committed}
+use Rattle.desk_lock.specs.declared.board.Hold.{Hold}
+use Rattle.desk_lock.specs.declared.board.Hold.TheVariants.{NoShelf, HasShelf}
+use Rattle.desk_lock.specs.Numbers.{by, most_passes}
+use Rattle.desk_lock.specs.Board.{Slot}
+use Rattle.desk_lock.specs.Seats.{longer}
+
+-- a seat with what it has in hand
+abbrev pub Sat : Type 0 → Type 0 → Type 0 → Type 0
+Sat S C A = Me (Slot S C A) (View S C)
+
+module _ {S C : Type 0} where
+  -- the journal goes on from what the seat has seen, has the lock's beginning in it and no entry of the seat's number beside its own ones, and its callers and the seat's number are numbers of passes
+  pub record Follows (v : View S C) (journal : List (Entry C)) : Type 0 where
+    pub seen : IsPrefix v.seen journal
+    pub begun : v.start ≤ length journal
+    pub mine : v.start ≤ length v.seen → by v.number (drop v.start v.seen) ≡ v.own → by v.number (drop v.start journal) ≡ v.own
+    pub below : CallersBelow most_passes (drop v.start journal)
+    pub number : v.number < most_passes
+
+module _ {C : Type 0} where
+  -- the history that the turn's holder knows
+  abbrev pub history_of : Turn C → List (Entry C)
+  history_of NoTurn = []
+  history_of (HasTurn h) = h
+  history_of (Committed h) = h
+
+  -- the journal that the shelf's holder knows
+  abbrev pub shelved_by : Hold C → List (Entry C)
+  shelved_by NoShelf = []
+  shelved_by (HasShelf g) = g
+
+module _ {S C A : Type 0} where
+  -- the turn was had, with the version in hand
+  abbrev pub Has : Sat S C A → Sat S C A → Type 0
+  Has m m' = (a : Arc (History S C) A)
+      × (m'.1 ≡ (0, Some a) ∷ m.1)
+      × (m'.0 ≡ record m.0 { turn = HasTurn (arc_value a).journal })
+      × (Some (arc_value a).opening ≡ m.0.origin)
+      × Follows m.0 (arc_value a).journal
+
+  abbrev pub claimed : Step (Slot S C A) → Sat S C A → ℕ → Sat S C A → Type 0
+  claimed st m n m' = (n ≡ 0 → Has m m') × (n ≢ 0 → m' ≡ m)
+
+  abbrev pub learned : Step (Slot S C A) → Sat S C A → ℕ → Sat S C A → Type 0
+  learned st m n m' = m' ≡ (record m.0 { seen = history_of m.0.turn; told = [] }, m.1)
+
+  abbrev pub journal_of : Slot S C A → List (Entry C)
+  journal_of None = []
+  journal_of (Some a) = (arc_value a).journal
+
+  -- the journal of the version in hand
+  abbrev pub hand : List (ℕ × Slot S C A) → List (Entry C)
+  hand [] = []
+  hand (x ∷ xs) = journal_of x.1
+
+  -- the entry more in the version in hand is the history's, and the number found is the length before it
+  abbrev pub committed : Step (Slot S C A) → Sat S C A → ℕ → Sat S C A → Type 0
+  committed st m n m' = (m' ≡ (record m.0 { seen = hand m.1; told = []; own = by m.0.number (drop m.0.start (hand m.1)); turn = Committed (hand m.1) }, m.1))
+      × (length (hand m.1) ≡ m.0.start + n + 1)
+
+  abbrev pub released : Step (Slot S C A) → Sat S C A → ℕ → Sat S C A → Type 0
+  released st m n m' = m' ≡ (record m.0 { turn = NoTurn }, [])
+
+  -- the shelf was had, with its version in hand
+  abbrev pub HasIt : Sat S C A → Sat S C A → Type 0
+  HasIt m m' = (a : Arc (History S C) A)
+      × (m'.1 ≡ (1, Some a) ∷ m.1)
+      × (m'.0 ≡ record m.0 { shelf = HasShelf (arc_value a).journal })
+      × (Some (arc_value a).opening ≡ m.0.origin)
+      × (m.0.turn ≡ NoTurn → Follows m.0 (arc_value a).journal)
+
+  abbrev pub claimed_shelf : Step (Slot S C A) → Sat S C A → ℕ → Sat S C A → Type 0
+  claimed_shelf st m n m' = (n ≡ 0 → HasIt m m') × (n ≢ 0 → m' ≡ m)
+
+  -- a look: what stands on the shelf is seen
+  abbrev pub looked : Step (Slot S C A) → Sat S C A → ℕ → Sat S C A → Type 0
+  looked st m n m' = m' ≡ (record m.0 { seen = shelved_by m.0.shelf; told = [] }, m.1)
+
+  -- the history is what the shelf's holder is to put in
+  abbrev pub stored : Step (Slot S C A) → Sat S C A → ℕ → Sat S C A → Type 0
+  stored st m n m' = m' ≡ (record m.0 { turn = HasTurn (history_of m.0.turn); shelf = HasShelf (history_of m.0.turn) }, m.1)
+
+  abbrev pub released_shelf : Step (Slot S C A) → Sat S C A → ℕ → Sat S C A → Type 0
+  released_shelf st m n m' = m' ≡ (record m.0 { shelf = NoShelf }, rest m.1)
+
+  -- the longer of what was seen and what was told is seen
+  abbrev pub caught : Step (Slot S C A) → Sat S C A → ℕ → Sat S C A → Type 0
+  caught st m n m' = (m' ≡ (record m.0 { seen = longer m.0.seen m.0.told; told = [] }, m.1))
+      × (IsPrefix m.0.seen m.0.told ⊎ IsPrefix m.0.told m.0.seen)
+      × (m.0.start ≤ length m.0.seen → by m.0.number (drop m.0.start m.0.seen) ≡ m.0.own → by m.0.number (drop m.0.start (longer m.0.seen m.0.told)) ≡ m.0.own)
+      × (m.0.start ≤ length m.0.seen → m.0.own ≡ [] → by m.0.number (drop m.0.start m.0.seen) ≡ [])
+
+  -- the turn is had, and the version t is in no slot
+  abbrev pub IsOpen : Sat S C A → History S C → Sat S C A → Type 0
+  IsOpen m t m' = (m'.1 ≡ (0, None) ∷ m.1)
+      × (m'.0 ≡ record m.0 { turn = HasTurn t.journal })
+      × (Some t.opening ≡ m.0.origin)
+      × Follows m.0 t.journal
+
+  -- the shelf is had, and its version t is in no slot
+  abbrev pub IsTaken : Sat S C A → History S C → Sat S C A → Type 0
+  IsTaken m t m' = (m'.1 ≡ (1, None) ∷ m.1)
+      × (m'.0 ≡ record m.0 { shelf = HasShelf t.journal })
+      × (Some t.opening ≡ m.0.origin)
+      × (m.0.turn ≡ NoTurn → Follows m.0 t.journal)

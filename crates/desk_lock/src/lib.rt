@@ -1,0 +1,18 @@
+//! The running lock: one history for all threads. Writers take turns; who looks takes the version from a shelf, and never waits for a write.
+#![tactic(auto)]
+
+mod board;
+mod desk;
+mod lock;
+mod pass;
+mod plays;
+mod seats;
+mod shelf;
+#[cfg(test)]
+mod tests;
+mod turn;
+
+pub use board::{Hold, Turn, View};
+pub use desk::LockDesk;
+pub use lock::{Lock, SplitStop, Tally};
+pub use pass::Pass;

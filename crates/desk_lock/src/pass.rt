@@ -1,0 +1,54 @@
+//! A caller's token.
+ghost use Rattle.std.specs.Prelude.{◌≡◌, length};
+
+use crate::board::Place;
+use desk_model::{Machine, Version};
+use std::marker::Model;
+use std::sync::Arc;
+
+/// A pass of a lock: its number, the journal that it has seen, its own entries, and the passes that ended into it.
+/// The first pass also has the number of passes that were made, itself counted.
+#[derive(Drop)]
+pub struct Pass<M: Machine> {
+    pub(crate) place: Place<M>,
+    pub(crate) began: Arc<Version<M>>,
+    pub(crate) number: u32,
+    pub(crate) made: u32,
+    pub(crate) seen: u64,
+    pub(crate) own: u64,
+}
+
+impl<M: Machine> Model for Pass<M> {
+    ghost use Rattle.std.specs.Prelude.{◌≡◌, [], length, Some};
+    ghost use Rattle.std.specs.Arc.{arc_value};
+    ghost use Rattle.desk_lock.specs.Seats.{IsIdle};
+    ghost use Rattle.desk_lock.specs.Words.{PassView};
+
+    ghost Value = { PassView M.State M.Call };
+
+    ghost view = { λ p. record {
+      table = p.place.table_id;
+      known = record { opening = (arc_value p.began).opening; base = p.place.me.0.start; caller = p.place.me.0.number; seen = p.place.me.0.seen; own = p.place.me.0.own };
+      made = p.place.me.0.made;
+      ended = p.place.me.0.ended;
+    } };
+
+    ghost invariant = { λ p. (p.place.me.1 ≡ []) × IsIdle p.place.me.0 × (p.place.me.0.live ≡ 1) × (p.place.me.0.told ≡ []) × (p.place.me.0.origin ≡ Some (arc_value p.began).opening)
+        × (p.number ≡ p.place.me.0.number) × (p.seen ≡ length p.place.me.0.seen) × (p.own ≡ length p.place.me.0.own) × (p.made ≡ p.place.me.0.made) };
+}
+
+impl<M: Machine> Pass<M> {
+    /// Its number. It takes no memory.
+    pub fn number(&self) -> u32
+        ensures { result ≡ self.now.known.caller }
+    {
+        self.number
+    }
+
+    /// The length of the journal that it has seen. It takes no memory.
+    pub fn seen(&self) -> u64
+        ensures { result ≡ length self.now.known.seen }
+    {
+        self.seen
+    }
+}

@@ -1,0 +1,4 @@
+mod Lists
+mod Noting
+mod Ending
+mod Taking

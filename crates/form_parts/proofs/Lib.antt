@@ -1,0 +1,10 @@
+pub mod Ends
+pub mod Walks
+pub mod Texts
+pub mod Both
+pub mod Joins
+pub mod Fields
+pub mod KindTexts
+pub mod Tests
+pub mod Gathering
+pub mod Places

@@ -1,0 +1,4 @@
+pub mod Moments
+pub mod Patterns
+pub mod Tables
+pub mod Binding

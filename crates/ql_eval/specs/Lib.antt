@@ -1,0 +1,5 @@
+pub mod Truths
+pub mod Likes
+pub mod Leads
+pub mod Conditions
+pub mod Order

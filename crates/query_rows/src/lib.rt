@@ -1,0 +1,2 @@
+//! Worked rows of the definitions of queries: a small repository, and what is found in it. Each row is computed.
+#![tactic(auto)]

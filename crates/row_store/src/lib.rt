@@ -1,0 +1,6 @@
+//! What queries read: a repository by its types, its folders and one object at a time.
+#![tactic(auto)]
+
+ghost use Rattle.std.specs.Prelude.{◌≡◌};
+
+pub mod store;

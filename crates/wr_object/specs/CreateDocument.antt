@@ -1,0 +1,161 @@
+-- createDocument (CMIS 1.1, section 2.2.4.1): when it is refused, what it makes of the repository, and what it answers.
+use Rattle.std.specs.Prelude.{ℕ, ◌+◌, nat_lt, Bool, true, false, ◌&&◌, ◌||◌, not, if◌then◌else◌, List, [], ◌∷◌, Option, Some, None, Ok, is_some, unwrap_or, option_map, option_and_then, length, bytes_eq, codes}
+use Rattle.cm_base.specs.declared.number.Oid.{Oid}
+use Rattle.cm_base.specs.declared.number.Moment.{Moment}
+use Rattle.cm_base.specs.declared.object.Object.{Object}
+use Rattle.cm_base.specs.declared.content.Content.{Content}
+use Rattle.cm_base.specs.declared.series.Series.{Series}
+use Rattle.cm_base.specs.declared.series.Label.{Label}
+use Rattle.cm_base.specs.declared.series.VersioningState.{VersioningState}
+use Rattle.cm_base.specs.declared.series.VersioningState.TheVariants as states
+use Rattle.cm_base.specs.declared.access.Level.TheVariants as levels
+use Rattle.cm_base.specs.declared.log.ChangeKind.TheVariants as changes
+use Rattle.cm_base.specs.declared.cause.Cause.TheVariants as causes
+use Rattle.cm_base.specs.Judged.{Judged, ◌>>=◌, ◌>>◌, refuse, find_or, first_cause}
+use Rattle.cm_base.specs.Names.{is_name}
+use Rattle.cm_types.specs.declared.definition.TypeDef.{TypeDef}
+use Rattle.cm_types.specs.declared.definition.BaseType.TheVariants as bases
+use Rattle.cm_types.specs.declared.property.PropDef.{PropDef}
+use Rattle.cm_types.specs.declared.given.PropertyCall.TheVariants as calls
+use Rattle.cm_types.specs.Types.{type_in, same_base, props_of}
+use Rattle.cm_types.specs.Properties.{judge_properties, kept_values}
+use Rattle.cm_call.specs.declared.place.Place.{Place}
+use Rattle.cm_call.specs.declared.question.PropertyFilter.TheVariants as filters
+use Rattle.cm_call.specs.declared.versions.CreateDocument.{CreateDocument}
+use Rattle.cm_call.specs.declared.reply.Reply.{Reply}
+use Rattle.cm_call.specs.declared.reply.Reply.TheVariants as replies
+use Rattle.cm_call.specs.Weight.{bounded}
+use Rattle.cm_call.specs.Versions.{weight_of_create_document}
+use Rattle.cm_show.specs.Addressed.{addressed}
+use Rattle.cm_show.specs.Shown.{shown_object}
+use Rattle.cmis_spec.specs.Repository.{Repository, new_number, is_a, is_taken}
+use Rattle.cmis_spec.specs.Access.{lacks}
+use Rattle.cmis_spec.specs.Values.{kept_beside}
+use Rattle.cmis_spec.specs.Changes.{stepped, noted, with_pair}
+use Rattle.cmis_spec.specs.Documents.{with_document, with_policies, with_contents}
+use Rattle.wr_rules.specs.Rules.{judge_storage, name_in, type_id_in, secondary_in, unknown_type, has_other_secondary, bars_child, unread_cause, has_other_policy, policies_in, has_unknown_permission, has_entries, new_aces, defaults_cost}
+use Rattle.wr_rules.specs.Documents.{judge_content, content_of_stream}
+
+-- ---- words of the call
+
+abbrev pub document_props : List TypeDef → CreateDocument → List PropDef
+document_props types call = props_of types (type_id_in call.properties) (secondary_in call.properties)
+
+-- the addressed folder; none where none is addressed
+abbrev pub folder_at : Repository → List ℕ → Option Place → Judged (Option Object)
+folder_at r u None = Ok None
+folder_at r u (Some place) = find_or causes.NotFound (option_map Some (addressed r u place))
+
+abbrev pub folder_of : Repository → List ℕ → CreateDocument → Judged (Option Object)
+folder_of r u call = folder_at r u call.place
+
+-- an absent state is major for what is versionable, and else none
+abbrev pub state_of : TypeDef → CreateDocument → VersioningState
+state_of kind call = unwrap_or call.state (if kind.versionable then states.Major else states.None)
+
+abbrev pub is_unversioned : VersioningState → Bool
+is_unversioned states.None = true
+is_unversioned _ = false
+
+-- a versionable type with none, or another with a state that isn't none
+abbrev pub has_other_state : TypeDef → CreateDocument → Bool
+has_other_state kind call = if kind.versionable then is_unversioned (state_of kind call) else not (is_unversioned (state_of kind call))
+
+abbrev pub is_uncontrollable : TypeDef → CreateDocument → Bool
+is_uncontrollable kind call =
+    not kind.controllable_policy && nat_lt 0 (length call.policies)
+    || not kind.controllable_acl && (has_entries call.remove || has_entries call.add)
+
+-- who may not write in the folder; without one, whoever is not known
+abbrev pub may_not_make : Repository → List ℕ → Option Object → Bool
+may_not_make r u None = bytes_eq u (codes "anonymous")
+may_not_make r u (Some folder) = lacks r u levels.Write folder
+
+abbrev pub is_no_folder : Repository → Option Object → Bool
+is_no_folder r folder = unwrap_or (option_map (λ f. not (is_a r bases.Folder f)) folder) false
+
+abbrev pub is_name_taken : Repository → Option Object → List ℕ → Bool
+is_name_taken r folder name = unwrap_or (option_map (λ f. is_taken r f.id (new_number r) name) folder) false
+
+abbrev pub cost_create_document : Repository → CreateDocument → ℕ
+cost_create_document r call =
+    bounded (weight_of_create_document call
+    + unwrap_or (option_map (λ t. defaults_cost (document_props r.types call) call.properties) (type_in r.types (type_id_in call.properties))) 0)
+
+-- ---- the refusal
+
+abbrev pub refusal_create_document : Repository → List ℕ → ℕ → CreateDocument → Judged (Unit {0})
+refusal_create_document r u cost call = do
+  judge_storage r cost
+  folder ← folder_of r u call
+  first_cause (unread_cause r u) call.policies
+  kind ← find_or causes.TypeNotFound (type_in r.types (type_id_in call.properties))
+  first_cause (unknown_type r.types) (secondary_in call.properties)
+  refuse causes.Denied (may_not_make r u folder)
+  refuse causes.WrongKind (is_no_folder r folder || has_other_policy r u call.policies)
+  refuse causes.TypeKind (not (same_base bases.Document kind.base) || has_other_secondary r.types (secondary_in call.properties))
+  refuse causes.NotCreatable (not kind.creatable)
+  refuse causes.NotFileable (is_some folder && not kind.fileable)
+  refuse causes.VersionState (has_other_state kind call)
+  refuse causes.ChildType (unwrap_or (option_map (λ f. bars_child r f kind.id) folder) false)
+  refuse causes.NotControllable (is_uncontrollable kind call)
+  judge_properties calls.Create (document_props r.types call) [] call.properties
+  refuse causes.Permission (has_unknown_permission call.remove || has_unknown_permission call.add)
+  judge_content kind call.stream None
+  refuse causes.BadName (not (is_name (name_in call.properties)))
+  refuse causes.NameTaken (is_name_taken r folder (name_in call.properties))
+
+-- ---- the repository after it
+
+-- a version takes its name from its series; a working copy has its own
+abbrev pub own_name : VersioningState → List ℕ → Option (List ℕ)
+own_name states.CheckedOut name = Some name
+own_name _ name = None
+
+abbrev pub new_document : Repository → List ℕ → Moment → CreateDocument → VersioningState → Object
+new_document r u m call state = record {
+  id = new_number r;
+  kind = type_id_in call.properties;
+  name = own_name state (name_in call.properties);
+  secondary = secondary_in call.properties;
+  values = kept_beside (kept_values calls.Create (document_props r.types call) [] call.properties);
+  maker = u;
+  made = m;
+  changer = u;
+  changed = m;
+  token = r.step + 1;
+  series = Some (new_number r);
+}
+
+-- the label of a first version
+abbrev pub first_label : VersioningState → Option Label
+first_label states.Major = Some (record { major = 1; minor = 0 })
+first_label states.Minor = Some (record { major = 0; minor = 1 })
+first_label _ = None
+
+abbrev pub new_series : Oid → List ℕ → List ℕ → VersioningState → Series
+new_series n u name states.CheckedOut = record { id = n; name = name; versions = []; working = Some (record { copy = n; owner = u }) }
+new_series n u name state = record { id = n; name = name; versions = record { object = n; label = first_label state } ∷ []; working = None }
+
+abbrev pub new_content : Repository → CreateDocument → Option Content
+new_content r call = option_map (content_of_stream (new_number r) (name_in call.properties) (r.step + 1)) call.stream
+
+abbrev pub filed_in : Repository → Option Object → Oid → Repository
+filed_in r None n = r
+filed_in r (Some folder) n = with_pair r folder.id n
+
+abbrev pub after_create_document_in : Repository → List ℕ → Moment → ℕ → CreateDocument → VersioningState → Option Object → Repository
+after_create_document_in r u m cost call state folder =
+    let n = new_number r in
+    let made = with_document r (new_document r u m call state) (new_series n u (name_in call.properties) state) (new_aces u call.remove call.add) in
+    noted (stepped (filed_in (with_contents (with_policies made n (policies_in r u call.policies)) (new_content r call)) folder n) cost) changes.Created n m []
+
+abbrev pub after_create_document : Repository → List ℕ → Moment → ℕ → CreateDocument → Repository
+after_create_document r u m cost call =
+    unwrap_or (option_map (λ kind. after_create_document_in r u m cost call (state_of kind call) (option_and_then (addressed r u) call.place)) (type_in r.types (type_id_in call.properties))) r
+
+-- ---- the reply
+
+-- the new document as the caller sees it after the step
+abbrev pub acknowledgement_create_document_of : Repository → List ℕ → CreateDocument → Object → Reply
+acknowledgement_create_document_of after u call x = replies.Object (record { object = shown_object after u filters.All call.succinct x; created = true })

@@ -1,0 +1,58 @@
+-- What checkOut makes: the working copy in its series is the repository after the call, and is well formed.
+use Rattle.std.specs.Prelude.{◌≡◌, ℕ, ◌+◌, ◌<◌, ◌^◌, List, [], Option, Some, None, IfSome, Ok, is_some, true, option_map, unwrap_or}
+use Rattle.std.proofs.Common.{refl, sym, ap, subst, ◌∙◌, arith}
+use Rattle.cm_base.specs.declared.number.Oid.{Oid}
+use Rattle.cm_base.specs.declared.number.Moment.{Moment}
+use Rattle.cm_base.specs.declared.object.Object.{Object}
+use Rattle.cm_base.specs.declared.content.Content.{Content}
+use Rattle.cm_base.specs.declared.series.Series.{Series}
+use Rattle.cm_base.specs.declared.log.ChangeKind.TheVariants as changes
+use Rattle.cm_call.specs.declared.versions.CheckOut.{CheckOut}
+use Rattle.cm_show.specs.Addressed.{addressed}
+use Rattle.cmis_spec.specs.Repository.{Repository, most_steps, most_cost, object_at, series_at, series_of, entry_of, new_number}
+use Rattle.cmis_spec.specs.Changes.{stepped, noted}
+use Rattle.cmis_spec.specs.Documents.{with_copy, with_contents}
+use Rattle.cmis_spec.specs.Well.{IsWellFormed}
+use Rattle.cmis_laws.proofs.Lists.{some_eq}
+use Rattle.wr_rules.specs.Documents.{content_copied}
+use Rattle.wr_rules.proofs.Found.{addressed_there}
+use Rattle.wr_version.specs.CheckOut.{refusal_check_out, new_copy, new_content, after_check_out_of, after_check_out}
+use Rattle.wr_version.proofs.CheckOut.{passes, keeps_check_out, IsIn, series_is}
+
+-- one more step and its cost stay numbers of 64 bits
+pub room_for : (r : Repository) (u : List ℕ) (cost : ℕ) (call : CheckOut) → refusal_check_out r u cost call ≡ Ok tt → (r.step + 1 < 2 ^ 64) × (r.cost + cost < 2 ^ 64)
+unfolding most_steps most_cost
+room_for r u cost call h = let p = passes r u cost call h in (omega (arith, p.room.steps), omega (arith, p.room.bytes))
+
+-- the document that is addressed is in a series
+pub in_series : (r : Repository) (u : List ℕ) (cost : ℕ) (call : CheckOut) (x : Object) → IsWellFormed r → refusal_check_out r u cost call ≡ Ok tt → addressed r u call.place ≡ Some x → IsIn r x
+in_series r u cost call x w h at =
+    let p = passes r u cost call h in
+    let same : p.x ≡ x = some_eq p.x x (sym p.at ∙ at) in
+    subst (IsIn r) same (series_is r p.x w (addressed_there r u call.place p.x w.numbers p.at) p.document)
+
+pub series_some : (r : Repository) (x : Object) → IsIn r x → is_some (series_of r x) ≡ true
+series_some r x i = ap is_some i.found
+
+pub series_there : (r : Repository) (x : Object) (s : Series) → IsIn r x → series_of r x ≡ Some s → series_at r s.id ≡ Some s
+series_there r x s i h = subst (λ t. series_at r t.id ≡ Some t) (some_eq i.series s (sym i.found ∙ h)) i.there
+
+pub content_is_its : (r : Repository) (x copy : Object) (o : Option Content) (u : List ℕ) (m : Moment) → copy ≡ new_copy r u m x → o ≡ new_content r x → IfSome o (λ c. c.of ≡ copy.id)
+content_is_its r x copy o u m e f = subst (λ k. IfSome o (λ c. c.of ≡ k.id)) (sym e) (subst (λ q. IfSome q (λ c. c.of ≡ new_number r)) (sym f) (each _))
+  where
+    each : (q : Option Content) → IfSome (option_map (content_copied (new_number r) (r.step + 1)) q) (λ c. c.of ≡ new_number r)
+    each None = tt
+    each (Some c) = refl
+
+pub copied_is : (r : Repository) (u : List ℕ) (m : Moment) (cost : ℕ) (call : CheckOut) (x copy : Object) (s : Series) (o : Option Content) → IsIn r x → addressed r u call.place ≡ Some x → series_of r x ≡ Some s
+    → copy ≡ new_copy r u m x → o ≡ new_content r x
+    → noted (stepped (with_contents (with_copy r s.id copy u) o) cost) changes.Created copy.id m [] ≡ after_check_out r u m cost call
+copied_is r u m cost call x copy s o i at h e f =
+    let n : s.id ≡ entry_of x = sym (ap (λ t. t.id) (some_eq i.series s (sym i.found ∙ h))) ∙ sym i.entry in
+    (λ j. noted (stepped (with_contents (with_copy r (n j) (e j) u) (f j)) cost) changes.Created (e j).id m [])
+    ∙ sym (ap (λ q. unwrap_or (option_map (after_check_out_of r u m cost) q) r) at)
+
+pub copied_well : (r : Repository) (u : List ℕ) (m : Moment) (cost : ℕ) (call : CheckOut) (x copy : Object) (s : Series) (o : Option Content) → IsWellFormed r → refusal_check_out r u cost call ≡ Ok tt → IsIn r x → addressed r u call.place ≡ Some x → series_of r x ≡ Some s
+    → copy ≡ new_copy r u m x → o ≡ new_content r x
+    → IsWellFormed (noted (stepped (with_contents (with_copy r s.id copy u) o) cost) changes.Created copy.id m [])
+copied_well r u m cost call x copy s o w h i at found e f = subst IsWellFormed (sym (copied_is r u m cost call x copy s o i at found e f)) (keeps_check_out r u m cost call w h)

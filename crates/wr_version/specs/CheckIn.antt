@@ -1,0 +1,95 @@
+-- checkIn (CMIS 1.1, section 2.2.7.3): when it is refused, what it makes of the repository, and what it answers.
+use Rattle.std.specs.Prelude.{ℕ, ◌+◌, true, not, List, [], ◌∷◌, Option, Some, None, unwrap_or, option_map}
+use Rattle.cm_base.specs.declared.number.Moment.{Moment}
+use Rattle.cm_base.specs.declared.object.Object.{Object}
+use Rattle.cm_base.specs.declared.content.Content.{Content}
+use Rattle.cm_base.specs.declared.series.Label.{Label}
+use Rattle.cm_base.specs.declared.access.Level.TheVariants as levels
+use Rattle.cm_base.specs.declared.log.ChangeKind.TheVariants as changes
+use Rattle.cm_base.specs.declared.cause.Cause.TheVariants as causes
+use Rattle.cm_base.specs.Judged.{Judged, ◌>>=◌, ◌>>◌, refuse, find_or, first_cause}
+use Rattle.cm_base.specs.Names.{is_name}
+use Rattle.cm_types.specs.declared.definition.TypeDef.{TypeDef}
+use Rattle.cm_types.specs.declared.definition.BaseType.TheVariants as bases
+use Rattle.cm_types.specs.declared.property.PropDef.{PropDef}
+use Rattle.cm_types.specs.declared.given.PropertyCall.TheVariants as calls
+use Rattle.cm_types.specs.Types.{props_of}
+use Rattle.cm_types.specs.Properties.{judge_properties, kept_values}
+use Rattle.cm_call.specs.declared.question.PropertyFilter.TheVariants as filters
+use Rattle.cm_call.specs.declared.versions.CheckIn.{CheckIn}
+use Rattle.cm_call.specs.declared.reply.Reply.{Reply}
+use Rattle.cm_call.specs.declared.reply.Reply.TheVariants as replies
+use Rattle.cm_call.specs.Versions.{weight_of_check_in}
+use Rattle.cm_show.specs.Addressed.{addressed}
+use Rattle.cm_show.specs.Shown.{shown_object}
+use Rattle.cmis_spec.specs.Repository.{Repository, is_a, type_of, series_of, entry_of}
+use Rattle.cmis_spec.specs.Access.{lacks}
+use Rattle.cmis_spec.specs.Values.{kept_beside}
+use Rattle.cmis_spec.specs.Changes.{stepped, noted}
+use Rattle.cmis_spec.specs.Documents.{is_working_copy, last_label, next_label, with_comment, with_version, with_contents}
+use Rattle.wr_rules.specs.Rules.{judge_storage, secondary_in, unknown_type, has_other_secondary}
+use Rattle.wr_rules.specs.Documents.{form_slots, name_after, secondary_after, content_at, judge_content, content_of_stream, is_taken_anywhere}
+
+abbrev pub cost_check_in : CheckIn → ℕ
+cost_check_in call = weight_of_check_in call
+
+-- the definitions of the properties that the document has after the call
+abbrev pub props_after : Repository → CheckIn → Object → List PropDef
+props_after r call x = props_of r.types x.kind (secondary_after x call.properties)
+
+-- ---- the refusal
+
+abbrev pub judge_new_name : Repository → CheckIn → Object → Judged (Unit {0})
+judge_new_name r call x = do
+  refuse causes.BadName (not (is_name (name_after r x call.properties)))
+  refuse causes.NameTaken (is_taken_anywhere r (entry_of x) (name_after r x call.properties))
+
+abbrev pub refusal_check_in : Repository → List ℕ → ℕ → CheckIn → Judged (Unit {0})
+refusal_check_in r u cost call = do
+  judge_storage r cost
+  x ← find_or causes.NotFound (addressed r u call.place)
+  kind ← find_or causes.TypeNotFound (type_of r x)
+  first_cause (unknown_type r.types) (secondary_in call.properties)
+  refuse causes.Denied (lacks r u levels.Write x)
+  refuse causes.WrongKind (not (is_a r bases.Document x))
+  refuse causes.NotWorking (not (is_working_copy r x))
+  refuse causes.TypeKind (has_other_secondary r.types (secondary_in call.properties))
+  judge_properties calls.CheckIn (props_after r call x) (form_slots r x) call.properties
+  judge_content kind call.stream (content_at r x.id)
+  judge_new_name r call x
+
+-- ---- the repository after it
+
+-- the version that the working copy becomes; its name is that of its series
+abbrev pub new_version : Repository → List ℕ → Moment → CheckIn → Object → Object
+new_version r u m call x = record x {
+  name = None;
+  secondary = secondary_after x call.properties;
+  values = with_comment (kept_beside (kept_values calls.CheckIn (props_after r call x) (form_slots r x) call.properties)) call.comment;
+  changer = u;
+  changed = m;
+  token = r.step + 1;
+}
+
+-- its label follows that of the last version
+abbrev pub new_label : Repository → CheckIn → Object → Label
+new_label r call x = next_label call.major (unwrap_or (option_map last_label (series_of r x)) (record { major = 0; minor = 0 }))
+
+-- the content that is given; without one it keeps what it has
+abbrev pub given_content : Repository → CheckIn → Object → Option Content
+given_content r call x = option_map (content_of_stream x.id (name_after r x call.properties) (r.step + 1)) call.stream
+
+abbrev pub after_check_in_of : Repository → List ℕ → Moment → ℕ → CheckIn → Object → Repository
+after_check_in_of r u m cost call x =
+    noted (stepped (with_contents
+    (with_version r (entry_of x) (new_version r u m call x) (new_label r call x) (name_after r x call.properties))
+    (given_content r call x)) cost) changes.Updated x.id m []
+
+abbrev pub after_check_in : Repository → List ℕ → Moment → ℕ → CheckIn → Repository
+after_check_in r u m cost call = unwrap_or (option_map (after_check_in_of r u m cost call) (addressed r u call.place)) r
+
+-- ---- the reply
+
+-- the new version as the caller sees it after the step
+abbrev pub acknowledgement_check_in_of : Repository → List ℕ → CheckIn → Object → Reply
+acknowledgement_check_in_of after u call x = replies.Object (record { object = shown_object after u filters.All call.succinct x; created = true })

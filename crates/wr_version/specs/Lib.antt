@@ -1,0 +1,4 @@
+pub mod CancelCheckOut
+pub mod CheckIn
+pub mod CheckOut
+pub mod Found

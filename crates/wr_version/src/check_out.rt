@@ -1,0 +1,221 @@
+//! checkOut (CMIS 1.1, section 2.2.7.1).
+ghost use Rattle.std.specs.Prelude.{◌≡◌, ◌+◌, ◌<◌, ◌^◌, not, Ok, Some, IfOk, filter};
+ghost use Rattle.cm_base.specs.Judged.{Leaves};
+ghost use Rattle.cm_base.specs.declared.value.Slot.{Slot};
+ghost use Rattle.cmis_spec.specs.Repository.{object_at, name_of, series_of};
+ghost use Rattle.cmis_spec.specs.Documents.{is_comment, without_comment};
+ghost use Rattle.cmis_spec.specs.Well.{IsWellFormed};
+ghost use Rattle.cm_show.specs.Addressed.{addressed};
+ghost use Rattle.wr_rules.specs.Documents.{is_versionable, is_checked_out, is_latest_version};
+ghost use Rattle.wr_version.specs.Found.{Finds};
+ghost use Rattle.wr_version.specs.CheckOut.{judge_latest, refusal_check_out, new_copy, new_content, after_check_out};
+
+use crate::copying::{checked_out, copied_in};
+use cm_base::access::Level;
+use cm_base::cause::Cause;
+use cm_base::content::Content;
+use cm_base::copies::Copies;
+use cm_base::fail::Fail;
+use cm_base::items::Items;
+use cm_base::number::{Moment, Oid};
+use cm_base::object::Object;
+use cm_base::series::Series;
+use cm_base::text::Text;
+use cm_base::value::{Slot, Values};
+use cm_call::versions::CheckOut;
+use cm_see::level::lacks;
+use cm_show::address::addressed;
+use cm_state::look::{entry_of, is_latest};
+use cm_state::state::State;
+use cm_types::definition::BaseType;
+use std::alloc::{AllocError, Global};
+use wr_rules::storage::judge_storage;
+
+fn is_versionable(state: &State, x: &Object) -> bool
+    ensures { result ≡ is_versionable state.now x.now }
+{
+    match state.type_named(&x.kind) {
+        Some(def) => def.versionable,
+        None => false,
+    }
+}
+
+fn is_checked_out(state: &State, x: &Object) -> bool
+    ensures { result ≡ is_checked_out state.now x.now }
+{
+    match state.series_of(x) {
+        Some(series) => series.working.is_some(),
+        None => false,
+    }
+}
+
+fn is_latest_version(state: &State, x: &Object) -> bool
+    ensures { result ≡ is_latest_version state.now x.now }
+{
+    match state.series_of(x) {
+        Some(series) => is_latest(series, x.id),
+        None => false,
+    }
+}
+
+// The object is the latest version of a series that may be checked out.
+fn judge_latest(state: &State, x: &Object) -> Result<(), Cause>
+    ensures { result ≡ judge_latest state.now x.now }
+{
+    if !state.is_a(BaseType::Document, x) {
+        return Err(Cause::WrongKind);
+    }
+    if !is_versionable(state, x) {
+        return Err(Cause::NotVersionable);
+    }
+    if is_checked_out(state, x) {
+        return Err(Cause::CheckedOut);
+    }
+    if !is_latest_version(state, x) {
+        return Err(Cause::NotLatest);
+    }
+    Ok(())
+}
+
+// The document that is addressed, or the cause of the refusal.
+#[tactic(auto, using(cm_types::proofs::Exits::fails_then, cm_types::proofs::Exits::fails_bind))]
+fn judge<'a>(
+    state: &'a State,
+    user: &Text,
+    cost: u64,
+    call: &CheckOut,
+) -> Result<&'a Object, Cause>
+    ensures { Finds (λ x. x.now) result (refusal_check_out state.now user.now cost call.now) (addressed state.now user.now call.now.place) }
+{
+    judge_storage(state, cost)?;
+    let x = match addressed(state, user, &call.place) {
+        Some(x) => x,
+        None => return Err(Cause::NotFound),
+    };
+    if lacks(state, user, Level::Write, x) {
+        return Err(Cause::Denied);
+    }
+    judge_latest(state, x)?;
+    Ok(x)
+}
+
+fn is_comment(slot: &Slot) -> bool
+    ensures { result ≡ is_comment slot.now }
+{
+    slot.id.is_str("cmis:checkinComment")
+}
+
+fn only_others(slots: Vec<Slot>) -> Vec<Slot>
+    ensures { result.items ≡ filter (λ s. not (is_comment s)) slots.items }
+{
+    let mut slots = slots;
+    slots.retain(|s| !is_comment(s));
+    slots
+}
+
+// The values that a copy takes over.
+fn without_comment(alloc: Global, values: &Values) -> Result<Values, AllocError>
+    ensures { IfOk result (λ v. v ≡ without_comment values.now) }
+{
+    let all = values.copied(alloc)?;
+    Ok(Items::from_vec(only_others(all.into_vec())))
+}
+
+fn name_of(alloc: Global, state: &State, x: &Object) -> Result<Text, AllocError>
+    ensures { IfOk result (λ name. name ≡ name_of state.now x.now) }
+{
+    match &x.name {
+        Some(name) => name.copied(alloc),
+        None => Text::from_str(alloc, state.entry_text(entry_of(x))),
+    }
+}
+
+// The working copy of a document.
+fn new_copy(
+    alloc: Global,
+    state: &State,
+    user: &Text,
+    moment: Moment,
+    x: &Object,
+) -> Result<Object, AllocError>
+    requires room { state.now.step + 1 < 2 ^ 64 }
+    ensures { IfOk result (λ c. c ≡ new_copy state.now user.now moment x.now) }
+{
+    let name = name_of(alloc, state, x)?;
+    let values = without_comment(alloc, &x.values)?;
+    Ok(Object {
+        id: Oid(state.next_number()),
+        kind: x.kind.copied(alloc)?,
+        name: Some(name),
+        secondary: x.secondary.copied(alloc)?,
+        values,
+        maker: user.copied(alloc)?,
+        made: moment,
+        changer: user.copied(alloc)?,
+        changed: moment,
+        token: state.step() + 1,
+        series: x.series,
+    })
+}
+
+// The content of the working copy, if the document has any. Its bytes are shared.
+fn new_content(alloc: Global, state: &State, x: &Object) -> Result<Option<Content>, AllocError>
+    requires room { state.now.step + 1 < 2 ^ 64 }
+    ensures { IfOk result (λ c. c ≡ new_content state.now x.now) }
+{
+    match state.content(x.id) {
+        Some(content) => {
+            let stream = content.stream.copied(alloc)?;
+            Ok(Some(Content {
+                of: Oid(state.next_number()),
+                stream,
+                step: state.step() + 1,
+            }))
+        }
+        None => Ok(None),
+    }
+}
+
+// The state with the working copy of the document that the call addresses, which is in this series.
+fn with_copy(
+    alloc: Global,
+    state: &State,
+    user: &Text,
+    moment: Moment,
+    cost: u64,
+    call: &CheckOut,
+    x: &Object,
+    series: &Series,
+) -> Result<State, AllocError>
+    requires allowed { refusal_check_out state.now user.now cost call.now ≡ Ok tt }
+    requires found { addressed state.now user.now call.now.place ≡ Some x.now }
+    requires series { series_of state.now x.now ≡ Some series.now }
+    ensures { IfOk result (λ s. s ≡ after_check_out state.now user.now moment cost call.now) }
+{
+    let _step = state.step();
+    let copy = new_copy(alloc, state, user, moment, x)?;
+    let out = checked_out(alloc, series, copy.id, user)?;
+    let content = new_content(alloc, state, x)?;
+    let draft = copied_in(alloc, state, copy, out, content, cost, moment)?;
+    Ok(draft.seal())
+}
+
+/// Checks a document out, at this cost: the state with its working copy, or the first cause that refuses the call.
+pub fn check_out(
+    alloc: Global,
+    state: &State,
+    user: &Text,
+    moment: Moment,
+    cost: u64,
+    call: &CheckOut,
+) -> Result<State, Fail>
+    ensures written { Leaves result (refusal_check_out state.now user.now cost call.now) (after_check_out state.now user.now moment cost call.now) }
+    ensures well { IfOk result (λ s. IsWellFormed s) }
+{
+    let _now = state.step();
+    let x = judge(state, user, cost, call)?;
+    let series = state.series_of(x).unwrap();
+    let made = with_copy(alloc, state, user, moment, cost, call, x, series)?;
+    let _step = made.step();
+    Ok(made)
+}

@@ -1,0 +1,81 @@
+//! A working copy that is made of a document, as a draft.
+ghost use Rattle.std.specs.Prelude.{◌≡◌, ◌+◌, ◌<◌, ◌^◌, [], All, IfOk, IfSome, is_some, true};
+ghost use Rattle.cm_base.specs.declared.log.ChangeKind.TheVariants.{Created};
+ghost use Rattle.cmis_spec.specs.Repository.{new_number, series_at};
+ghost use Rattle.cmis_spec.specs.Changes.{stepped, noted, edited_series};
+ghost use Rattle.cmis_spec.specs.Documents.{checked_out, with_member, with_contents};
+
+use cm_base::content::Content;
+use cm_base::copies::Copies;
+use cm_base::items::Items;
+use cm_base::log::ChangeKind;
+use cm_base::number::{Moment, Oid};
+use cm_base::object::Object;
+use cm_base::series::{Series, WorkingCopy};
+use cm_base::text::Text;
+use cm_state::draft::Draft;
+use cm_state::state::State;
+use std::alloc::{AllocError, Global};
+
+/// The series as its owner checked it out.
+pub(crate) fn checked_out(
+    alloc: Global,
+    series: &Series,
+    copy: Oid,
+    owner: &Text,
+) -> Result<Series, AllocError>
+    ensures { IfOk result (λ s. s ≡ checked_out copy owner.now series.now) }
+{
+    Ok(Series {
+        id: series.id,
+        name: series.name.copied(alloc)?,
+        versions: series.versions.copied(alloc)?,
+        working: Some(WorkingCopy {
+            copy,
+            owner: owner.copied(alloc)?,
+        }),
+    })
+}
+
+// The draft with a content at the end, if there is one.
+fn with_content(alloc: Global, draft: Draft, content: Option<Content>) -> Result<Draft, AllocError>
+    requires above { IfSome content (λ c. All (λ d. d.of.0 < c.of.0) draft.contents) }
+    ensures { IfOk result (λ d. d ≡ with_contents draft content) }
+{
+    match content {
+        Some(content) => {
+            let full = draft.with_new_content(alloc, content)?;
+            Ok(full)
+        }
+        None => Ok(draft),
+    }
+}
+
+/// The copy in its series, with its content, one step further, with its event.
+pub(crate) fn copied_in(
+    alloc: Global,
+    state: &State,
+    copy: Object,
+    series: Series,
+    content: Option<Content>,
+    cost: u64,
+    moment: Moment,
+) -> Result<Draft, AllocError>
+    requires number { copy.id ≡ new_number state.now }
+    requires there { is_some (series_at state.now series.id) ≡ true }
+    requires content { IfSome content (λ c. c.of ≡ new_number state.now) }
+    requires next { state.now.next + 1 < 2 ^ 64 }
+    requires step { state.now.step + 1 < 2 ^ 64 }
+    requires cost { state.now.cost + cost < 2 ^ 64 }
+    ensures { IfOk result (λ d. d ≡ noted (stepped (with_contents (edited_series (with_member state.now copy) series) content) cost) Created copy.id moment []) }
+{
+    let number = copy.id;
+    let _step = state.step();
+    let begun = state.draft(alloc)?;
+    let made = begun.with_member(alloc, copy)?;
+    let out = made.edited_series(alloc, series)?;
+    let full = with_content(alloc, out, content)?;
+    let paid = full.stepped(cost);
+    let noted = paid.noted(alloc, ChangeKind::Created, number, moment, Items::new(alloc))?;
+    Ok(noted)
+}
