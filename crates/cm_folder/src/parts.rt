@@ -108,9 +108,9 @@ impl Parts {
         let by_folder = self
             .by_folder
             .with(alloc, entry.folder.0, place, entry.child)?;
-        let by_name =
-            self.by_name
-                .with(alloc, entry.folder.0, &entry.name, place, entry.child)?;
+        let by_name = self
+            .by_name
+            .with(alloc, entry.folder.0, &entry.name, place, entry.child)?;
         let entries = self.entries.with(alloc, place, entry)?;
         Ok(Parts {
             entries,

@@ -18,13 +18,7 @@ use std::alloc::{AllocError, Global};
 
 impl Filing {
     // Whether another child of the target has the name of the child in the source.
-    fn is_taken_there(
-        &self,
-        alloc: Global,
-        child: Oid,
-        source: Oid,
-        target: Oid,
-    ) -> bool
+    fn is_taken_there(&self, alloc: Global, child: Oid, source: Oid, target: Oid) -> bool
         ensures { result ≡ is_name_taken self.now target child (name_under self.now source child) }
     {
         match self.entry_under(source, child) {

@@ -46,10 +46,10 @@ fn lists_with(
     requires objects { All (λ x. x.id.0 < object.id.0) lists.objects }
     requires access { All (λ l. l.at.0 < object.id.0) lists.access }
     ensures { IfOk result (λ l. l ≡ record lists {
-        objects = lists.objects ++ object ∷ [];
-        access = lists.access ++ record { at = object.id; aces = aces } ∷ [];
-        applied = lists.applied ++ map (λ p. record { policy = p; object = object.id }) policies.now;
-      }) }
+      objects = lists.objects ++ object ∷ [];
+      access = lists.access ++ record { at = object.id; aces = aces } ∷ [];
+      applied = lists.applied ++ map (λ p. record { policy = p; object = object.id }) policies.now;
+    }) }
 {
     let number = object.id;
     let objects = lists.objects.with_last(alloc, object)?;

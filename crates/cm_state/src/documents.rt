@@ -19,7 +19,12 @@ fn lists_with(alloc: Global, lists: Lists, object: Object) -> Result<Lists, Allo
     Ok(Lists { objects, ..lists })
 }
 
-fn lists_applied(alloc: Global, lists: Lists, object: Oid, policies: &[Oid]) -> Result<Lists, AllocError>
+fn lists_applied(
+    alloc: Global,
+    lists: Lists,
+    object: Oid,
+    policies: &[Oid],
+) -> Result<Lists, AllocError>
     ensures { IfOk result (λ l. l ≡ record lists { applied = lists.applied ++ map (λ p. record { policy = p; object = object }) policies.now }) }
 {
     let applied = applied_with(alloc, &lists.applied, policies, object)?;

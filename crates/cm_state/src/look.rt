@@ -132,11 +132,7 @@ impl Draft {
         ensures { option_copied result ≡ own_at self.now n }
     {
         let x = self.object(n)?;
-        if x.series.is_none() {
-            Some(x)
-        } else {
-            None
-        }
+        if x.series.is_none() { Some(x) } else { None }
     }
 
     /// What stands for an entry: the latest version of a series, or else the folder or item.

@@ -94,14 +94,14 @@ fn root_aces(alloc: Global, administrator: &Text) -> Result<Aces, AllocError>
 // The lists with the root alone.
 fn first_lists(alloc: Global, folder: Object, aces: Aces) -> Result<Lists, AllocError>
     ensures { IfOk result (λ l. l ≡ record {
-        objects = folder ∷ [];
-        series = [];
-        access = record { at = root; aces = aces } ∷ [];
-        applied = [];
-        contents = [];
-        renditions = [];
-        log = [];
-      }) }
+      objects = folder ∷ [];
+      series = [];
+      access = record { at = root; aces = aces } ∷ [];
+      applied = [];
+      contents = [];
+      renditions = [];
+      log = [];
+    }) }
 {
     let objects = Table::empty(alloc).with_last(alloc, folder)?;
     let access = Table::empty(alloc).with_last(alloc, AccessList { at: ROOT, aces })?;

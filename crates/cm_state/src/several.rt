@@ -14,13 +14,24 @@ use cm_base::object::Object;
 use std::alloc::{AllocError, Global};
 
 // The object in place of the one that has its number, with its event.
-fn edited_once(alloc: Global, draft: Draft, object: Object, moment: Moment) -> Result<Draft, AllocError>
+fn edited_once(
+    alloc: Global,
+    draft: Draft,
+    object: Object,
+    moment: Moment,
+) -> Result<Draft, AllocError>
     requires there { is_some (object_at draft object.id) ≡ true }
     ensures { IfOk result (λ d. d ≡ edited_by moment draft object) }
 {
     let number = object.id;
     let edited = draft.edited(alloc, object)?;
-    let noted = edited.noted(alloc, ChangeKind::Updated, number, moment, Items::new(alloc))?;
+    let noted = edited.noted(
+        alloc,
+        ChangeKind::Updated,
+        number,
+        moment,
+        Items::new(alloc),
+    )?;
     Ok(noted)
 }
 

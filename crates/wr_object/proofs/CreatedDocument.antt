@@ -235,7 +235,6 @@ module _ (r : Repository) (u : List ℕ) (m : Moment) (cost : ℕ) (call : Creat
   turned (Some c) None = refl
   turned (Some c) (Some f) = refl
 
-
   pub document_made : IsWellFormed (after_create_document_in r u m cost call state p.folder)
   document_made = subst IsWellFormed (turned (new_content r call) p.folder) (made_document_keeps r cost m x s (new_aces u call.remove call.add) (policies_in r u call.policies) (new_content r call) (number_of p.folder) w is_made)
 

@@ -36,6 +36,12 @@ pub(crate) fn made_in(
     let made = begun.with_object(alloc, object, aces, policies)?;
     let filed = made.with_pair(alloc, folder, number)?;
     let paid = filed.stepped(cost);
-    let noted = paid.noted(alloc, ChangeKind::Created, number, moment, Items::new(alloc))?;
+    let noted = paid.noted(
+        alloc,
+        ChangeKind::Created,
+        number,
+        moment,
+        Items::new(alloc),
+    )?;
     Ok(noted)
 }

@@ -199,8 +199,12 @@ module _ (r : Repository) (u : List ℕ) (m : Moment) (cost : ℕ) (call : Check
   put_number z = by_test (same z.id y.id) (λ e. rw e (same_refl y.id)) (λ e. rw e e)
 
   version_there : IsBaseAt made bases.Document y.id
-  version_there = (x, find_mapped put (λ z. same z.id y.id) r.objects
-      ∙ (ap (option_map put) (find_alike (λ z. same (put z).id y.id) (λ z. same z.id y.id) r.objects (every r.objects) ∙ there) ∙ ap (λ b. Some (if b then x else y)) (same_refl y.id)), p.document)
+  version_there = (
+    x,
+    find_mapped put (λ z. same z.id y.id) r.objects
+        ∙ (ap (option_map put) (find_alike (λ z. same (put z).id y.id) (λ z. same z.id y.id) r.objects (every r.objects) ∙ there) ∙ ap (λ b. Some (if b then x else y)) (same_refl y.id)),
+    p.document,
+  )
     where
       every : (zs : List Object) → All (λ z. same (put z).id y.id ≡ same z.id y.id) zs
       every [] = All-nil (λ z. same (put z).id y.id ≡ same z.id y.id)

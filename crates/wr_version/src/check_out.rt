@@ -79,12 +79,7 @@ fn judge_latest(state: &State, x: &Object) -> Result<(), Cause>
 
 // The document that is addressed, or the cause of the refusal.
 #[tactic(auto, using(cm_types::proofs::Exits::fails_then, cm_types::proofs::Exits::fails_bind))]
-fn judge<'a>(
-    state: &'a State,
-    user: &Text,
-    cost: u64,
-    call: &CheckOut,
-) -> Result<&'a Object, Cause>
+fn judge<'a>(state: &'a State, user: &Text, cost: u64, call: &CheckOut) -> Result<&'a Object, Cause>
     ensures { Finds (λ x. x.now) result (refusal_check_out state.now user.now cost call.now) (addressed state.now user.now call.now.place) }
 {
     judge_storage(state, cost)?;

@@ -76,6 +76,12 @@ pub(crate) fn copied_in(
     let out = made.edited_series(alloc, series)?;
     let full = with_content(alloc, out, content)?;
     let paid = full.stepped(cost);
-    let noted = paid.noted(alloc, ChangeKind::Created, number, moment, Items::new(alloc))?;
+    let noted = paid.noted(
+        alloc,
+        ChangeKind::Created,
+        number,
+        moment,
+        Items::new(alloc),
+    )?;
     Ok(noted)
 }
