@@ -16,6 +16,7 @@ use std::alloc::{AllocError, Global};
 
 // The new folder, and a folder to which it is moved.
 const MADE: Oid = Oid(2);
+
 const OTHER: Oid = Oid(7);
 
 #[tactic(auto, unfolding(cmis_spec::specs::Repository::most_steps))]

@@ -58,7 +58,9 @@ fn judge_found(
     parent: &Object,
     kind: &TypeDef,
 ) -> Result<Values, Fail>
-    ensures { Leaves result (judge_found state.now user.now call.now wanted.now parent.now kind.now) (kept_values calls.Create wanted.now.defs [] call.now.properties) }
+    ensures { Leaves result
+        (judge_found state.now user.now call.now wanted.now parent.now kind.now)
+        (kept_values calls.Create wanted.now.defs [] call.now.properties) }
 {
     judge_kinds(
         alloc,
@@ -85,7 +87,10 @@ fn judge_parts(
     call: &CreateFolder,
     wanted: &Wanted,
 ) -> Result<(Oid, Values), Fail>
-    ensures { Writes result (refusal_in_parts state.now user.now cost call.now wanted.now) (parent_of state.now user.now call.now) (kept_values calls.Create wanted.now.defs [] call.now.properties) }
+    ensures { Writes result
+        (refusal_in_parts state.now user.now cost call.now wanted.now)
+        (parent_of state.now user.now call.now)
+        (kept_values calls.Create wanted.now.defs [] call.now.properties) }
 {
     judge_storage(state, cost)?;
     let parent = addressed(state, user, &call.place).ok_or(Cause::NotFound)?;
@@ -106,7 +111,10 @@ fn judge(
     wanted: &Wanted,
 ) -> Result<(Oid, Values), Fail>
     requires { wanted.now ≡ wanted_in state.now.types call.now.properties }
-    ensures { Writes result (refusal_create_folder state.now user.now moment cost call.now) (parent_of state.now user.now call.now) (kept_values calls.Create wanted.now.defs [] call.now.properties) }
+    ensures { Writes result
+        (refusal_create_folder state.now user.now moment cost call.now)
+        (parent_of state.now user.now call.now)
+        (kept_values calls.Create wanted.now.defs [] call.now.properties) }
 {
     let _ = moment;
     judge_parts(alloc, state, user, cost, call, wanted)
@@ -149,7 +157,19 @@ fn new_folder(
     values: Values,
 ) -> Result<Object, AllocError>
     requires room { state.now.step + 1 < 2 ^ 64 }
-    ensures { IfOk result (λ x. x ≡ record { id = new_number state.now; kind = wanted.kind; name = Some wanted.name; secondary = wanted.secondary; values = kept_beside values; maker = user.now; made = moment; changer = user.now; changed = moment; token = state.now.step + 1; series = None }) }
+    ensures { IfOk result (λ x. x ≡ record {
+      id = new_number state.now;
+      kind = wanted.kind;
+      name = Some wanted.name;
+      secondary = wanted.secondary;
+      values = kept_beside values;
+      maker = user.now;
+      made = moment;
+      changer = user.now;
+      changed = moment;
+      token = state.now.step + 1;
+      series = None;
+    }) }
 {
     Ok(Object {
         id: Oid(state.next_number()),
@@ -199,7 +219,10 @@ pub fn create_folder(
     moment: Moment,
     call: &CreateFolder,
 ) -> Result<(State, Reply), Fail>
-    ensures written { Writes result (refusal_create_folder state.now user.now moment (cost_create_folder state.now call.now) call.now) (after_create_folder state.now user.now moment (cost_create_folder state.now call.now) call.now) (acknowledgement_create_folder state.now user.now moment (cost_create_folder state.now call.now) call.now) }
+    ensures written { Writes result
+        (refusal_create_folder state.now user.now moment (cost_create_folder state.now call.now) call.now)
+        (after_create_folder state.now user.now moment (cost_create_folder state.now call.now) call.now)
+        (acknowledgement_create_folder state.now user.now moment (cost_create_folder state.now call.now) call.now) }
     ensures well { IfOk result (λ x. IsWellFormed x.0) }
 {
     let _step = state.step();

@@ -23,7 +23,10 @@ fn acknowledged(
     number: Oid,
 ) -> Result<Reply, AllocError>
     requires there { is_some (object_at made.now number) ≡ true }
-    ensures { IfOk result (λ a. (x : Object) → object_at made.now number ≡ Some x → a ≡ replies.Object (record { object = shown_object made.now user.now filters.All succinct x; created = true })) }
+    ensures { IfOk result (λ a. (x : Object) → object_at made.now number ≡ Some x → a ≡ replies.Object (record {
+      object = shown_object made.now user.now filters.All succinct x;
+      created = true;
+    })) }
 {
     let x = made.object(number).unwrap();
     let object = shown_object(alloc, made, user, &PropertyFilter::All, succinct, x)?;
@@ -43,7 +46,10 @@ pub fn with_reply(
 ) -> Result<(State, Reply), AllocError>
     requires there { is_some (object_at made number) ≡ true }
     ensures same { IfOk result (λ a. a.0 ≡ made) }
-    ensures shown { IfOk result (λ a. (x : Object) → object_at made number ≡ Some x → a.1 ≡ replies.Object (record { object = shown_object made user.now filters.All succinct x; created = true })) }
+    ensures shown { IfOk result (λ a. (x : Object) → object_at made number ≡ Some x → a.1 ≡ replies.Object (record {
+      object = shown_object made user.now filters.All succinct x;
+      created = true;
+    })) }
 {
     let reply = acknowledged(alloc, &made, user, succinct, number)?;
     Ok((made, reply))

@@ -85,7 +85,9 @@ fn judge_latest(state: &State, x: &Object) -> Result<(), Cause>
 // The document that is addressed, or the cause of the refusal.
 #[tactic(auto, using(cm_types::proofs::Exits::fails_then, cm_types::proofs::Exits::fails_bind))]
 fn judge<'a>(state: &'a State, user: &Text, cost: u64, call: &CheckOut) -> Result<&'a Object, Cause>
-    ensures { Finds (λ x. x.now) result (refusal_check_out state.now user.now cost call.now) (addressed state.now user.now call.now.place) }
+    ensures { Finds (λ x. x.now) result
+        (refusal_check_out state.now user.now cost call.now)
+        (addressed state.now user.now call.now.place) }
 {
     judge_storage(state, cost)?;
     let x = match addressed(state, user, &call.place) {
@@ -194,7 +196,9 @@ fn copied_out(
     cost: u64,
     call: &CheckOut,
 ) -> Result<State, Fail>
-    ensures { Leaves result (refusal_check_out state.now user.now cost call.now) (after_check_out state.now user.now moment cost call.now) }
+    ensures { Leaves result
+        (refusal_check_out state.now user.now cost call.now)
+        (after_check_out state.now user.now moment cost call.now) }
 {
     let _now = state.step();
     let x = judge(state, user, cost, call)?;
@@ -234,7 +238,10 @@ pub fn check_out(
     moment: Moment,
     call: &CheckOut,
 ) -> Result<(State, Reply), Fail>
-    ensures written { Writes result (refusal_check_out state.now user.now (cost_check_out state.now user.now call.now) call.now) (after_check_out state.now user.now moment (cost_check_out state.now user.now call.now) call.now) (acknowledgement_check_out state.now user.now moment (cost_check_out state.now user.now call.now) call.now) }
+    ensures written { Writes result
+        (refusal_check_out state.now user.now (cost_check_out state.now user.now call.now) call.now)
+        (after_check_out state.now user.now moment (cost_check_out state.now user.now call.now) call.now)
+        (acknowledgement_check_out state.now user.now moment (cost_check_out state.now user.now call.now) call.now) }
     ensures well { IfOk result (λ x. IsWellFormed x.0) }
 {
     let _step = state.step();
