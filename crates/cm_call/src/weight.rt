@@ -3,8 +3,10 @@ ghost use Rattle.std.specs.Prelude.{◌≡◌, ◌+◌};
 ghost use Rattle.std.specs.List.{flat_map};
 ghost use Rattle.cm_call.specs.declared.write.Write.TheVariants as writes;
 ghost use Rattle.cm_call.specs.Weight.{weight_of, weight_of_texts, bounded, text_weight, texts_of_place, texts_of_given, texts_of_ace, texts_of_create_folder};
+ghost use Rattle.cm_call.specs.Versions.{weight_of_check_out};
 
 use crate::place::Place;
+use crate::versions::CheckOut;
 use crate::write::{AceRequests, CreateFolder, Write};
 use cm_base::text::{Text, Texts};
 use cm_types::given::Givens;
@@ -69,6 +71,13 @@ pub fn weight_of_create_folder(call: &CreateFolder) -> u64
     ensures { result ≡ weight_of (writes.CreateFolder call.now) }
 {
     with_create_folder(64, call)
+}
+
+/// What a checkOut weighs.
+pub fn weight_of_check_out(call: &CheckOut) -> u64
+    ensures { result ≡ weight_of_check_out call.now }
+{
+    with_place(64, &call.place)
 }
 
 /// 64 for the call, and for each of its texts its bytes and 64. Takes no memory.

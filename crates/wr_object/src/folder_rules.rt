@@ -54,7 +54,8 @@ fn is_wrong_type(
     kind: &TypeDef,
     secondary: &[Text],
 ) -> Result<bool, AllocError>
-    ensures { IfOk result (λ b. b ≡ (not (same_base bases.Folder kind.now.base) || has_other_secondary types.now secondary.now)) }
+    ensures { IfOk result (λ b. b ≡
+        (not (same_base bases.Folder kind.now.base) || has_other_secondary types.now secondary.now)) }
 {
     if !is_folder_type(kind) {
         return Ok(true);
@@ -150,7 +151,9 @@ pub(crate) fn judge_place(
 
 /// The values of the new object, or the first fault of the given properties.
 pub(crate) fn judge_values(alloc: Global, defs: &PropDefs, given: &Givens) -> Result<Values, Fail>
-    ensures { Leaves result (judge_properties calls.Create defs.now [] given.now) (kept_values calls.Create defs.now [] given.now) }
+    ensures { Leaves result
+        (judge_properties calls.Create defs.now [] given.now)
+        (kept_values calls.Create defs.now [] given.now) }
 {
     check_new(alloc, defs, &Items::new(alloc), given)
 }

@@ -28,7 +28,7 @@ fn with_scalars(so_far: u64, scalars: &[Scalar]) -> u64
     total
 }
 
-fn with_value(so_far: u64, value: &Value) -> u64
+pub(crate) fn with_value(so_far: u64, value: &Value) -> u64
     ensures { result ≡ bounded (so_far + value_cost value.now) }
 {
     match value {
