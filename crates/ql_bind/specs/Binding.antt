@@ -201,11 +201,15 @@ bind_filter scope (Some x) = bind_condition scope x >>= λ y. Ok (Some y)
 abbrev pub whole_column : PropDef → ShownColumn
 whole_column d = record { key = d.query_name; property = d }
 
+-- under its alias, or else its query name
+abbrev pub named_column : Option (List ℕ) → PropDef → ShownColumn
+named_column alias d = record { key = unwrap_or alias d.query_name; property = d }
+
 abbrev pub bind_item : Scope → Item → Judged (List ShownColumn)
 bind_item scope (items.AllOf table) = judge_qualifier scope table >> Ok (map whole_column scope.columns)
 bind_item scope (items.One c alias) = do
   d ← column_in scope c
-  Ok (record { key = unwrap_or alias d.query_name; property = d } ∷ [])
+  Ok (named_column alias d ∷ [])
 
 abbrev pub bind_selection : Scope → Selection → Judged (List ShownColumn)
 bind_selection scope selections.All = Ok (map whole_column scope.columns)
