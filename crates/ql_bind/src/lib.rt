@@ -12,4 +12,4 @@ mod moment;
 mod number;
 mod pattern;
 mod select;
-mod table;
+pub mod table;

@@ -75,7 +75,8 @@ fn add_columns<'a>(all: &mut Vec<&'a PropDef>, defs: &'a [PropDef]) -> Result<()
     Ok(())
 }
 
-fn columns_in<'a>(alloc: Global, types: &[&'a TypeDef]) -> Result<Vec<&'a PropDef>, AllocError>
+/// The queryable properties of some types, in their order.
+pub fn columns_in<'a>(alloc: Global, types: &[&'a TypeDef]) -> Result<Vec<&'a PropDef>, AllocError>
     ensures { IfOk result (λ all. map pointee all.items ≡ columns_among (properties_in (map pointee types.now))) }
 {
     let mut all = Vec::new(alloc);
