@@ -90,8 +90,8 @@ const CHUNKS: &[u8] =
 
 fn has_its_line(request: &Request) -> bool {
     let head = request.head();
-    head.method() == b"POST"
-        && head.target() == b"/cmis/main"
+    head.method() == b"POST".as_slice()
+        && head.target() == b"/cmis/main".as_slice()
         && head.minor() == 1
         && !head.closes()
 }
@@ -99,8 +99,8 @@ fn has_its_line(request: &Request) -> bool {
 fn has_its_fields(request: &Request) -> bool {
     let head = request.head();
     head.count() == 2
-        && head.name(1) == b"Transfer-Encoding"
-        && head.value(1) == b"Chunked"
+        && head.name(1) == b"Transfer-Encoding".as_slice()
+        && head.value(1) == b"Chunked".as_slice()
         && matches!(head.named(b"HOST"), Named::One(b"x"))
 }
 
@@ -114,7 +114,7 @@ fn parts_of_a_request(rt: HostRuntime) -> Result<(), Fail> {
         match read_request(alloc, &mut source, &mut buffer) {
             Ok(Incoming::Body(request)) => has_its_line(&request)
                 && has_its_fields(&request)
-                && request.body().as_slice() == b"hello!",
+                && request.body().as_slice() == b"hello!".as_slice(),
             _ => false,
         }
     );
