@@ -2,6 +2,7 @@
 use crate::check::{check_checked_in, check_new, check_update};
 use crate::kept::{defaults, kept_values};
 use crate::lookup::{def_of, given_of, slot_in};
+use crate::text::{is_formless, scalar_of_text, value_of_texts};
 use cm_base::cause::{Cause, PropertyFault};
 use cm_base::fail::Fail;
 use cm_base::items::Items;
@@ -158,5 +159,28 @@ fn defaults_are_kept(rt: HostRuntime) -> Result<(), AllocError> {
     assert!(rt;
         def_of(defs.as_slice(), &id).is_some() && given_of(nothing.as_slice(), &id).is_none()
     );
+    Ok(())
+}
+
+#[test]
+fn texts_state_scalars(rt: HostRuntime) -> Result<(), AllocError> {
+    let alloc = rt.alloc();
+    let number = Text::from_str(alloc, "-7")?;
+    assert!(rt; scalar_of_text(alloc, PropertyKind::Integer, &number)? == Some(Scalar::Whole(-7)));
+    assert!(rt; scalar_of_text(alloc, PropertyKind::Datetime, &number)? == Some(Scalar::Time(-7)));
+    assert!(rt; scalar_of_text(alloc, PropertyKind::Boolean, &number)? == None);
+    assert!(rt; is_formless(PropertyKind::Boolean, &number));
+    assert!(rt; !is_formless(PropertyKind::Html, &number));
+    Ok(())
+}
+
+#[test]
+fn texts_state_values(rt: HostRuntime) -> Result<(), AllocError> {
+    let alloc = rt.alloc();
+    let texts = given(alloc, "t:p", "true", false)?.texts;
+    let one = value_of_texts(alloc, PropertyKind::Boolean, false, texts.as_slice())?;
+    let several = value_of_texts(alloc, PropertyKind::Boolean, true, texts.as_slice())?;
+    assert!(rt; one == Value::One(Scalar::Flag(true)));
+    assert!(rt; matches!(several, Value::Many(_)));
     Ok(())
 }
