@@ -1,13 +1,13 @@
 //! Worked rows: what is refused of the properties of a type with an integer, a flag and a list of texts.
-use crate::check::{check_checked_in, check_new, check_update};
-use crate::kept::{defaults, kept_values};
-use crate::lookup::{def_of, given_of, slot_in};
-use crate::text::{is_formless, scalar_of_text, value_of_texts};
 use cm_base::cause::{Cause, PropertyFault};
 use cm_base::fail::Fail;
 use cm_base::items::Items;
 use cm_base::text::Text;
 use cm_base::value::{Scalar, Value, Values};
+use cm_rules::check::{check_checked_in, check_new, check_update};
+use cm_rules::kept::{defaults, kept_values};
+use cm_rules::lookup::{def_of, given_of, slot_in};
+use cm_rules::text::{is_formless, scalar_of_text, value_of_texts};
 use cm_types::given::{Given, Givens, PropertyCall};
 use cm_types::property::{Cardinality, PropDef, PropDefs, PropertyKind, Updatability};
 use std::alloc::{AllocError, Global};
