@@ -1,7 +1,7 @@
 use Rattle.std.proofs.Common.{rules, ◌≡◌}
 use Rattle.outside.specs.Hosts.{IsNew}
 use Rattle.desk_serve.proofs.Taking.{taken_from}
-use Rattle.desk_serve.proofs.hall.next_link.Goals as goal
+use Rattle.desk_serve.proofs.serving.next_link.Goals as goal
 
 pub returns-in-Ok-Some-clause-link : goal.returns-in-Ok-Some-clause-link
 returns-in-Ok-Some-clause-link g c = let e = c.in-Ok-Some.ensures in
