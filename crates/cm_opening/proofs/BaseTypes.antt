@@ -8,7 +8,7 @@ use Rattle.core.specs.Cmp.Lexicographic.{slice_cmp}
 use Rattle.std.proofs.Common.{refl, sym, ap, subst, ◌∙◌}
 use Rattle.std.proofs.lemmas.Bool.{both_ways}
 use Rattle.cmis_laws.proofs.Kept.{bytes_true}
-use Rattle.std.proofs.lemmas.List.Elements.{All-nil, All-cons}
+use Rattle.std.proofs.lemmas.List.Elements.{All-nil, All-cons, All-weaker}
 use Rattle.cm_base.specs.declared.number.Moment.{Moment}
 use Rattle.cm_base.specs.declared.user.User.{User}
 use Rattle.cm_base.specs.declared.value.Scalar.TheVariants.{Words}
@@ -24,7 +24,7 @@ use Rattle.cm_types.specs.Properties.{value_fault, is_faulty, is_of_kind, is_too
 use Rattle.cm_types.specs.BaseTypes.{prop, common_props, version_props, content_props, folder_props, relationship_props, policy_props, base_types}
 use Rattle.cmis_spec.specs.Values.{words, texts}
 use Rattle.cmis_spec.specs.Repository.{opening, most_steps, last_of}
-use Rattle.cmis_spec.specs.Well.{Apart, MayOpen, IsWellFormed, root_value, ends_at_base, HasBases, IsRooted, Agrees, TakesTexts, IsDef, HasDefs}
+use Rattle.cmis_spec.specs.Well.{Apart, MayOpen, IsWellFormed, root_value, ends_at_base, HasBases, IsRooted, Agrees, TakesTexts, IsDef, HasDefs, define_apart}
 use Rattle.cmis_laws.proofs.Opening.{opening_is}
 use Rattle.cmis_laws.proofs.Lists.{by_test, some_eq, all_zip, apart_weaker}
 
@@ -131,6 +131,11 @@ props_rise = all_zip (λ t. All (λ d. in_table d.id ≡ Some d) t.properties) (
     (λ d e a b k. less (slice_cmp nat_cmp d.id e.id) k) f (apart_by_test (λ d e. later d.id e.id) t.properties h))
     found (all_by_map (λ t. apart_test (λ d e. later d.id e.id) t.properties) (λ t. true) base_types refl)
 
+-- base types share properties, and there are no others yet
+define_apart_all : All (λ s. All (λ t. define_apart s t ≡ true) base_types) base_types
+define_apart_all = All-weaker (λ s. map (define_apart s) base_types ≡ map (λ t. true) base_types) (λ s. All (λ t. define_apart s t ≡ true) base_types) (λ s. all_by_map (define_apart s) (λ t. true) base_types) base_types
+    (all_by_map (λ s. map (define_apart s) base_types) (λ s. map (λ t. true) base_types) base_types refl)
+
 root_fits : All (λ d. is_faulty d (root_value d.id) ≡ false) (props_of base_types (codes "cmis:folder") [])
 unfolding longest_chain
 root_fits = all_by_map (λ d. is_faulty d (root_value d.id)) (λ d. false) (props_of base_types (codes "cmis:folder") []) refl
@@ -212,7 +217,7 @@ have_defs = all_zip (λ t. All IsRow t.properties) (λ t. All (λ d. value_fault
 
 pub base_types_may_open : MayOpen base_types
 base_types_may_open = record {
-  well = (types_differ, query_names_differ, end_at_base, rows_found, rooted, types_rise, props_rise);
+  well = (types_differ, query_names_differ, end_at_base, rows_found, rooted, types_rise, props_rise, define_apart_all);
   defs = have_defs;
   folder = refl;
   root = root_fits;

@@ -33,7 +33,7 @@ above_all : (Q : TypeDef → Type 0) (f : List ℕ → List TypeDef) (o : Option
 above_all Q f None h = All-nil Q
 above_all Q f (Some id) h = h id
 
-chain_all : (Q : TypeDef → Type 0) (n : ℕ) (types : List TypeDef) (id : List ℕ) → All Q types → All Q (chain_of n types id)
+pub chain_all : (Q : TypeDef → Type 0) (n : ℕ) (types : List TypeDef) (id : List ℕ) → All Q types → All Q (chain_of n types id)
 chain_all Q zero types id all = All-nil Q
 chain_all Q (suc n) types id all = elim (type_in types id) as (λ o. type_in types id ≡ o → All Q (unwrap_or (option_map (λ t. t ∷ unwrap_or (option_map (chain_of n types) t.parent) []) o) [])) [
   | None ↦ λ e. All-nil Q
@@ -45,10 +45,10 @@ onto_all : {A : Type 0} (Q : A → Type 0) (xs ys : List A) → All Q xs → All
 onto_all Q [] ys all more = more
 onto_all Q (x ∷ xs) ys all more = onto_all Q xs (x ∷ ys) (All-tail Q x xs all) (All-cons Q x ys (All-head Q x xs all) more)
 
-reverse_all : {A : Type 0} (Q : A → Type 0) (xs : List A) → All Q xs → All Q (reverse xs)
+pub reverse_all : {A : Type 0} (Q : A → Type 0) (xs : List A) → All Q xs → All Q (reverse xs)
 reverse_all Q xs all = onto_all Q xs [] all (All-nil Q)
 
-flat_all : {A B : Type 0} (Q : B → Type 0) (f : A → List B) (xs : List A) → All (λ x. All Q (f x)) xs → All Q (flat_map f xs)
+pub flat_all : {A B : Type 0} (Q : B → Type 0) (f : A → List B) (xs : List A) → All (λ x. All Q (f x)) xs → All Q (flat_map f xs)
 flat_all Q f [] all = All-nil Q
 flat_all Q f (x ∷ xs) all = All-append Q (f x) (flat_map f xs) (All-head (λ x. All Q (f x)) x xs all) (flat_all Q f xs (All-tail (λ x. All Q (f x)) x xs all))
 
@@ -56,17 +56,19 @@ every : {A : Type 0} (Q : A → Type 0) (xs : List A) → ((x : A) → Q x) → 
 every Q [] h = All-nil Q
 every Q (x ∷ xs) h = All-cons Q x xs (h x) (every Q xs h)
 
-first_all : (Q : TypeDef → Type 0) (ts : List TypeDef) → All Q ts → All Q (first_of_each ts)
+pub first_all : (Q : TypeDef → Type 0) (ts : List TypeDef) → All Q ts → All Q (first_of_each ts)
 first_all Q [] all = All-nil Q
 first_all Q (t ∷ ts) all = All-cons Q t (filter (λ s. not (bytes_eq s.id t.id)) (first_of_each ts)) (All-head Q t ts all)
     (All-filter (λ s. not (bytes_eq s.id t.id)) Q (first_of_each ts) (first_all Q ts (All-tail Q t ts all)))
 
+pub types_all : (Q : TypeDef → Type 0) (types : List TypeDef) (kind : List ℕ) (secondary : List (List ℕ)) → All Q types → All Q (types_of types kind secondary)
+types_all Q types kind secondary all = first_all Q (flat_map (λ s. reverse (chain types s)) (kind ∷ secondary))
+    (flat_all Q (λ s. reverse (chain types s)) (kind ∷ secondary)
+    (every (λ s. All Q (reverse (chain types s))) (kind ∷ secondary)
+    (λ s. reverse_all Q (chain types s) (chain_all Q longest_chain types s all))))
+
 pub props_all : (P : PropDef → Type 0) (types : List TypeDef) (kind : List ℕ) (secondary : List (List ℕ)) → All (λ t. All P t.properties) types → All P (props_of types kind secondary)
-props_all P types kind secondary all = flat_all P (λ t. t.properties) (types_of types kind secondary)
-    (first_all (λ t. All P t.properties) (flat_map (λ s. reverse (chain types s)) (kind ∷ secondary))
-    (flat_all (λ t. All P t.properties) (λ s. reverse (chain types s)) (kind ∷ secondary)
-    (every (λ s. All (λ t. All P t.properties) (reverse (chain types s))) (kind ∷ secondary)
-    (λ s. reverse_all (λ t. All P t.properties) (chain types s) (chain_all (λ t. All P t.properties) longest_chain types s all)))))
+props_all P types kind secondary all = flat_all P (λ t. t.properties) (types_of types kind secondary) (types_all (λ t. All P t.properties) types kind secondary all)
 
 -- ---- bytes
 

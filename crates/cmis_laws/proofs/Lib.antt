@@ -17,6 +17,7 @@ pub mod Made
 pub mod MadeDocument
 pub mod Moved
 pub mod Objects
+pub mod Once
 pub mod Opening
 pub mod Paired
 pub mod Passed

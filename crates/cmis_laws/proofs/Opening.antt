@@ -17,7 +17,7 @@ use Rattle.cm_base.specs.declared.value.Value.{Value}
 use Rattle.cm_base.specs.declared.value.Value.TheVariants.{Unset}
 use Rattle.cm_types.specs.declared.definition.TypeDef.{TypeDef}
 use Rattle.cm_types.specs.declared.definition.BaseType.TheVariants as bases
-use Rattle.cm_types.specs.Types.{type_in, same_base, props_of}
+use Rattle.cm_types.specs.Types.{type_in, same_base, is_below, props_of}
 use Rattle.cm_types.specs.Properties.{is_faulty}
 use Rattle.cmis_spec.specs.Repository.{object_at, series_at, root, same, most_steps, most_cost, is_a, opening, root_folder, root_access, administrator_of, entry_of, longest_stream}
 use Rattle.cmis_spec.specs.Values.{words, form_value}
@@ -86,7 +86,7 @@ opening_is types users m n f bound =
       sizes = All-nil (λ c. length c.stream.pieces ≤ longest_stream);
       own_values = one (OwnsValues types) x (All-nil (IsOwn types x));
       contents = (tt, All-nil (λ c. IsBaseAt r bases.Document c.of × (c.step ≤ n)));
-      typed = one (IsTyped types) x (there (type_in types (codes "cmis:folder")) f.folder, All-nil (λ s. is_some (type_in types s) ≡ true));
+      typed = one (IsTyped types) x (there (type_in types (codes "cmis:folder")) f.folder, All-nil (λ s. is_below types s (codes "cmis:secondary") ≡ true));
       types = f.well;
       defs = f.defs;
       kept = one (λ y. IsKept r (props_of types y.kind y.secondary) y) x

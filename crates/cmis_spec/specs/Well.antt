@@ -1,5 +1,5 @@
 -- A repository that is well formed: a record of named facts, each about the lists that it names (CMIS 1.1, section 2.1).
-use Rattle.std.specs.Prelude.{if◌then◌else◌, ◌≡◌, ℕ, zero, suc, ◌+◌, ◌<◌, ◌≤◌, Bool, true, false, ◌&&◌, ◌||◌, not, ◌⊎◌, List, [], ◌∷◌, ◌++◌, map, length, All, count_by, bytes_eq, codes, Option, Some, None, IfSome, is_some, option_map, unwrap_or}
+use Rattle.std.specs.Prelude.{if◌then◌else◌, ◌≡◌, ℕ, zero, suc, ◌+◌, ◌<◌, ◌≤◌, Bool, true, false, ◌&&◌, ◌||◌, not, ◌⊎◌, List, [], ◌∷◌, ◌++◌, map, length, All, count_by, bytes_eq, codes, Option, Some, None, IfSome, is_some, is_none, option_map, unwrap_or}
 use Rattle.std.specs.List.{list_any}
 use Rattle.core.specs.Ordering.{nat_cmp, ordering_then}
 use Rattle.core.specs.Cmp.Lexicographic.{slice_cmp}
@@ -19,7 +19,7 @@ use Rattle.cm_types.specs.declared.definition.TypeDef.{TypeDef}
 use Rattle.cm_types.specs.declared.definition.BaseType.{BaseType}
 use Rattle.cm_types.specs.declared.definition.BaseType.TheVariants as bases
 use Rattle.cm_types.specs.declared.property.PropDef.{PropDef}
-use Rattle.cm_types.specs.Types.{type_in, is_of_base, props_of, chain, longest_chain}
+use Rattle.cm_types.specs.Types.{type_in, is_of_base, is_below, props_of, chain, longest_chain}
 use Rattle.cm_types.specs.Changes.{base_id}
 use Rattle.cm_types.specs.BaseTypes.{base_types}
 use Rattle.cm_types.specs.Properties.{value_in, texts_of, value_fault, is_faulty, def_of}
@@ -202,8 +202,9 @@ HasSizes r = All (λ c. length c.stream.pieces ≤ longest_stream) r.contents
 
 -- ---- types and values
 
+-- the type is there, and each secondary type is below the base type of such types
 abbrev pub IsTyped : List TypeDef → Object → Type 0
-IsTyped types x = (is_some (type_in types x.kind) ≡ true) × All (λ s. is_some (type_in types s) ≡ true) x.secondary
+IsTyped types x = (is_some (type_in types x.kind) ≡ true) × All (λ s. is_below types s (codes "cmis:secondary") ≡ true) x.secondary
 
 abbrev pub HasTyped : Repository → Type 0
 HasTyped r = All (IsTyped r.types) r.objects
@@ -221,6 +222,14 @@ HasBases types = All (λ b. type_in types b.id ≡ Some b) base_types
 abbrev pub IsRooted : List TypeDef → TypeDef → Type 0
 IsRooted types t = option_map (λ b. b.id) (last_of (chain types t.id)) ≡ Some (base_id t.base)
 
+-- the types define a property of one id
+abbrev pub define_one : TypeDef → TypeDef → Bool
+define_one s t = list_any (λ d. list_any (λ e. bytes_eq d.id e.id) t.properties) s.properties
+
+-- a property is defined by one type, or by several base types
+abbrev pub define_apart : TypeDef → TypeDef → Bool
+define_apart s t = bytes_eq s.id t.id || (is_none s.parent && is_none t.parent) || not (define_one s t)
+
 -- type ids and query names are unique, and each chain ends at a base type; types and their properties stand in byte order
 abbrev pub HasTypes : List TypeDef → Type 0
 HasTypes types =
@@ -231,6 +240,7 @@ HasTypes types =
     × All (IsRooted types) types
     × Apart (λ s t. slice_cmp nat_cmp s.id t.id ≡ Less) types
     × All (λ t. Apart (λ d e. slice_cmp nat_cmp d.id e.id ≡ Less) t.properties) types
+    × All (λ s. All (λ t. define_apart s t ≡ true) types) types
 
 -- no other property has this one's id or query name
 abbrev pub Agrees : PropDef → List PropDef → Type 0

@@ -31,7 +31,7 @@ use Rattle.cmis_laws.proofs.Made.{folder_keeps}
 use Rattle.wr_rules.specs.Rules.{judge_storage, distinct, name_in, type_id_in, secondary_in, unknown_type, has_other_secondary, bars_child, unread_cause, read_all, has_other_policy, policies_in, has_unknown_permission, aces_of, aces_in, new_aces}
 use Rattle.cmis_laws.proofs.Kept.{kept_new, owns_new}
 use Rattle.cmis_laws.proofs.Passed.{refused_not, then_ok, refuse_ok, find_ok, first_none, some_none, not_false, or_left, or_right}
-use Rattle.wr_rules.proofs.Known.{known_types}
+use Rattle.wr_rules.proofs.Known.{below_secondary}
 use Rattle.wr_rules.proofs.Found.{addressed_there, read_there, named_there}
 use Rattle.wr_object.specs.CreateFolder.{folder_props, is_uncontrollable, refusal_create_folder, new_folder, after_create_folder_in, after_create_folder}
 
@@ -181,7 +181,7 @@ keeps_create_folder r u m cost call w h ordered =
       name = name_in call.properties;
       named = refl;
       base = rw p.kind (not_false (same_base bases.Folder p.def.base) (or_left (not (same_base bases.Folder p.def.base)) (has_other_secondary r.types (secondary_in call.properties)) p.base));
-      typed = (ap is_some p.kind, known_types r.types (secondary_in call.properties) p.known);
+      typed = (ap is_some p.kind, below_secondary r.types (secondary_in call.properties) (or_right (not (same_base bases.Folder p.def.base)) (has_other_secondary r.types (secondary_in call.properties)) p.base));
       kept = kept_new r (type_id_in call.properties) (secondary_in call.properties) call.properties x w.defs p.properties refl;
       owned = owns_new r.types call.properties x refl;
       token = omega arith;

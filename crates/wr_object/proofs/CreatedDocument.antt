@@ -39,7 +39,7 @@ use Rattle.cmis_laws.proofs.Steps.{HasRoom}
 use Rattle.wr_rules.specs.Rules.{judge_storage, distinct, name_in, type_id_in, secondary_in, unknown_type, has_other_secondary, bars_child, unread_cause, has_other_policy, policies_in, has_unknown_permission, new_aces}
 use Rattle.wr_rules.specs.Documents.{judge_content, bars_content, needs_content, is_too_long, content_of_stream}
 use Rattle.wr_rules.proofs.Found.{addressed_there}
-use Rattle.wr_rules.proofs.Known.{known_types}
+use Rattle.wr_rules.proofs.Known.{below_secondary}
 use Rattle.wr_rules.proofs.Room.{room_of}
 use Rattle.wr_object.specs.CreateDocument.{folder_at, folder_of, document_props, state_of, is_unversioned, has_other_state, is_uncontrollable, may_not_make, is_no_folder, is_name_taken, refusal_create_document, own_name, new_document, new_series, new_content, filed_in, after_create_document_in, after_create_document}
 use Rattle.wr_object.proofs.CreateFolder.{IsGood, new_permit, distinct_all, good_all, named_all}
@@ -206,7 +206,7 @@ module _ (r : Repository) (u : List ℕ) (m : Moment) (cost : ℕ) (call : Creat
   is_made = record {
     number = refl;
     base = is_document;
-    typed = (ap is_some p.def, known_types r.types (secondary_in call.properties) p.known);
+    typed = (ap is_some p.def, below_secondary r.types (secondary_in call.properties) (or_right (not (same_base bases.Document p.kind.base)) (has_other_secondary r.types (secondary_in call.properties)) p.base));
     kept = kept_new r (type_id_in call.properties) (secondary_in call.properties) call.properties x w.defs p.properties refl;
     owned = owns_new r.types call.properties x refl;
     token = omega arith;
