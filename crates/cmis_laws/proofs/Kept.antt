@@ -23,7 +23,7 @@ use Rattle.cm_types.specs.Types.{type_in, chain_of, chain, longest_chain, first_
 use Rattle.cm_types.specs.Properties.{value_in, is_set, value_fault, is_faulty, may_give, breaks_cardinality, breaks_form, stated, fault_by, def_of, property_fault, given_cause, given_of, value_before, kept_value, kept_values, is_missing, missing_cause, judge_properties}
 use Rattle.cmis_spec.specs.Repository.{Repository, name_of}
 use Rattle.cmis_spec.specs.Values.{words, texts, is_apart, kept_beside, form_value}
-use Rattle.cmis_spec.specs.Well.{IsDef, Agrees, HasDefs, TakesTexts, IsKept, IsOwn, OwnsValues}
+use Rattle.cmis_spec.specs.Well.{IsDef, Agrees, HasDefs, TakesTexts, IsKept, IsOwn}
 use Rattle.cmis_laws.proofs.Lists.{by_test, find_yes, find_no, found_holds, found_passes, none_some, all_zip}
 use Rattle.cmis_laws.proofs.Passed.{first_none, then_ok, some_none}
 
@@ -52,7 +52,7 @@ pub flat_all : {A B : Type 0} (Q : B → Type 0) (f : A → List B) (xs : List A
 flat_all Q f [] all = All-nil Q
 flat_all Q f (x ∷ xs) all = All-append Q (f x) (flat_map f xs) (All-head (λ x. All Q (f x)) x xs all) (flat_all Q f xs (All-tail (λ x. All Q (f x)) x xs all))
 
-every : {A : Type 0} (Q : A → Type 0) (xs : List A) → ((x : A) → Q x) → All Q xs
+pub every : {A : Type 0} (Q : A → Type 0) (xs : List A) → ((x : A) → Q x) → All Q xs
 every Q [] h = All-nil Q
 every Q (x ∷ xs) h = All-cons Q x xs (h x) (every Q xs h)
 
@@ -242,6 +242,3 @@ owns_kept types call old given x = All-filter (λ s. not (is_apart s.id) && is_s
       | None ↦ λ e. absurd (both_ways (bytes_eq d.id d.id) (All-contains (λ e. bytes_eq e.id d.id ≡ false) defs d (all_unfound (λ e. bytes_eq e.id d.id) defs e) h) (bytes_same d.id d.id refl))
       | Some e ↦ λ k. refl
     ] refl
-
-pub owns_new : (types : List TypeDef) (given : List Given) (x : Object) → x.values ≡ kept_beside (kept_values calls.Create (props_of types x.kind x.secondary) [] given) → OwnsValues types x
-owns_new types given x values = subst (All (IsOwn types x)) (sym values) (owns_kept types calls.Create [] given x)

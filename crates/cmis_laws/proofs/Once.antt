@@ -4,25 +4,27 @@ use Rattle.std.specs.List.{list_any, flat_map}
 use Rattle.core.specs.declared.cmp.Ordering.TheVariants.{Less}
 use Rattle.core.specs.Ordering.{nat_cmp, is_eq}
 use Rattle.core.specs.Cmp.Lexicographic.{slice_cmp}
-use Rattle.std.proofs.Common.{refl, sym, ap, ◌∙◌, arith, inl, inr}
+use Rattle.std.proofs.Common.{refl, sym, ap, subst, ◌∙◌, arith, inl, inr}
 use Rattle.std.proofs.lemmas.Bool.{both_ways}
 use Rattle.std.proofs.lemmas.List.Elements.{All-nil, All-cons, All-head, All-tail, All-weaker}
 use Rattle.std.proofs.lemmas.Map.Text.{is_eq-slice_cmp}
+use Rattle.cm_base.specs.declared.object.Object.{Object}
 use Rattle.cm_base.specs.declared.value.Slot.{Slot}
 use Rattle.cm_types.specs.declared.definition.TypeDef.{TypeDef}
 use Rattle.cm_types.specs.declared.definition.BaseType.TheVariants as bases
 use Rattle.cm_types.specs.declared.property.PropDef.{PropDef}
 use Rattle.cm_types.specs.declared.given.Given.{Given}
 use Rattle.cm_types.specs.declared.given.PropertyCall.{PropertyCall}
+use Rattle.cm_types.specs.declared.given.PropertyCall.TheVariants as calls
 use Rattle.cm_types.specs.Types.{type_in, chain_of, chain, longest_chain, first_of_each, is_below, types_of, props_of}
 use Rattle.cm_types.specs.Properties.{is_set, kept_value, kept_values}
 use Rattle.cm_types.specs.BaseTypes.{base_types, base_row}
 use Rattle.cmis_spec.specs.Repository.{last_of}
 use Rattle.cmis_spec.specs.Values.{is_apart, kept_beside}
-use Rattle.cmis_spec.specs.Well.{Apart, HasTypes, HasBases, define_one, define_apart}
+use Rattle.cmis_spec.specs.Well.{Apart, IsTyped, IsOwn, OwnsValues, HasTypes, HasBases, define_one, define_apart}
 use Rattle.cmis_laws.proofs.Lists.{by_test, some_eq, find_yes, found_holds, all_from_any, all_zip, apart_weaker, apart_map, bytes_turned}
 use Rattle.cmis_laws.proofs.Left.{not_true, all_kept, apart_filter, apart_append}
-use Rattle.cmis_laws.proofs.Kept.{bytes_true, bytes_same, chain_all, reverse_all, flat_all, first_all, types_all}
+use Rattle.cmis_laws.proofs.Kept.{bytes_true, bytes_same, chain_all, reverse_all, flat_all, first_all, types_all, owns_kept}
 
 -- ---- lists
 
@@ -203,3 +205,9 @@ module _ (types : List TypeDef) (w : HasTypes types) where
 pub values_differ : (call : PropertyCall) (defs : List PropDef) (old : List Slot) (given : List Given) → Apart (λ d e. bytes_eq d.id e.id ≡ false) defs → Apart (λ s t. bytes_eq s.id t.id ≡ false) (kept_beside (kept_values call defs old given))
 values_differ call defs old given a = apart_filter (λ s t. bytes_eq s.id t.id ≡ false) (λ s. not (is_apart s.id) && is_set s.value) (kept_values call defs old given)
     (apart_map (λ (s t : Slot). bytes_eq s.id t.id ≡ false) (λ d. record { id = d.id; value = kept_value call old given d }) defs a)
+
+-- what a create keeps is of the new object's own properties, each once
+pub owns_new : (types : List TypeDef) (given : List Given) (x : Object) → HasTypes types → IsTyped types x
+    → x.values ≡ kept_beside (kept_values calls.Create (props_of types x.kind x.secondary) [] given) → OwnsValues types x
+owns_new types given x w typed values = subst (λ vs. All (IsOwn types x) vs × Apart (λ s t. bytes_eq s.id t.id ≡ false) vs) (sym values)
+    (owns_kept types calls.Create [] given x, values_differ calls.Create (props_of types x.kind x.secondary) [] given (props_differ types w x.kind x.secondary typed.1))

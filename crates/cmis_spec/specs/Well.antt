@@ -267,12 +267,12 @@ IsKept r defs x = All (λ d. is_faulty d (form_value r x d.id) ≡ false) defs
 abbrev pub HasKept : Repository → Type 0
 HasKept r = All (λ x. IsKept r (props_of r.types x.kind x.secondary) x) r.objects
 
--- an object keeps values of its own properties alone
+-- an object keeps values of its own properties alone, each once
 abbrev pub IsOwn : List TypeDef → Object → Slot → Type 0
 IsOwn types x s = is_some (def_of (props_of types x.kind x.secondary) s.id) ≡ true
 
 abbrev pub OwnsValues : List TypeDef → Object → Type 0
-OwnsValues types x = All (IsOwn types x) x.values
+OwnsValues types x = All (IsOwn types x) x.values × Apart (λ s t. bytes_eq s.id t.id ≡ false) x.values
 
 abbrev pub HasOwnValues : Repository → Type 0
 HasOwnValues r = All (OwnsValues r.types) r.objects

@@ -173,7 +173,7 @@ module _ (r : Repository) (u : List ℕ) (m : Moment) (cost : ℕ) (call : Check
     kept = kept_changed r (stepped r cost) calls.CheckIn call.properties call.comment y x w.defs
         (found_holds (λ z. IsKept r (props_of r.types z.kind z.secondary) z) (λ z. same z.id y.id) r.objects y w.kept there)
         (found_holds (OwnsValues r.types) (λ z. same z.id y.id) r.objects y w.own_values there) (λ d. refl) p.properties refl;
-    owned = owns_changed r.types calls.CheckIn (form_slots r y) call.properties call.comment x
+    owned = owns_changed r.types calls.CheckIn (form_slots r y) call.properties call.comment x w.types typed
         (for_any (is_some (def_of (props_of r.types x.kind x.secondary) (codes "cmis:checkinComment")) ≡ true) call.comment (has_comment r.types w.types x.kind x.secondary p.document)) refl;
     token = omega arith;
     labelled = labelled;
