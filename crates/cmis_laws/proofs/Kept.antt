@@ -1,6 +1,6 @@
 -- The values that a create keeps have no fault.
-use Rattle.std.specs.Prelude.{◌≡◌, ℕ, zero, suc, Bool, true, false, not, ◌&&◌, ◌||◌, if◌then◌else◌, List, [], ◌∷◌, map, filter, find, is_some, reverse, All, Contains, Option, Some, None, Ok, option_map, unwrap_or, bytes_eq, codes}
-use Rattle.std.specs.List.{flat_map}
+use Rattle.std.specs.Prelude.{◌≡◌, ℕ, zero, suc, Bool, true, false, not, ◌&&◌, ◌||◌, if◌then◌else◌, List, [], ◌∷◌, map, filter, find, is_some, is_none, reverse, All, Contains, Option, Some, None, Ok, option_map, unwrap_or, bytes_eq, codes}
+use Rattle.std.specs.List.{list_any, flat_map}
 use mathlib.Core.List.{reverse_aux}
 use Rattle.std.proofs.Common.{refl, sym, ap, subst, ◌∙◌}
 use Rattle.std.proofs.lemmas.Bool.{both_ways}
@@ -21,11 +21,13 @@ use Rattle.cm_types.specs.declared.given.PropertyCall.{PropertyCall}
 use Rattle.cm_types.specs.declared.given.PropertyCall.TheVariants as calls
 use Rattle.cm_types.specs.Types.{type_in, chain_of, chain, longest_chain, first_of_each, types_of, props_of}
 use Rattle.cm_types.specs.Properties.{value_in, is_set, value_fault, is_faulty, may_give, breaks_cardinality, breaks_form, stated, fault_by, def_of, property_fault, given_cause, given_of, value_before, kept_value, kept_values, is_missing, missing_cause, judge_properties}
+use Rattle.cm_types.specs.Changes.{is_wrong_choice}
+use Rattle.cm_types.specs.Sound.{IsSoundDef}
 use Rattle.cmis_spec.specs.Repository.{Repository, name_of}
 use Rattle.cmis_spec.specs.Values.{words, texts, is_apart, kept_beside, form_value}
 use Rattle.cmis_spec.specs.Well.{IsDef, Agrees, HasDefs, TakesTexts, IsKept, IsOwn}
 use Rattle.cmis_laws.proofs.Lists.{by_test, find_yes, find_no, found_holds, found_passes, none_some, all_zip}
-use Rattle.cmis_laws.proofs.Passed.{first_none, then_ok, some_none}
+use Rattle.cmis_laws.proofs.Passed.{first_none, then_ok, some_none, or_left}
 
 -- ---- what holds of each property of the types holds of an object's
 
@@ -212,6 +214,14 @@ kept_anywhere r r' x y types values k = all_zip (IsDef r.types) (λ d. is_faulty
     (λ d i h. form_is r' y d i.2 (λ other. ap (λ vs. is_faulty d (value_in vs d.id)) values ∙ (ap (is_faulty d) (sym (apart_value r x d.id other)) ∙ h)))
     (props_all (IsDef r.types) r.types x.kind x.secondary types) k
 
+-- a default value has no fault
+default_right : (d : PropDef) → IsSoundDef d → value_fault d d.default ≡ None
+default_right d s = by (value_fault d d.default) (or_left (not (is_none (value_fault d d.default))) (list_any (is_wrong_choice d) d.choices) s.has_no_fault)
+  where
+    by : (o : Option PropertyFault) → not (is_none o) ≡ false → o ≡ None
+    by None h = refl
+    by (Some f) h = absurd (both_ways true h refl)
+
 -- the values of a new object, once its properties are judged
 pub kept_new : (r : Repository) (kind : List ℕ) (secondary : List (List ℕ)) (given : List Given) (x : Object) → HasDefs r.types → judge_properties calls.Create (props_of r.types kind secondary) [] given ≡ Ok tt
     → x.values ≡ kept_beside (kept_values calls.Create (props_of r.types kind secondary) [] given) → IsKept r (props_of r.types kind secondary) x
@@ -226,7 +236,7 @@ kept_new r kind secondary given x types h values =
     let first = find_first defs d agree i.1 in
     form_is r x d i.0.2 (λ other.
     let v : value_in x.values d.id ≡ kept_value calls.Create [] given d = ap (λ vs. value_in vs d.id) values ∙ beside_value defs (kept_value calls.Create [] given) d agree first other in
-    ap (is_faulty d) v ∙ faultless d (kept_value calls.Create [] given d) (kept_right calls.Create [] defs given d given_ok first i.0.1) (missing_not calls.Create [] given d m)))
+    ap (is_faulty d) v ∙ faultless d (kept_value calls.Create [] given d) (kept_right calls.Create [] defs given d given_ok first (default_right d i.0.1)) (missing_not calls.Create [] given d m)))
     (all_zip (IsDef r.types) (Contains defs) (λ d. IsDef r.types d × Contains defs d) defs (λ d a b. (a, b)) is_def (All-contains_itself defs))
     (first_none (missing_cause calls.Create [] given) defs parts.1)
 

@@ -22,7 +22,8 @@ use Rattle.cm_types.specs.declared.property.PropDef.{PropDef}
 use Rattle.cm_types.specs.Types.{type_in, is_of_base, is_below, props_of, chain, longest_chain}
 use Rattle.cm_types.specs.Changes.{base_id}
 use Rattle.cm_types.specs.BaseTypes.{base_types}
-use Rattle.cm_types.specs.Properties.{value_in, texts_of, value_fault, is_faulty, def_of}
+use Rattle.cm_types.specs.Properties.{value_in, texts_of, is_faulty, def_of}
+use Rattle.cm_types.specs.Sound.{IsSoundDef}
 use Rattle.cmis_spec.specs.Repository.{Repository, same, root, most_levels, most_steps, most_cost, longest_stream, object_at, series_at, is_a, type_of, entry_of, entry_name, parent_in, last_of}
 use Rattle.cmis_spec.specs.Access.{object_named, rank}
 use Rattle.cmis_spec.specs.Values.{words, texts, form_value}
@@ -253,9 +254,9 @@ TakesTexts d =
     × (bytes_eq d.id (codes "cmis:secondaryObjectTypeIds") ≡ true → (ts : List (List ℕ)) → is_faulty d (texts ts) ≡ false)
     × (bytes_eq d.id (codes "cmis:checkinComment") ≡ true → (is_faulty d Unset ≡ false) × ((t : List ℕ) → is_faulty d (words t) ≡ false))
 
--- and its default value has no fault of its own
+-- and it is sound
 abbrev pub IsDef : List TypeDef → PropDef → Type 0
-IsDef types d = All (λ t. Agrees d t.properties) types × (value_fault d d.default ≡ None) × TakesTexts d
+IsDef types d = All (λ t. Agrees d t.properties) types × IsSoundDef d × TakesTexts d
 
 abbrev pub HasDefs : List TypeDef → Type 0
 HasDefs types = All (λ t. All (IsDef types) t.properties) types
