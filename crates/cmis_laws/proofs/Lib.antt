@@ -15,6 +15,7 @@ pub mod Listing
 pub mod Lists
 pub mod Made
 pub mod MadeDocument
+pub mod Members
 pub mod Moved
 pub mod Objects
 pub mod Once

@@ -12,9 +12,11 @@ use Rattle.cm_base.specs.declared.filing.Filed.{Filed}
 use Rattle.cm_base.specs.declared.series.Series.{Series}
 use Rattle.cm_base.specs.declared.series.Label.{Label}
 use Rattle.cm_base.specs.declared.content.Rendition.{Rendition}
+use Rattle.cm_base.specs.declared.user.Group.{Group}
 use Rattle.cm_base.specs.declared.value.Slot.{Slot}
 use Rattle.cm_base.specs.declared.value.Value.{Value}
 use Rattle.cm_base.specs.declared.value.Value.TheVariants.{Unset}
+use Rattle.cm_base.specs.UserLists.{is_reserved_name, is_user_name, all_differ}
 use Rattle.cm_types.specs.declared.definition.TypeDef.{TypeDef}
 use Rattle.cm_types.specs.declared.definition.BaseType.{BaseType}
 use Rattle.cm_types.specs.declared.definition.BaseType.TheVariants as bases
@@ -278,6 +280,23 @@ OwnsValues types x = All (IsOwn types x) x.values × Apart (λ s t. bytes_eq s.i
 abbrev pub HasOwnValues : Repository → Type 0
 HasOwnValues r = All (OwnsValues r.types) r.objects
 
+-- ---- groups of users
+
+abbrev pub is_user : List (List ℕ) → List ℕ → Bool
+is_user users name = list_any (bytes_eq name) users
+
+-- a group's name is formed like a user's and is none; its members are users, each once, and at least one
+abbrev pub IsGroup : List (List ℕ) → Group → Type 0
+IsGroup users g =
+    (is_user_name g.name && not (is_user users g.name) ≡ true)
+    × All (λ m. not (is_reserved_name m) && is_user users m ≡ true) g.members
+    × (all_differ g.members ≡ true)
+    × (list_any (λ m. true) g.members ≡ true)
+
+-- groups stand in byte order of their names
+abbrev pub HasGroups : List (List ℕ) → List Group → Type 0
+HasGroups users groups = Apart (λ g h. slice_cmp nat_cmp g.name h.name ≡ Less) groups × All (IsGroup users) groups
+
 -- ---- bounds
 
 abbrev pub HasBounds : Repository → Type 0
@@ -319,6 +338,7 @@ pub record IsWellFormed (r : Repository) : Type 0 where
   pub defs : HasDefs r.types
   pub kept : HasKept r
   pub own_values : HasOwnValues r
+  pub groups : HasGroups r.users r.groups
   pub bounds : HasBounds r
   pub tokens : HasTokens r
   pub labels : HasLabels r
