@@ -27,3 +27,4 @@ pub mod Removed
 pub mod Standing
 pub mod Steps
 pub mod Tree
+pub mod TypeSharing
