@@ -24,6 +24,7 @@ use Rattle.cmis_spec.specs.Values.{is_apart, kept_beside}
 use Rattle.cmis_spec.specs.Well.{Apart, IsTyped, IsOwn, OwnsValues, HasTypes, HasBases, define_one, define_apart}
 use Rattle.cmis_laws.proofs.Lists.{by_test, some_eq, find_yes, found_holds, all_from_any, all_zip, apart_weaker, apart_map, bytes_turned}
 use Rattle.cmis_laws.proofs.Left.{not_true, all_kept, apart_filter, apart_append}
+use Rattle.cmis_laws.proofs.Passed.{or_left, or_right}
 use Rattle.cmis_laws.proofs.Kept.{bytes_true, bytes_same, chain_all, reverse_all, flat_all, first_all, types_all, owns_kept}
 
 -- ---- lists
@@ -178,17 +179,9 @@ module _ (types : List TypeDef) (w : HasTypes types) where
       others [] ss h = All-nil (λ d. All (Differ (λ d. d.id) d) (flat_map (λ t. t.properties) ss))
       others (d ∷ ds) ss h = All-cons (λ d. All (Differ (λ d. d.id) d) (flat_map (λ t. t.properties) ss)) d ds
           (flat_all (Differ (λ d. d.id) d) (λ t. t.properties) ss (All-weaker (λ s. list_any (λ d. list_any (λ e. bytes_eq d.id e.id) s.properties) (d ∷ ds) ≡ false) (λ s. All (Differ (λ d. d.id) d) s.properties)
-          (λ s k. all_from_any (λ e. bytes_eq d.id e.id) s.properties (first_not (list_any (λ e. bytes_eq d.id e.id) s.properties) _ k)) ss h))
+          (λ s k. all_from_any (λ e. bytes_eq d.id e.id) s.properties (or_left (list_any (λ e. bytes_eq d.id e.id) s.properties) _ k)) ss h))
           (others ds ss (All-weaker (λ s. list_any (λ d. list_any (λ e. bytes_eq d.id e.id) s.properties) (d ∷ ds) ≡ false) (λ s. list_any (λ d. list_any (λ e. bytes_eq d.id e.id) s.properties) ds ≡ false)
-          (λ s k. second_not (list_any (λ e. bytes_eq d.id e.id) s.properties) _ k) ss h))
-        where
-          first_not : (a b : Bool) → a || b ≡ false → a ≡ false
-          first_not true b h = h
-          first_not false b h = refl
-
-          second_not : (a b : Bool) → a || b ≡ false → b ≡ false
-          second_not true b h = absurd (both_ways true h refl)
-          second_not false b h = h
+          (λ s k. or_right (list_any (λ e. bytes_eq d.id e.id) s.properties) _ k) ss h))
 
   pub props_differ : (kind : List ℕ) (secondary : List (List ℕ)) → All (λ s. is_below types s (codes "cmis:secondary") ≡ true) secondary → Apart (λ d e. bytes_eq d.id e.id ≡ false) (props_of types kind secondary)
   props_differ kind secondary below = of_types (types_of types kind secondary) (types_apart kind secondary below)
