@@ -3,10 +3,10 @@ use Rattle.std.specs.Prelude.{ℕ, List, [], ◌∷◌, codes, map}
 use Rattle.serde_json.specs.Data.{Data, string}
 use Rattle.json_text.specs.Build.{object_data}
 use Rattle.cm_base.specs.declared.value.Slot.{Slot}
-use Rattle.cm_call.specs.declared.reply.ShownProperty.{ShownProperty}
-use Rattle.cm_call.specs.declared.reply.Properties.{Properties}
-use Rattle.cm_call.specs.declared.reply.Properties.TheVariants as shown
-use Rattle.cm_call.specs.declared.reply.ShownObject.{ShownObject}
+use Rattle.call_parts.specs.declared.replies.ShownProperty.{ShownProperty}
+use Rattle.call_parts.specs.declared.replies.Properties.{Properties}
+use Rattle.call_parts.specs.declared.replies.Properties.TheVariants as shown
+use Rattle.call_parts.specs.declared.replies.ShownObject.{ShownObject}
 use Rattle.json_text.specs.Values.{value_data}
 use Rattle.type_keys.specs.Words.{kind_word, cardinality_word}
 

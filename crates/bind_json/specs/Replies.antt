@@ -4,8 +4,8 @@ use Rattle.serde_json.specs.Data.{Data, boolean, number, unsigned}
 use Rattle.serde_json.specs.Written.{compact_text}
 use Rattle.json_text.specs.Build.{object_data, list_data}
 use Rattle.cm_base.specs.declared.shown.Shown.{Shown}
-use Rattle.cm_call.specs.declared.reply.ShownObject.{ShownObject}
-use Rattle.cm_call.specs.declared.reply.ChildrenReply.{ChildrenReply}
+use Rattle.call_parts.specs.declared.replies.ShownObject.{ShownObject}
+use Rattle.call_parts.specs.declared.replies.ChildrenReply.{ChildrenReply}
 use Rattle.cm_call.specs.declared.reply.Reply.{Reply}
 use Rattle.cm_call.specs.declared.reply.Reply.TheVariants as replies
 use Rattle.bind_json.specs.Objects.{shown_data}

@@ -4,8 +4,8 @@ ghost use Rattle.json_text.specs.Shown.{data_of};
 ghost use Rattle.json_text.specs.Build.{object_data};
 ghost use Rattle.bind_json.specs.Objects.{property_data, properties_data, values_data, shown_data};
 
+use call_parts::replies::{Properties, ShownObject, ShownProperty};
 use cm_base::value::Slot;
-use cm_call::reply::{Properties, ShownObject, ShownProperty};
 use json_text::tree::{Fields, Json};
 use json_text::values::value_json;
 use std::alloc::{AllocError, Global};

@@ -6,10 +6,11 @@ ghost use Rattle.bind_json.specs.Replies.{child_data, children_data, reply_data,
 
 use crate::objects::{alone, object_json};
 use bytes::Bytes;
+use call_parts::replies::{ChildrenReply, ShownObject};
 use cm_base::media::MediaType;
 use cm_base::shown::Shown;
 use cm_base::text::Text;
-use cm_call::reply::{ChildrenReply, Reply, ShownObject};
+use cm_call::reply::Reply;
 use json_text::tree::{Elements, Fields, Json};
 use std::alloc::{AllocError, Global};
 

@@ -2,7 +2,7 @@
 use Rattle.std.specs.Prelude.{false, Ok}
 use Rattle.cm_base.specs.declared.argument.Argument.TheVariants as args
 use Rattle.cm_base.specs.Judged.{Judged, ◌>>=◌, ◌>>◌}
-use Rattle.cm_call.specs.declared.question.ReadChildren.{ReadChildren}
+use Rattle.call_parts.specs.declared.readings.ReadChildren.{ReadChildren}
 use Rattle.form_args.specs.Single.{flag_of, number_of}
 use Rattle.form_args.specs.Filter.{filter_of}
 use Rattle.bind_read.specs.declared.asking.Asking.{Asking}

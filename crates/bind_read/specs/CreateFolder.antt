@@ -3,7 +3,7 @@ use Rattle.std.specs.Prelude.{false, Ok}
 use Rattle.cm_base.specs.declared.argument.Argument.TheVariants as args
 use Rattle.cm_base.specs.Judged.{Judged, ◌>>=◌, ◌>>◌}
 use Rattle.cm_base.specs.Arguments.{word_of}
-use Rattle.cm_call.specs.declared.write.CreateFolder.{CreateFolder}
+use Rattle.call_parts.specs.declared.writes.CreateFolder.{CreateFolder}
 use Rattle.form_args.specs.Pairs.{texts_of}
 use Rattle.form_args.specs.Single.{flag_of}
 use Rattle.form_args.specs.Properties.{properties_of, typed}

@@ -2,8 +2,8 @@
 use Rattle.std.specs.Prelude.{false, Ok}
 use Rattle.cm_base.specs.declared.argument.Argument.TheVariants as args
 use Rattle.cm_base.specs.Judged.{Judged, ◌>>=◌, ◌>>◌}
-use Rattle.cm_call.specs.declared.question.ReadObject.{ReadObject}
-use Rattle.cm_call.specs.declared.question.ReadProperties.{ReadProperties}
+use Rattle.call_parts.specs.declared.readings.ReadObject.{ReadObject}
+use Rattle.call_parts.specs.declared.readings.ReadProperties.{ReadProperties}
 use Rattle.form_args.specs.Single.{flag_of}
 use Rattle.form_args.specs.Filter.{filter_of}
 use Rattle.bind_read.specs.declared.asking.Asking.{Asking}

@@ -5,7 +5,7 @@ ghost use Rattle.http_grammar.specs.Fields.{is_host, is_visible};
 ghost use Rattle.bind_read.specs.Askings.{with_query, good_host, host_of};
 
 use cm_base::text::Text;
-use cm_call::stream::GivenStream;
+use call_parts::stream::GivenStream;
 use form_args::pairs::Pairs;
 use form_args::read;
 use form_parts::gathered::Parts;

@@ -7,7 +7,7 @@ use crate::asking::Asking;
 use crate::parts::{place_of, unserved_of_children};
 use cm_base::argument::Argument;
 use cm_base::fail::Fail;
-use cm_call::question::ReadChildren;
+use call_parts::readings::ReadChildren;
 use form_args::choice::flag;
 use form_args::filter::property_filter;
 use form_args::number::number;

@@ -7,7 +7,7 @@ use crate::asking::Asking;
 use crate::parts::place_of;
 use cm_base::argument::Argument;
 use cm_base::fail::Fail;
-use cm_call::write::CreateFolder;
+use call_parts::writes::CreateFolder;
 use form_args::choice::flag;
 use form_args::entries::aces;
 use form_args::lists::texts;

@@ -7,7 +7,7 @@ use crate::asking::Asking;
 use crate::parts::{place_of, unserved_of_object, unserved_of_properties};
 use cm_base::argument::Argument;
 use cm_base::fail::Fail;
-use cm_call::question::{ReadObject, ReadProperties};
+use call_parts::readings::{ReadObject, ReadProperties};
 use form_args::choice::flag;
 use form_args::filter::property_filter;
 use std::alloc::Global;

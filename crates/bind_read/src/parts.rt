@@ -12,7 +12,7 @@ use cm_base::copies::Copies;
 use cm_base::fail::Fail;
 use cm_base::items::Items;
 use cm_base::text::Texts;
-use cm_call::place::Place;
+use call_parts::place::Place;
 use form_args::pairs::Pairs;
 use request_target::target::Target;
 use std::alloc::{AllocError, Global};

@@ -16,12 +16,12 @@ ghost use Rattle.show_json.specs.Columns.{answer_text, columns_of, counts_before
 use crate::column::{Column, columns};
 use crate::object::write_child;
 use bytes::Bytes;
+use call_parts::readings::{PropertyFilter, ReadChildren};
 use cm_base::cause::Cause;
 use cm_base::fail::Fail;
 use cm_base::number::Oid;
 use cm_base::object::Object;
 use cm_base::text::Text;
-use cm_call::question::{PropertyFilter, ReadChildren};
 use cm_see::child::children_of;
 use cm_show::address::addressed;
 use cm_show::shown::shown_defs;

@@ -4,8 +4,7 @@ ghost use Rattle.cm_base.specs.declared.object.Object.{Object};
 ghost use Rattle.cm_base.specs.Judged.{Leaves, Writes};
 ghost use Rattle.cm_types.specs.declared.given.PropertyCall.TheVariants as calls;
 ghost use Rattle.cm_types.specs.Properties.{kept_values, is_set};
-ghost use Rattle.cm_call.specs.declared.question.PropertyFilter.TheVariants as filters;
-ghost use Rattle.cm_call.specs.declared.reply.Reply.TheVariants as replies;
+ghost use Rattle.call_parts.specs.declared.readings.PropertyFilter.TheVariants as filters;
 ghost use Rattle.cm_show.specs.Addressed.{addressed};
 ghost use Rattle.cm_show.specs.Shown.{shown_object};
 ghost use Rattle.cmis_spec.specs.Repository.{new_number, object_at};
@@ -17,6 +16,10 @@ ghost use Rattle.wr_object.specs.Parts.{wanted_in, judge_found, refusal_in_parts
 use crate::folder_rules::{judge_kinds, judge_name, judge_place, judge_values};
 use crate::making::made_in;
 use crate::wanted::{Wanted, wanted_by};
+use call_parts::readings::PropertyFilter;
+use call_parts::replies::ObjectReply;
+use call_parts::weight::weight_of_create_folder;
+use call_parts::writes::CreateFolder;
 use cm_base::cause::Cause;
 use cm_base::copies::Copies;
 use cm_base::fail::Fail;
@@ -25,10 +28,6 @@ use cm_base::number::{Moment, Oid};
 use cm_base::object::Object;
 use cm_base::text::Text;
 use cm_base::value::{Slot, Values};
-use cm_call::question::PropertyFilter;
-use cm_call::reply::{ObjectReply, Reply};
-use cm_call::weight::weight_of_create_folder;
-use cm_call::write::CreateFolder;
 use cm_rules::kept::is_set;
 use cm_show::address::addressed;
 use cm_show::shown::shown_object;
@@ -201,16 +200,16 @@ fn acknowledged(
     user: &Text,
     succinct: bool,
     number: Oid,
-) -> Result<Reply, AllocError>
+) -> Result<ObjectReply, AllocError>
     requires there { is_some (object_at made.now number) ≡ true }
-    ensures { IfOk result (λ a. (x : Object) → object_at made.now number ≡ Some x → a ≡ replies.Object (record { object = shown_object made.now user.now filters.All succinct x; created = true })) }
+    ensures { IfOk result (λ a. (x : Object) → object_at made.now number ≡ Some x → a ≡ record { object = shown_object made.now user.now filters.All succinct x; created = true }) }
 {
     let x = made.object(number).unwrap();
     let object = shown_object(alloc, made, user, &PropertyFilter::All, succinct, x)?;
-    Ok(Reply::Object(ObjectReply {
+    Ok(ObjectReply {
         object,
         created: true,
-    }))
+    })
 }
 
 // The state, with the reply that shows what was just made in it.
@@ -220,10 +219,10 @@ fn with_reply(
     user: &Text,
     succinct: bool,
     number: Oid,
-) -> Result<(State, Reply), AllocError>
+) -> Result<(State, ObjectReply), AllocError>
     requires there { is_some (object_at made number) ≡ true }
     ensures same { IfOk result (λ a. a.0 ≡ made) }
-    ensures shown { IfOk result (λ a. (x : Object) → object_at made number ≡ Some x → a.1 ≡ replies.Object (record { object = shown_object made user.now filters.All succinct x; created = true })) }
+    ensures shown { IfOk result (λ a. (x : Object) → object_at made number ≡ Some x → a.1 ≡ record { object = shown_object made user.now filters.All succinct x; created = true }) }
 {
     let reply = acknowledged(alloc, &made, user, succinct, number)?;
     Ok((made, reply))
@@ -238,7 +237,7 @@ pub fn create_folder(
     user: &Text,
     moment: Moment,
     call: &CreateFolder,
-) -> Result<(State, Reply), Fail>
+) -> Result<(State, ObjectReply), Fail>
     ensures written { Writes result (refusal_create_folder state.now user.now moment (cost_create_folder state.now call.now) call.now) (after_create_folder state.now user.now moment (cost_create_folder state.now call.now) call.now) (acknowledgement_create_folder state.now user.now moment (cost_create_folder state.now call.now) call.now) }
     ensures well { IfOk result (λ x. IsWellFormed x.0) }
 {

@@ -13,7 +13,7 @@ use cm_base::access::{Ace, Aces, Level};
 use cm_base::copies::Copies;
 use cm_base::items::Items;
 use cm_base::text::Text;
-use cm_call::write::AceRequest;
+use call_parts::writes::AceRequest;
 use std::alloc::{AllocError, Global};
 
 fn is_unknown(permission: &Text) -> bool

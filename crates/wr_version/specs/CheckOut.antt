@@ -8,12 +8,11 @@ use Rattle.cm_base.specs.declared.log.ChangeKind.TheVariants as changes
 use Rattle.cm_base.specs.declared.cause.Cause.TheVariants as causes
 use Rattle.cm_base.specs.Judged.{Judged, ◌>>=◌, ◌>>◌, refuse, find_or}
 use Rattle.cm_types.specs.declared.definition.BaseType.TheVariants as bases
-use Rattle.cm_call.specs.declared.question.PropertyFilter.TheVariants as filters
-use Rattle.cm_call.specs.declared.versions.CheckOut.{CheckOut}
-use Rattle.cm_call.specs.declared.reply.Reply.{Reply}
-use Rattle.cm_call.specs.declared.reply.Reply.TheVariants as replies
-use Rattle.cm_call.specs.Weight.{bounded}
-use Rattle.cm_call.specs.Versions.{weight_of_check_out}
+use Rattle.call_parts.specs.declared.readings.PropertyFilter.TheVariants as filters
+use Rattle.call_parts.specs.declared.versions.CheckOut.{CheckOut}
+use Rattle.call_parts.specs.declared.replies.ObjectReply.{ObjectReply}
+use Rattle.call_parts.specs.Weight.{bounded}
+use Rattle.call_parts.specs.Versions.{weight_of_check_out}
 use Rattle.cm_show.specs.Addressed.{addressed}
 use Rattle.cm_show.specs.Shown.{shown_object}
 use Rattle.cmis_spec.specs.Repository.{Repository, new_number, is_a, entry_of, name_of}
@@ -78,5 +77,5 @@ after_check_out r u m cost call = unwrap_or (option_map (after_check_out_of r u 
 -- ---- the reply
 
 -- the working copy as the caller sees it after the step
-abbrev pub acknowledgement_of : Repository → List ℕ → CheckOut → Object → Reply
-acknowledgement_of after u call copy = replies.Object (record { object = shown_object after u filters.All call.succinct copy; created = true })
+abbrev pub acknowledgement_of : Repository → List ℕ → CheckOut → Object → ObjectReply
+acknowledgement_of after u call copy = record { object = shown_object after u filters.All call.succinct copy; created = true }

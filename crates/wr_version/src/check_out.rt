@@ -22,7 +22,7 @@ use cm_base::object::Object;
 use cm_base::series::Series;
 use cm_base::text::Text;
 use cm_base::value::{Slot, Values};
-use cm_call::versions::CheckOut;
+use call_parts::versions::CheckOut;
 use cm_see::level::lacks;
 use cm_show::address::addressed;
 use cm_state::look::{entry_of, is_latest};

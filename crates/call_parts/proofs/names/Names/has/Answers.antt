@@ -2,7 +2,7 @@ use Rattle.std.proofs.Common.{◌≡◌, ◌∙◌, ap, bytes_eq, rules}
 use Rattle.std.specs.Option.{is_some}
 use Rattle.std.specs.List.{list_any}
 use Rattle.std.specs.BTreeMap.{get_by_text}
-use Rattle.cm_call.proofs.names.Names.has.Goals as goal
+use Rattle.call_parts.proofs.names.Names.has.Goals as goal
 
 pub returns : goal.returns
 returns c =

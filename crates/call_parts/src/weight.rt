@@ -1,11 +1,11 @@
 //! What a write adds to the cost of the repository.
 ghost use Rattle.std.specs.Prelude.{◌≡◌, ◌+◌};
 ghost use Rattle.std.specs.List.{flat_map};
-ghost use Rattle.cm_call.specs.declared.write.Write.TheVariants as writes;
-ghost use Rattle.cm_call.specs.Weight.{weight_of, weight_of_texts, bounded, text_weight, texts_of_place, texts_of_given, texts_of_ace, texts_of_create_folder};
+ghost use Rattle.call_parts.specs.declared.writes.Write.TheVariants as writes;
+ghost use Rattle.call_parts.specs.Weight.{weight_of_create_folder, weight_of_texts, bounded, text_weight, texts_of_place, texts_of_given, texts_of_ace, texts_of_create_folder};
 
 use crate::place::Place;
-use crate::write::{AceRequests, CreateFolder, Write};
+use crate::writes::{AceRequests, CreateFolder};
 use cm_base::text::{Text, Texts};
 use cm_types::given::Givens;
 
@@ -64,18 +64,9 @@ fn with_create_folder(so_far: u64, call: &CreateFolder) -> u64
     with_aces(less, &call.add)
 }
 
-/// What a createFolder weighs.
+/// What a createFolder weighs: 64 for the call, and for each of its texts its bytes and 64. Takes no memory.
 pub fn weight_of_create_folder(call: &CreateFolder) -> u64
-    ensures { result ≡ weight_of (writes.CreateFolder call.now) }
+    ensures { result ≡ weight_of_create_folder call.now }
 {
     with_create_folder(64, call)
-}
-
-/// 64 for the call, and for each of its texts its bytes and 64. Takes no memory.
-pub fn weight(call: &Write) -> u64
-    ensures { result ≡ weight_of call.now }
-{
-    match call {
-        Write::CreateFolder(folder) => weight_of_create_folder(folder),
-    }
 }

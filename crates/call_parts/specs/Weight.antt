@@ -2,12 +2,10 @@
 use Rattle.std.specs.Prelude.{ℕ, ◌+◌, ◌-◌, ◌^◌, min, List, [], ◌∷◌, ◌++◌, length, map, sum}
 use Rattle.std.specs.List.{flat_map}
 use Rattle.cm_types.specs.declared.given.Given.{Given}
-use Rattle.cm_call.specs.declared.place.Place.{Place}
-use Rattle.cm_call.specs.declared.place.Place.TheVariants.{Id, Path}
-use Rattle.cm_call.specs.declared.write.AceRequest.{AceRequest}
-use Rattle.cm_call.specs.declared.write.CreateFolder.{CreateFolder}
-use Rattle.cm_call.specs.declared.write.Write.{Write}
-use Rattle.cm_call.specs.declared.write.Write.TheVariants as writes
+use Rattle.call_parts.specs.declared.place.Place.{Place}
+use Rattle.call_parts.specs.declared.place.Place.TheVariants.{Id, Path}
+use Rattle.call_parts.specs.declared.writes.AceRequest.{AceRequest}
+use Rattle.call_parts.specs.declared.writes.CreateFolder.{CreateFolder}
 
 -- ---- the texts of a call
 
@@ -29,9 +27,6 @@ texts_of_create_folder call =
     ++ flat_map texts_of_ace call.remove
     ++ flat_map texts_of_ace call.add
 
-abbrev pub texts_of_write : Write → List (List ℕ)
-texts_of_write (writes.CreateFolder call) = texts_of_create_folder call
-
 -- ---- the weight
 
 -- the bytes of a text, and 64 for the text itself
@@ -46,5 +41,5 @@ abbrev pub bounded : ℕ → ℕ
 bounded n = min n (2 ^ 64 - 1)
 
 -- 64 for the call, and its texts
-abbrev pub weight_of : Write → ℕ
-weight_of w = bounded (64 + weight_of_texts (texts_of_write w))
+abbrev pub weight_of_create_folder : CreateFolder → ℕ
+weight_of_create_folder call = bounded (64 + weight_of_texts (texts_of_create_folder call))

@@ -6,7 +6,7 @@ use Rattle.std.specs.List.{list_any}
 use Rattle.std.specs.Cmp.Lexicographic.{bytes_decides}
 use Rattle.std.proofs.Math.Bool.{or-true, or-false}
 use Rattle.std.proofs.lemmas.List.Folds.{list_any-append}
-use Rattle.cm_call.specs.Names.{FindsNames}
+use Rattle.call_parts.specs.Names.{FindsNames}
 
 turned_true : (a b : List ℕ) → bytes_eq a b ≡ true → bytes_eq b a ≡ true
 turned_true a b e = (bytes_decides b a).1 (sym ((bytes_decides a b).0 e))

@@ -1,7 +1,7 @@
 //! What a small call weighs, and copies.
 use crate::place::Place;
-use crate::weight::weight;
-use crate::write::{AceRequest, CreateFolder, Write};
+use crate::weight::weight_of_create_folder;
+use crate::writes::{AceRequest, CreateFolder};
 use cm_base::copies::Copies;
 use cm_base::items::Items;
 use cm_base::text::{Text, Texts};
@@ -16,7 +16,7 @@ fn texts(alloc: Global, all: &[&str]) -> Result<Texts, AllocError> {
     Ok(texts)
 }
 
-fn small(alloc: Global) -> Result<Write, AllocError> {
+fn small(alloc: Global) -> Result<CreateFolder, AllocError> {
     let mut properties = Items::new(alloc);
     properties.push(Given {
         id: Text::from_str(alloc, "cmis:name")?,
@@ -28,21 +28,21 @@ fn small(alloc: Global) -> Result<Write, AllocError> {
         principal: Text::from_str(alloc, "ann")?,
         permissions: texts(alloc, &["cmis:read"])?,
     })?;
-    Ok(Write::CreateFolder(CreateFolder {
+    Ok(CreateFolder {
         place: Place::Path(texts(alloc, &["f", "g"])?),
         properties,
         policies: texts(alloc, &["5"])?,
         remove: Items::new(alloc),
         add: add.copied(alloc)?,
         succinct: true,
-    }))
+    })
 }
 
 // 64 for the call; seven texts of 64, with 1 + 1 + 9 + 2 + 1 + 3 + 9 bytes.
 #[test]
 fn weight_of_a_small_call(rt: HostRuntime) {
     match small(rt.alloc()) {
-        Ok(call) => assert_eq!(rt; weight(&call), 538),
+        Ok(call) => assert_eq!(rt; weight_of_create_folder(&call), 538),
         Err(_) => assert!(rt; false),
     }
 }

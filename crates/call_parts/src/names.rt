@@ -2,7 +2,7 @@
 ghost use Rattle.std.specs.Prelude.{◌≡◌, ◌++◌, ◌∷◌, [], List, IfOk, bytes_eq};
 ghost use Rattle.std.specs.List.{list_any};
 ghost use Rattle.std.specs.BTreeMap.{get_by_text};
-ghost use Rattle.cm_call.specs.Names.{FindsNames};
+ghost use Rattle.call_parts.specs.Names.{FindsNames};
 
 use cm_base::text::{Text, Texts};
 use std::alloc::{AllocError, Global};
@@ -19,7 +19,7 @@ pub struct Names {
 impl Model for Names {
     ghost use Rattle.std.specs.Prelude.{List, ℕ};
     ghost use Rattle.std.specs.BTreeMap.{get_by_text};
-    ghost use Rattle.cm_call.specs.Names.{FindsNames};
+    ghost use Rattle.call_parts.specs.Names.{FindsNames};
 
     ghost Value = { List (List ℕ) };
 

@@ -1,13 +1,13 @@
 -- The weights of the writes on documents and their version series.
 use Rattle.std.specs.Prelude.{ℕ, ◌+◌, List, [], ◌∷◌, ◌++◌, length, Option, Some, None, unwrap_or, option_map}
 use Rattle.std.specs.List.{flat_map}
-use Rattle.cm_call.specs.declared.versions.GivenStream.{GivenStream}
-use Rattle.cm_call.specs.declared.versions.CreateDocument.{CreateDocument}
-use Rattle.cm_call.specs.declared.versions.CheckOut.{CheckOut}
-use Rattle.cm_call.specs.declared.versions.CancelCheckOut.{CancelCheckOut}
-use Rattle.cm_call.specs.declared.versions.CheckIn.{CheckIn}
-use Rattle.cm_call.specs.declared.versions.Delete.{Delete}
-use Rattle.cm_call.specs.Weight.{texts_of_place, texts_of_given, texts_of_ace, weight_of_texts, bounded}
+use Rattle.call_parts.specs.declared.stream.GivenStream.{GivenStream}
+use Rattle.call_parts.specs.declared.versions.CreateDocument.{CreateDocument}
+use Rattle.call_parts.specs.declared.versions.CheckOut.{CheckOut}
+use Rattle.call_parts.specs.declared.versions.CancelCheckOut.{CancelCheckOut}
+use Rattle.call_parts.specs.declared.versions.CheckIn.{CheckIn}
+use Rattle.call_parts.specs.declared.versions.Delete.{Delete}
+use Rattle.call_parts.specs.Weight.{texts_of_place, texts_of_given, texts_of_ace, weight_of_texts, bounded}
 
 -- 64 for the call, its texts, and the bytes of its stream
 abbrev pub weight_with : List (List ℕ) → ℕ → ℕ

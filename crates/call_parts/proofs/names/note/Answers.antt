@@ -1,8 +1,8 @@
 use Rattle.std.proofs.Common.{◌≡◌, string_bytes, rules}
 use Rattle.std.specs.BTreeMap.{get_by_text}
 use Rattle.std.proofs.lemmas.Map.Text.{btree_map_updates_text}
-use Rattle.cm_call.proofs.Found.{FindsNames-push}
-use Rattle.cm_call.proofs.names.note.Goals as goal
+use Rattle.call_parts.proofs.Found.{FindsNames-push}
+use Rattle.call_parts.proofs.names.note.Goals as goal
 
 pub returns : goal.returns
 returns c =

@@ -1,23 +1,10 @@
 //! Writes on documents and their version series (CMIS 1.1, sections 2.2.4 and 2.2.7).
-ghost use Rattle.std.specs.Prelude.{◌≡◌};
-
 use crate::place::Place;
-use crate::write::AceRequests;
-use cm_base::copies::Copies;
-use cm_base::media::MediaType;
-use cm_base::pieces::Pieces;
+use crate::stream::GivenStream;
+use crate::writes::AceRequests;
 use cm_base::series::VersioningState;
 use cm_base::text::{Text, Texts};
 use cm_types::given::Givens;
-use std::alloc::{AllocError, Global};
-
-/// A stream that a request gives. Without a file name it takes the name of its document.
-#[derive(Drop)]
-pub struct GivenStream {
-    pub kind: MediaType,
-    pub file: Option<Text>,
-    pub pieces: Pieces,
-}
 
 /// Makes a document, in the addressed folder if there is one (section 2.2.4.1).
 #[derive(Drop)]
@@ -62,14 +49,4 @@ pub struct Delete {
     pub place: Place,
     /// Of a document: its whole series, or this version alone.
     pub all_versions: bool,
-}
-
-impl Copies for GivenStream {
-    fn copied(&self, alloc: Global) -> Result<GivenStream, AllocError> {
-        Ok(GivenStream {
-            kind: self.kind.copied(alloc)?,
-            file: Copies::copied(&self.file, alloc)?,
-            pieces: self.pieces.copied(alloc)?,
-        })
-    }
 }
