@@ -1,7 +1,6 @@
 //! What a write adds to the cost of the repository.
 ghost use Rattle.std.specs.Prelude.{◌≡◌, ◌+◌};
 ghost use Rattle.std.specs.List.{flat_map};
-ghost use Rattle.call_parts.specs.declared.writes.Write.TheVariants as writes;
 ghost use Rattle.call_parts.specs.Weight.{weight_of_create_folder, weight_of_texts, bounded, text_weight, texts_of_place, texts_of_given, texts_of_ace, texts_of_create_folder};
 
 use crate::place::Place;
