@@ -12,8 +12,8 @@ use Rattle.cmis_spec.specs.Repository.{Repository}
 use Rattle.cm_show.specs.declared.system.SystemProperty.{SystemProperty}
 use Rattle.cm_show.specs.System.{system_named}
 use Rattle.cm_show.specs.Shown.{property_value, shown_defs, shown_object}
-use Rattle.bind_json.specs.Objects.{property_data}
-use Rattle.bind_json.specs.Replies.{children_data}
+use Rattle.object_json.specs.Objects.{property_data}
+use Rattle.object_json.specs.Pages.{children_data}
 use Rattle.type_keys.specs.Words.{kind_word, cardinality_word}
 use Rattle.call_parts.specs.declared.readings.ReadChildren.{ReadChildren}
 use Rattle.call_parts.specs.declared.replies.ChildrenReply.{ChildrenReply}

@@ -19,8 +19,8 @@ use Rattle.rd_nav.specs.ReadChildren.{has_more, page, page_size}
 use Rattle.call_parts.specs.declared.replies.ChildrenReply.{ChildrenReply}
 use Rattle.cm_types.specs.declared.property.PropDef.{PropDef}
 use Rattle.cmis_spec.specs.Repository.{Repository}
-use Rattle.bind_json.specs.Objects.{property_data}
-use Rattle.bind_json.specs.Replies.{child_data, children_data}
+use Rattle.object_json.specs.Objects.{property_data}
+use Rattle.object_json.specs.Pages.{child_data, children_data}
 use Rattle.show_json.specs.Columns.{child_by, counts_before, described, full_field, object_by, page_reply, properties_by, slot_field, texts_before}
 
 -- members, and one more

@@ -9,7 +9,7 @@ ghost use Rattle.map_keys.specs.Parts.{pointee};
 ghost use Rattle.cm_base.specs.Judged.{Meets};
 ghost use Rattle.cmis_spec.specs.Access.{children_of};
 ghost use Rattle.cm_show.specs.Shown.{shown_object};
-ghost use Rattle.bind_json.specs.Replies.{child_data, children_data};
+ghost use Rattle.object_json.specs.Pages.{child_data, children_data};
 ghost use Rattle.rd_nav.specs.ReadChildren.{answer_children, answer_children_in, page};
 ghost use Rattle.show_json.specs.Columns.{answer_text, columns_of, counts_before, page_reply};
 

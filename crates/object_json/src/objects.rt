@@ -2,7 +2,7 @@
 ghost use Rattle.std.specs.Prelude.{◌≡◌, [], ◌∷◌, IfOk};
 ghost use Rattle.json_text.specs.Shown.{data_of};
 ghost use Rattle.json_text.specs.Build.{object_data};
-ghost use Rattle.bind_json.specs.Objects.{property_data, properties_data, values_data, shown_data};
+ghost use Rattle.object_json.specs.Objects.{property_data, properties_data, values_data, shown_data};
 
 use call_parts::replies::{Properties, ShownObject, ShownProperty};
 use cm_base::value::Slot;

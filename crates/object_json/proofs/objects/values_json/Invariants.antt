@@ -3,8 +3,8 @@ use Rattle.std.specs.Prelude.{fold}
 use Rattle.serde_json.specs.Data.{no_members}
 use Rattle.json_text.specs.Build.{with_field}
 use Rattle.json_text.specs.Shown.{fields_of}
-use Rattle.bind_json.specs.Objects.{value_field}
-use Rattle.bind_json.proofs.objects.values_json.Given as goal
+use Rattle.object_json.specs.Objects.{value_field}
+use Rattle.object_json.proofs.objects.values_json.Given as goal
 
 abbrev pub invariant-loop-slot : goal.invariant-loop-slot
 invariant-loop-slot l = fields_of l.fields ≡ fold with_field no_members (map value_field (take l.slot-index l.slots))
