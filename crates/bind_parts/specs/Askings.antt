@@ -4,7 +4,7 @@ use Rattle.http_grammar.specs.Request.{Head}
 use Rattle.http_grammar.specs.Fields.{values_named, is_host}
 use Rattle.form_args.specs.Read.{form_pairs}
 use Rattle.form_parts.specs.declared.gathered.Parts.{Parts}
-use Rattle.bind_read.specs.declared.asking.Form.{Form}
+use Rattle.bind_parts.specs.declared.asking.Form.{Form}
 
 -- the arguments are those of the form, and then those of the target's query; the first of a name counts
 abbrev pub with_query : Parts → List ℕ → Form

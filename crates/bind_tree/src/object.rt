@@ -1,13 +1,13 @@
 //! The arguments of object and properties.
 ghost use Rattle.std.specs.Prelude.{◌≡◌};
 ghost use Rattle.cm_base.specs.Judged.{Meets};
-ghost use Rattle.bind_read.specs.Objects.{object_of, properties_of};
+ghost use Rattle.bind_tree.specs.Objects.{object_of, properties_of};
 
-use crate::asking::Asking;
-use crate::parts::{place_of, unserved_of_object, unserved_of_properties};
+use bind_parts::asking::Asking;
+use bind_parts::parts::{place_of, unserved_of_object, unserved_of_properties};
+use call_parts::readings::{ReadObject, ReadProperties};
 use cm_base::argument::Argument;
 use cm_base::fail::Fail;
-use call_parts::readings::{ReadObject, ReadProperties};
 use form_args::choice::flag;
 use form_args::filter::property_filter;
 use std::alloc::Global;

@@ -5,8 +5,8 @@ use Rattle.cm_base.specs.Judged.{Judged, ◌>>=◌, ◌>>◌}
 use Rattle.call_parts.specs.declared.readings.ReadChildren.{ReadChildren}
 use Rattle.form_args.specs.Single.{flag_of, number_of}
 use Rattle.form_args.specs.Filter.{filter_of}
-use Rattle.bind_read.specs.declared.asking.Asking.{Asking}
-use Rattle.bind_read.specs.Parts.{place_of, unserved, unserved_of_children}
+use Rattle.bind_parts.specs.declared.asking.Asking.{Asking}
+use Rattle.bind_parts.specs.Parts.{place_of, unserved, unserved_of_children}
 
 -- 100 items where nothing is said
 abbrev pub children_of : Asking → Judged ReadChildren

@@ -10,7 +10,7 @@ use Rattle.call_parts.specs.declared.place.Place.TheVariants as places
 use Rattle.form_args.specs.declared.pairs.Pair.{Pair}
 use Rattle.request_target.specs.declared.target.Target.{Target}
 use Rattle.request_target.specs.declared.target.Target.TheVariants as targets
-use Rattle.bind_read.specs.declared.asking.Asking.{Asking}
+use Rattle.bind_parts.specs.declared.asking.Asking.{Asking}
 use Rattle.form_args.specs.Pairs.{value_of, is_given}
 
 -- the names on the path of an object

@@ -1,21 +1,30 @@
 //! What many calls have: the place, and arguments that are not served yet.
-ghost use Rattle.std.specs.Prelude.{◌≡◌, IfOk};
+ghost use Rattle.std.specs.Prelude.{◌≡◌, codes, IfOk};
+ghost use Rattle.cm_base.specs.declared.cause.Cause.TheVariants as causes;
 ghost use Rattle.std.specs.List.{list_any};
 ghost use Rattle.cm_base.specs.Judged.{Meets};
 ghost use Rattle.form_args.specs.Pairs.{is_given};
-ghost use Rattle.bind_read.specs.Parts.{names_in, place_of, unserved, unserved_of_object, unserved_of_properties, unserved_of_children};
+ghost use Rattle.bind_parts.specs.Parts.{names_in, place_of, unserved, unserved_of_object, unserved_of_properties, unserved_of_children};
 
 use crate::asking::Asking;
-use crate::form;
+use call_parts::place::Place;
 use cm_base::argument::Argument;
+use cm_base::cause::Cause;
 use cm_base::copies::Copies;
 use cm_base::fail::Fail;
 use cm_base::items::Items;
-use cm_base::text::Texts;
-use call_parts::place::Place;
+use cm_base::text::{Text, Texts};
 use form_args::pairs::Pairs;
 use request_target::target::Target;
 use std::alloc::{AllocError, Global};
+
+/// The cause of a form of request that is not served yet.
+pub fn unserved_form(alloc: Global) -> Result<Cause, AllocError>
+    ensures { IfOk result (λ c. c ≡ causes.NotServed (codes "form")) }
+{
+    let word = Text::from_str(alloc, "form")?;
+    Ok(Cause::NotServed(word))
+}
 
 fn names_in(alloc: Global, target: &Target) -> Result<Texts, AllocError>
     ensures { IfOk result (λ names. names ≡ names_in target.now) }
@@ -47,7 +56,7 @@ fn unserved(alloc: Global, names: &[Argument], pairs: &Pairs) -> Result<(), Fail
     ensures { Meets (λ u. u) result (unserved names.now pairs.now) }
 {
     if any_given(pairs, names) {
-        let cause = form::unserved(alloc)?;
+        let cause = unserved_form(alloc)?;
         Err(Fail::Refused(cause))
     } else {
         Ok(())

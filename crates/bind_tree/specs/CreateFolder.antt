@@ -8,8 +8,8 @@ use Rattle.form_args.specs.Pairs.{texts_of}
 use Rattle.form_args.specs.Single.{flag_of}
 use Rattle.form_args.specs.Properties.{properties_of, typed}
 use Rattle.form_args.specs.Entries.{aces_of}
-use Rattle.bind_read.specs.declared.asking.Asking.{Asking}
-use Rattle.bind_read.specs.Parts.{place_of}
+use Rattle.bind_parts.specs.declared.asking.Asking.{Asking}
+use Rattle.bind_parts.specs.Parts.{place_of}
 
 abbrev pub create_folder_of : Asking → Judged CreateFolder
 create_folder_of asking = do

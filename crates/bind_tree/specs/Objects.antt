@@ -6,8 +6,8 @@ use Rattle.call_parts.specs.declared.readings.ReadObject.{ReadObject}
 use Rattle.call_parts.specs.declared.readings.ReadProperties.{ReadProperties}
 use Rattle.form_args.specs.Single.{flag_of}
 use Rattle.form_args.specs.Filter.{filter_of}
-use Rattle.bind_read.specs.declared.asking.Asking.{Asking}
-use Rattle.bind_read.specs.Parts.{place_of, unserved, unserved_of_object, unserved_of_properties}
+use Rattle.bind_parts.specs.declared.asking.Asking.{Asking}
+use Rattle.bind_parts.specs.Parts.{place_of, unserved, unserved_of_object, unserved_of_properties}
 
 abbrev pub object_of : Asking → Judged ReadObject
 object_of asking = do

@@ -1,13 +1,13 @@
 //! The arguments of createFolder.
 ghost use Rattle.std.specs.Prelude.{◌≡◌};
 ghost use Rattle.cm_base.specs.Judged.{Meets};
-ghost use Rattle.bind_read.specs.CreateFolder.{create_folder_of};
+ghost use Rattle.bind_tree.specs.CreateFolder.{create_folder_of};
 
-use crate::asking::Asking;
-use crate::parts::place_of;
+use bind_parts::asking::Asking;
+use bind_parts::parts::place_of;
+use call_parts::writes::CreateFolder;
 use cm_base::argument::Argument;
 use cm_base::fail::Fail;
-use call_parts::writes::CreateFolder;
 use form_args::choice::flag;
 use form_args::entries::aces;
 use form_args::lists::texts;

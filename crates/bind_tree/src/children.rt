@@ -1,13 +1,13 @@
 //! The arguments of children.
 ghost use Rattle.std.specs.Prelude.{◌≡◌};
 ghost use Rattle.cm_base.specs.Judged.{Meets};
-ghost use Rattle.bind_read.specs.Children.{children_of};
+ghost use Rattle.bind_tree.specs.Children.{children_of};
 
-use crate::asking::Asking;
-use crate::parts::{place_of, unserved_of_children};
+use bind_parts::asking::Asking;
+use bind_parts::parts::{place_of, unserved_of_children};
+use call_parts::readings::ReadChildren;
 use cm_base::argument::Argument;
 use cm_base::fail::Fail;
-use call_parts::readings::ReadChildren;
 use form_args::choice::flag;
 use form_args::filter::property_filter;
 use form_args::number::number;

@@ -2,10 +2,10 @@
 ghost use Rattle.std.specs.Prelude.{◌≡◌, codes, IfOk};
 ghost use Rattle.std.specs.List.{list_all};
 ghost use Rattle.http_grammar.specs.Fields.{is_host, is_visible};
-ghost use Rattle.bind_read.specs.Askings.{with_query, good_host, host_of};
+ghost use Rattle.bind_parts.specs.Askings.{with_query, good_host, host_of};
 
-use cm_base::text::Text;
 use call_parts::stream::GivenStream;
+use cm_base::text::Text;
 use form_args::pairs::Pairs;
 use form_args::read;
 use form_parts::gathered::Parts;
