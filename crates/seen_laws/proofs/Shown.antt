@@ -12,8 +12,8 @@ use Rattle.cm_types.specs.declared.property.PropDef.{PropDef}
 use Rattle.cm_types.specs.Changes.{base_id}
 use Rattle.cm_types.specs.Types.{base_of, is_of_base, props_of}
 use Rattle.cm_types.specs.Properties.{value_in}
-use Rattle.cm_call.specs.declared.question.PropertyFilter.{PropertyFilter}
-use Rattle.cm_call.specs.declared.reply.Properties.TheVariants as forms
+use Rattle.call_parts.specs.declared.readings.PropertyFilter.{PropertyFilter}
+use Rattle.call_parts.specs.declared.replies.Properties.TheVariants as forms
 use Rattle.cmis_spec.specs.Repository.{Repository, same, root, is_a, parent_in, path_of, name_of, owner_of, series_of, is_latest}
 use Rattle.cmis_spec.specs.Access.{read_at}
 use Rattle.cmis_spec.specs.Values.{words}

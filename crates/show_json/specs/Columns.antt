@@ -6,18 +6,17 @@ use Rattle.json_text.specs.Values.{value_data}
 use Rattle.cm_base.specs.declared.object.Object.{Object}
 use Rattle.cm_base.specs.declared.value.Value.{Value}
 use Rattle.cm_types.specs.declared.property.PropDef.{PropDef}
-use Rattle.cm_call.specs.declared.question.PropertyFilter.{PropertyFilter}
-use Rattle.cm_call.specs.declared.reply.ShownProperty.{ShownProperty}
+use Rattle.call_parts.specs.declared.readings.PropertyFilter.{PropertyFilter}
+use Rattle.call_parts.specs.declared.replies.ShownProperty.{ShownProperty}
 use Rattle.cmis_spec.specs.Repository.{Repository}
 use Rattle.cm_show.specs.declared.system.SystemProperty.{SystemProperty}
 use Rattle.cm_show.specs.System.{system_named}
 use Rattle.cm_show.specs.Shown.{property_value, shown_defs, shown_object}
-use Rattle.bind_json.specs.Objects.{property_data}
-use Rattle.bind_json.specs.Replies.{reply_data}
+use Rattle.object_json.specs.Objects.{property_data}
+use Rattle.object_json.specs.Pages.{children_data}
 use Rattle.type_keys.specs.Words.{kind_word, cardinality_word}
-use Rattle.cm_call.specs.declared.question.ReadChildren.{ReadChildren}
-use Rattle.cm_call.specs.declared.reply.ChildrenReply.{ChildrenReply}
-use Rattle.cm_call.specs.declared.reply.Reply.{Reply}
+use Rattle.call_parts.specs.declared.readings.ReadChildren.{ReadChildren}
+use Rattle.call_parts.specs.declared.replies.ChildrenReply.{ChildrenReply}
 use Rattle.cm_base.specs.Judged.{Judged, ◌>>=◌}
 use Rattle.serde_json.specs.Written.{compact_text}
 use Rattle.rd_nav.specs.ReadChildren.{has_more, page}
@@ -95,5 +94,5 @@ page_reply r u q children = record {
 }
 
 -- the text of what is answered
-abbrev pub answer_text : Judged Reply → Judged (List ℕ)
-answer_text judged = judged >>= λ reply. Ok (compact_text (reply_data reply))
+abbrev pub answer_text : Judged ChildrenReply → Judged (List ℕ)
+answer_text judged = judged >>= λ reply. Ok (compact_text (children_data reply))

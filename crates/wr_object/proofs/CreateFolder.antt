@@ -19,8 +19,8 @@ use Rattle.cm_types.specs.declared.definition.BaseType.TheVariants as bases
 use Rattle.cm_types.specs.declared.given.PropertyCall.TheVariants as calls
 use Rattle.cm_types.specs.Types.{type_in, same_base}
 use Rattle.cm_types.specs.Properties.{judge_properties}
-use Rattle.cm_call.specs.declared.write.AceRequest.{AceRequest}
-use Rattle.cm_call.specs.declared.write.CreateFolder.{CreateFolder}
+use Rattle.call_parts.specs.declared.writes.AceRequest.{AceRequest}
+use Rattle.call_parts.specs.declared.writes.CreateFolder.{CreateFolder}
 use Rattle.cm_acl.specs.Acl.{level_named, ace_order, with_ace, without_aces, same_ace}
 use Rattle.cm_show.specs.Addressed.{addressed}
 use Rattle.cmis_spec.specs.Repository.{Repository, root, most_levels, most_steps, most_cost, object_at, is_a, depth_of, is_taken, new_number}

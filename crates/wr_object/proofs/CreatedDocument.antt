@@ -20,9 +20,9 @@ use Rattle.cm_types.specs.declared.definition.BaseType.TheVariants as bases
 use Rattle.cm_types.specs.declared.given.PropertyCall.TheVariants as calls
 use Rattle.cm_types.specs.Types.{type_in, same_base}
 use Rattle.cm_types.specs.Properties.{judge_properties}
-use Rattle.cm_call.specs.declared.place.Place.{Place}
-use Rattle.cm_call.specs.declared.versions.CreateDocument.{CreateDocument}
-use Rattle.cm_call.specs.declared.versions.GivenStream.{GivenStream}
+use Rattle.call_parts.specs.declared.place.Place.{Place}
+use Rattle.call_parts.specs.declared.versions.CreateDocument.{CreateDocument}
+use Rattle.call_parts.specs.declared.stream.GivenStream.{GivenStream}
 use Rattle.cm_show.specs.Addressed.{addressed}
 use Rattle.cmis_spec.specs.Repository.{Repository, same, longest_stream, is_a, is_taken, new_number}
 use Rattle.cmis_spec.specs.Changes.{stepped, noted}

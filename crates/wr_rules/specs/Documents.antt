@@ -12,7 +12,7 @@ use Rattle.cm_types.specs.declared.definition.ContentAllowed.{ContentAllowed}
 use Rattle.cm_types.specs.declared.definition.ContentAllowed.TheVariants as contents
 use Rattle.cm_types.specs.declared.given.Given.{Given}
 use Rattle.cm_types.specs.Properties.{given_of}
-use Rattle.cm_call.specs.declared.versions.GivenStream.{GivenStream}
+use Rattle.call_parts.specs.declared.stream.GivenStream.{GivenStream}
 use Rattle.cmis_spec.specs.Repository.{Repository, same, longest_stream, series_of, type_of, name_of, is_latest, is_taken}
 use Rattle.cmis_spec.specs.Values.{words, texts}
 use Rattle.cmis_spec.specs.Documents.{without_comment}

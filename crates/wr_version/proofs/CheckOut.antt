@@ -15,7 +15,7 @@ use Rattle.cm_base.specs.declared.log.ChangeKind.TheVariants as changes
 use Rattle.cm_base.specs.declared.cause.Cause.TheVariants as causes
 use Rattle.cm_types.specs.declared.definition.BaseType.TheVariants as bases
 use Rattle.cm_types.specs.Types.{props_of}
-use Rattle.cm_call.specs.declared.versions.CheckOut.{CheckOut}
+use Rattle.call_parts.specs.declared.versions.CheckOut.{CheckOut}
 use Rattle.cm_show.specs.Addressed.{addressed}
 use Rattle.cmis_spec.specs.Repository.{Repository, same, most_steps, most_cost, object_at, series_at, series_of, is_a, entry_of, last_of, is_latest, new_number, longest_stream}
 use Rattle.cmis_spec.specs.Access.{lacks}

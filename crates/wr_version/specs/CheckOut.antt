@@ -8,12 +8,11 @@ use Rattle.cm_base.specs.declared.log.ChangeKind.TheVariants as changes
 use Rattle.cm_base.specs.declared.cause.Cause.TheVariants as causes
 use Rattle.cm_base.specs.Judged.{Judged, ◌>>=◌, ◌>>◌, refuse, find_or}
 use Rattle.cm_types.specs.declared.definition.BaseType.TheVariants as bases
-use Rattle.cm_call.specs.declared.question.PropertyFilter.TheVariants as filters
-use Rattle.cm_call.specs.declared.versions.CheckOut.{CheckOut}
-use Rattle.cm_call.specs.declared.reply.Reply.{Reply}
-use Rattle.cm_call.specs.declared.reply.Reply.TheVariants as replies
-use Rattle.cm_call.specs.Weight.{bounded}
-use Rattle.cm_call.specs.Versions.{weight_of_check_out}
+use Rattle.call_parts.specs.declared.readings.PropertyFilter.TheVariants as filters
+use Rattle.call_parts.specs.declared.versions.CheckOut.{CheckOut}
+use Rattle.call_parts.specs.declared.replies.ObjectReply.{ObjectReply}
+use Rattle.call_parts.specs.Weight.{bounded}
+use Rattle.call_parts.specs.Versions.{weight_of_check_out}
 use Rattle.cm_show.specs.Addressed.{addressed}
 use Rattle.cm_show.specs.Shown.{shown_object}
 use Rattle.cmis_spec.specs.Repository.{Repository, root_folder, new_number, is_a, entry_of, name_of}
@@ -82,8 +81,8 @@ abbrev pub copy_made : Repository → List ℕ → Moment → CheckOut → Objec
 copy_made r u m call = new_copy r u m (unwrap_or (addressed r u call.place) (root_folder u m r.step))
 
 -- the working copy as the caller sees it after the step
-abbrev pub acknowledgement_check_out : Repository → List ℕ → Moment → ℕ → CheckOut → Reply
-acknowledgement_check_out r u m cost call = replies.Object (record {
+abbrev pub acknowledgement_check_out : Repository → List ℕ → Moment → ℕ → CheckOut → ObjectReply
+acknowledgement_check_out r u m cost call = record {
   object = shown_object (after_check_out r u m cost call) u filters.All call.succinct (copy_made r u m call);
   created = true;
-})
+}

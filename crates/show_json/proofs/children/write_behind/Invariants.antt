@@ -2,7 +2,7 @@ use Rattle.std.proofs.Common.{◌≡◌, ◌++◌, map, take}
 use Rattle.json_text.specs.Tokens.{each_tokens}
 use Rattle.map_keys.specs.Parts.{pointee}
 use Rattle.cm_show.specs.Shown.{shown_object}
-use Rattle.bind_json.specs.Replies.{child_data}
+use Rattle.object_json.specs.Pages.{child_data}
 use Rattle.show_json.specs.Columns.{columns_of}
 use Rattle.show_json.proofs.children.write_behind.Given as goal
 
