@@ -2,7 +2,7 @@
 ghost use Rattle.std.specs.Prelude.{◌≡◌, codes, IfOk};
 ghost use Rattle.serde_json.specs.Written.{compact_text};
 ghost use Rattle.json_text.specs.Shown.{data_of};
-ghost use Rattle.bind_json.specs.Replies.{reply_data, status_of_reply, shown_reply};
+ghost use Rattle.bind_json.specs.Replies.{reply_data, status_of_reply, shown_json, shown_reply};
 
 use bytes::Bytes;
 use cm_base::media::MediaType;
@@ -51,15 +51,29 @@ fn body_of(alloc: Global, reply: &Reply) -> Result<Bytes, AllocError>
     Ok(body)
 }
 
+/// What is sent of a text of JSON that is made at this step, with this status.
+pub fn shown_json(
+    alloc: Global,
+    status: u16,
+    body: Bytes,
+    number: u64,
+) -> Result<Shown, AllocError>
+    ensures { IfOk result (λ s. s ≡ shown_json status body number) }
+{
+    Ok(Shown {
+        status,
+        kind: json_kind(alloc)?,
+        body,
+        number: Some(number),
+    })
+}
+
 /// What is sent of a reply that is made at this step: 201 where the call made the object, else 200; compact JSON with the names
 /// of each object in byte order.
 pub fn text_of(alloc: Global, reply: &Reply, number: u64) -> Result<Shown, AllocError>
     ensures { IfOk result (λ s. s ≡ shown_reply reply.now number) }
 {
-    Ok(Shown {
-        status: status_of_reply(reply),
-        kind: json_kind(alloc)?,
-        body: body_of(alloc, reply)?,
-        number: Some(number),
-    })
+    let body = body_of(alloc, reply)?;
+    let shown = shown_json(alloc, status_of_reply(reply), body, number)?;
+    Ok(shown)
 }
