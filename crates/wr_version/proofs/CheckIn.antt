@@ -36,7 +36,8 @@ use Rattle.cmis_laws.proofs.Listed.{content_keeps}
 use Rattle.cmis_laws.proofs.Passed.{refused_not, then_ok, refuse_ok, find_ok, not_false}
 use Rattle.cmis_laws.proofs.Steps.{HasRoom, step_keeps, note_keeps}
 use Rattle.wr_rules.specs.Rules.{judge_storage, secondary_in, unknown_type, has_other_secondary}
-use Rattle.wr_rules.specs.Documents.{form_slots, name_after, content_at, judge_content, is_too_long, content_of_stream, is_taken_anywhere}
+use Rattle.wr_rules.specs.Documents.{form_slots, name_after, judge_content, is_too_long, content_of_stream, is_taken_anywhere}
+use Rattle.cm_state.specs.Looks.{content_at}
 use Rattle.wr_rules.proofs.Found.{addressed_there}
 use Rattle.wr_rules.proofs.Known.{below_secondary}
 use Rattle.wr_rules.proofs.Room.{room_of}

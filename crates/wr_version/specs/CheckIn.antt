@@ -27,7 +27,8 @@ use Rattle.cmis_spec.specs.Values.{kept_beside}
 use Rattle.cmis_spec.specs.Changes.{stepped, noted}
 use Rattle.cmis_spec.specs.Documents.{is_working_copy, last_label, next_label, with_comment, with_version, with_contents}
 use Rattle.wr_rules.specs.Rules.{judge_storage, secondary_in, unknown_type, has_other_secondary}
-use Rattle.wr_rules.specs.Documents.{form_slots, name_after, secondary_after, content_at, judge_content, content_of_stream, is_taken_anywhere}
+use Rattle.wr_rules.specs.Documents.{form_slots, name_after, secondary_after, judge_content, content_of_stream, is_taken_anywhere}
+use Rattle.cm_state.specs.Looks.{content_at}
 
 abbrev pub cost_check_in : CheckIn → ℕ
 cost_check_in call = weight_of_check_in call

@@ -14,13 +14,14 @@ use Rattle.call_parts.specs.declared.replies.ObjectReply.{ObjectReply}
 use Rattle.call_parts.specs.Weight.{bounded}
 use Rattle.call_parts.specs.Versions.{weight_of_check_out}
 use Rattle.cm_show.specs.Addressed.{addressed}
-use Rattle.cm_show.specs.Shown.{shown_object}
+use Rattle.cm_show.specs.Shown.{is_latest_version, shown_object}
 use Rattle.cmis_spec.specs.Repository.{Repository, root_folder, new_number, is_a, entry_of, name_of}
 use Rattle.cmis_spec.specs.Access.{lacks}
 use Rattle.cmis_spec.specs.Changes.{stepped, noted}
 use Rattle.cmis_spec.specs.Documents.{without_comment, with_copy, with_contents}
 use Rattle.wr_rules.specs.Rules.{judge_storage}
-use Rattle.wr_rules.specs.Documents.{is_versionable, is_checked_out, is_latest_version, copied_cost, content_at, content_copied}
+use Rattle.wr_rules.specs.Documents.{is_versionable, is_checked_out, copied_cost, content_copied}
+use Rattle.cm_state.specs.Looks.{content_at}
 
 -- the weight of the call, and the scalars of a document that is copied
 abbrev pub copies_cost : Repository → Object → ℕ

@@ -7,7 +7,8 @@ ghost use Rattle.cmis_spec.specs.Documents.{is_comment, without_comment};
 ghost use Rattle.cmis_spec.specs.Well.{IsWellFormed};
 ghost use Rattle.call_parts.specs.Weight.{bounded};
 ghost use Rattle.cm_show.specs.Addressed.{addressed};
-ghost use Rattle.wr_rules.specs.Documents.{is_versionable, is_checked_out, is_latest_version};
+ghost use Rattle.wr_rules.specs.Documents.{is_versionable, is_checked_out};
+ghost use Rattle.cm_show.specs.Shown.{is_latest_version};
 ghost use Rattle.wr_version.specs.Found.{Finds};
 ghost use Rattle.wr_version.specs.CheckOut.{copies_cost, cost_check_out, judge_latest, refusal_check_out, new_copy, new_content, after_check_out, acknowledgement_check_out};
 
