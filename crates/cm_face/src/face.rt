@@ -1,17 +1,20 @@
 //! The machine of the server.
 ghost use Rattle.std.specs.Prelude.{◌≡◌, Result};
+ghost use Rattle.cm_base.specs.Judged.{Meets};
 ghost use Rattle.desk_model.specs.Halts.{Tells};
 ghost use Rattle.cm_face.specs.Faces.{shown_step, shown_answer};
 
 use bind_json::replies::text_of;
 use cm_base::cause::Cause;
+use cm_base::fail::Fail;
 use cm_base::shown::Shown;
 use cm_base::text::Text;
 use cm_call::question::Question;
 use cm_call::write::Write;
-use cm_repo::calls::{advance, answer};
+use cm_repo::calls::advance;
 use cm_state::state::State;
 use desk_model::{Entry, Halt, Machine};
+use show_json::sent::{sent_children, sent_object, sent_properties};
 use std::alloc::Global;
 
 fn shown_step(
@@ -26,6 +29,17 @@ fn shown_step(
     Ok((made, shown))
 }
 
+// What is sent of the answer, whose text is written from the state.
+fn sent(alloc: Global, state: &State, user: &Text, question: &Question) -> Result<Shown, Fail>
+    ensures { Meets (λ s. s) result (shown_answer state.now user.now question.now) }
+{
+    match question {
+        Question::Object(q) => sent_object(alloc, state, user, q),
+        Question::Properties(q) => sent_properties(alloc, state, user, q),
+        Question::Children(q) => sent_children(alloc, state, user, q),
+    }
+}
+
 fn shown_answer(
     alloc: Global,
     state: &State,
@@ -34,9 +48,11 @@ fn shown_answer(
 ) -> Result<Shown, Halt<Cause>>
     ensures { Tells (shown_answer state.now user.now question.now) result }
 {
-    let reply = answer(alloc, state, user, question)?;
-    let shown = text_of(alloc, &reply, state.step())?;
-    Ok(shown)
+    match sent(alloc, state, user, question) {
+        Ok(shown) => Ok(shown),
+        Err(Fail::Refused(cause)) => Err(Halt::Refused(cause)),
+        Err(Fail::Memory) => Err(Halt::Memory),
+    }
 }
 
 /// The machine of the server: the bytes of a reply are made before its step is taken, so that a step that was taken can be told.
