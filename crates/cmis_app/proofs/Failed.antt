@@ -35,13 +35,9 @@ failed None clock before empty after full status (inl h) = record {
   input = λ e. apart (λ n. n == 7) 7 3 refl refl (sym h.0 ∙ e);
   output = λ e. apart (λ n. n == 7) 7 4 refl refl (sym h.0 ∙ e);
 }
-failed None clock before empty after full status (inr (same, inl h)) = record {
+failed None clock before empty after full status (inr (same, h)) = record {
   input = λ e. apart (λ n. n == 2) 2 3 refl refl (sym h.0 ∙ e);
   output = λ e. apart (λ n. n == 2) 2 4 refl refl (sym h.0 ∙ e);
-}
-failed None clock before empty after full status (inr (same, inr h)) = record {
-  input = λ e. apart (λ n. n == 4) 4 3 refl refl (sym h.0 ∙ e);
-  output = λ e. le-leb (min (empty.faults + 1) (2 ^ 64 - 1)) full.faults h.1;
 }
 failed (Some (Pipe asked)) clock before empty after full status (inl h) = record {
   input = λ e. apart (λ n. n == 7) 7 3 refl refl (sym h.0 ∙ e);

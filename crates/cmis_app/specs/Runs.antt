@@ -57,21 +57,23 @@ pub record Piped (users : List User) (at : Option Moment) (from : ℕ) (clock : 
   pub begins : Begins at clock root words
   pub served : Served (opening base_types users root from) users words before empty after full status
 
--- the text and a line end were written, with this status; or 4: the output failed in this call, and a front of them was written
-abbrev pub Wrote : List ℕ → ℕ → SinkTold → SinkTold → ℕ → Type 0
-Wrote text due empty full status =
-    ((status ≡ due) × Took empty full (text ++ 10 ∷ []))
-    ⊎ ((status ≡ 4) × Rose empty.faults full.faults × TookFront empty full (text ++ 10 ∷ []))
+-- what is written for words that are none of the program's
+abbrev pub not_valid : List ℕ
+not_valid = codes "cmisd: words are not valid" ++ 10 ∷ []
+
+-- Words that are none of the program's end with 2: the line was written, or the output failed in this call, and a front of it was written.
+abbrev pub Refused : SinkTold → SinkTold → ℕ → Type 0
+Refused empty full status = (status ≡ 2) × (Took empty full not_valid ⊎ Rose empty.faults full.faults × TookFront empty full not_valid)
 
 -- 7: there was no memory to begin, and nothing was read or written
 abbrev pub Unbegun : SourceTold → SinkTold → SourceTold → SinkTold → ℕ → Type 0
 Unbegun before empty after full status = (status ≡ 7) × (after ≡ before) × (full ≡ empty)
 
--- Of a run with these words. Other words than the program's read nothing, write one line and end with 2.
+-- Of a run with these words. Other words than the program's read nothing.
 abbrev pub Ran : Option Asked → Option Words → SourceTold → SinkTold → SourceTold → SinkTold → ℕ → Type 0
 Ran None clock before empty after full status =
     Unbegun before empty after full status
-    ⊎ ((after ≡ before) × Wrote (codes "cmisd: words are not valid") 2 empty full status)
+    ⊎ (after ≡ before) × Refused empty full status
 Ran (Some (Pipe asked)) clock before empty after full status =
     Unbegun before empty after full status
     ⊎ Piped asked.users asked.at asked.from clock before empty after full status

@@ -1,11 +1,11 @@
 //! One run of the program in one thread.
-ghost use Rattle.std.specs.Prelude.{◌≡◌, ◌⊎◌, ◌≤◌, ℕ, map, codes, string_bytes, Some, None, IfSome};
+ghost use Rattle.std.specs.Prelude.{◌≡◌, ◌⊎◌, ◌≤◌, ℕ, map, string_bytes, Some, None, IfSome};
 ghost use Rattle.cm_types.specs.BaseTypes.{base_types};
 ghost use Rattle.cmis_spec.specs.Repository.{opening};
 ghost use Rattle.desk_model.specs.Clocks.{moment_of};
 ghost use Rattle.cmis_words.specs.Programs.{words_of};
 ghost use Rattle.cmis_words.specs.Bounds.{IsMoment};
-ghost use Rattle.cmis_app.specs.Runs.{status_of, OnlyWhereFailed, always, Wrote, Unbegun, Served, Piped, Ran};
+ghost use Rattle.cmis_app.specs.Runs.{status_of, OnlyWhereFailed, always, Refused, Unbegun, Served, Piped, Ran};
 
 use crate::lent::Lent;
 use cm_base::number::Moment;
@@ -24,18 +24,31 @@ use talk::{End, run_alone};
 /// The line for words that the program does not have.
 const NOT_VALID: &str = "cmisd: words are not valid\n";
 
+/// The status of words that the program does not have.
+const NOT_THE_PROGRAMS: u8 = 2;
+
 /// The status where memory is wanted.
 const WANTS_MEMORY: u8 = 7;
 
-// A line, and then the status; 4 where the output fails on it.
+/// Writes the line for words that the program does not have, and answers the status 2, also where it could not be written.
+pub fn refuse<O: Sink>(output: &mut O) -> u8
+    ensures { Refused (O.told output.old) (O.told output.new) result }
+{
+    match send(output, NOT_VALID.as_bytes()) {
+        Ok(()) => NOT_THE_PROGRAMS,
+        Err(_) => NOT_THE_PROGRAMS,
+    }
+}
+
+// The same on a link.
 fn refused<L: Link>(link: &mut L) -> u8
-    ensures line { Wrote (codes "cmisd: words are not valid") 2 (L.Sink.told link.old) (L.Sink.told link.new) result }
+    ensures line { Refused (L.Sink.told link.old) (L.Sink.told link.new) result }
     ensures unread { L.Source.told link.new ≡ L.Source.told link.old }
     ensures stands_for { L.stands_for link.new ≡ L.stands_for link.old }
 {
     match send(link, NOT_VALID.as_bytes()) {
-        Ok(()) => 2,
-        Err(_) => 4,
+        Ok(()) => NOT_THE_PROGRAMS,
+        Err(_) => NOT_THE_PROGRAMS,
     }
 }
 

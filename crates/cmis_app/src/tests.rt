@@ -41,7 +41,7 @@ fn statuses(rt: HostRuntime) {
         Ok(true)
     );
     assert_eq!(rt; ran(alloc, &[], b"", &[], &[], 2, bad), Ok(true));
-    assert_eq!(rt; ran(alloc, &[], b"", &[], &[0], 4, b""), Ok(true));
+    assert_eq!(rt; ran(alloc, &[], b"", &[], &[0], 2, b""), Ok(true));
     assert_eq!(rt;
         ran(alloc, &["pipe", "admin:pw"], b"x", &[0], &[], 3, b""),
         Ok(true)

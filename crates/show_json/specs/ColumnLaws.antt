@@ -6,12 +6,12 @@ use Rattle.json_text.specs.Build.{object_data}
 use Rattle.json_text.specs.Tokens.{listed_members}
 use Rattle.serde_json.specs.Data.{object}
 use Rattle.cm_base.specs.declared.object.Object.{Object}
-use Rattle.cm_call.specs.declared.question.PropertyFilter.{PropertyFilter}
+use Rattle.call_parts.specs.declared.readings.PropertyFilter.{PropertyFilter}
 use Rattle.cmis_spec.specs.Repository.{Repository}
 use Rattle.cm_types.specs.declared.property.PropDef.{PropDef}
 use Rattle.cm_show.specs.Shown.{shown_defs, shown_object, shown_property, shown_slot}
-use Rattle.bind_json.specs.Objects.{property_field, shown_data, value_field, values_data, properties_data}
-use Rattle.bind_json.specs.Replies.{child_data}
+use Rattle.object_json.specs.Objects.{property_field, shown_data, value_field, values_data, properties_data}
+use Rattle.object_json.specs.Pages.{child_data}
 use Rattle.cm_base.specs.declared.value.Value.{Value}
 use Rattle.cm_show.specs.Shown.{system_value}
 use Rattle.cm_types.specs.Properties.{value_in}

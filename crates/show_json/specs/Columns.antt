@@ -6,18 +6,18 @@ use Rattle.json_text.specs.Values.{value_data}
 use Rattle.cm_base.specs.declared.object.Object.{Object}
 use Rattle.cm_base.specs.declared.value.Value.{Value}
 use Rattle.cm_types.specs.declared.property.PropDef.{PropDef}
-use Rattle.cm_call.specs.declared.question.PropertyFilter.{PropertyFilter}
-use Rattle.cm_call.specs.declared.reply.ShownProperty.{ShownProperty}
+use Rattle.call_parts.specs.declared.readings.PropertyFilter.{PropertyFilter}
+use Rattle.call_parts.specs.declared.replies.ShownProperty.{ShownProperty}
 use Rattle.cmis_spec.specs.Repository.{Repository}
 use Rattle.cm_show.specs.declared.system.SystemProperty.{SystemProperty}
 use Rattle.cm_show.specs.System.{system_named}
 use Rattle.cm_show.specs.Shown.{property_value, shown_defs, shown_object}
-use Rattle.bind_json.specs.Objects.{property_data}
-use Rattle.bind_json.specs.Replies.{child_data, reply_data}
+use Rattle.object_json.specs.Objects.{property_data, shown_data}
+use Rattle.object_json.specs.Pages.{child_data, children_data}
 use Rattle.type_keys.specs.Words.{kind_word, cardinality_word}
-use Rattle.cm_call.specs.declared.question.ReadChildren.{ReadChildren}
-use Rattle.cm_call.specs.declared.reply.ChildrenReply.{ChildrenReply}
-use Rattle.cm_call.specs.declared.reply.Reply.{Reply}
+use Rattle.call_parts.specs.declared.readings.ReadChildren.{ReadChildren}
+use Rattle.call_parts.specs.declared.replies.ChildrenReply.{ChildrenReply}
+use Rattle.call_parts.specs.declared.replies.ObjectReply.{ObjectReply}
 use Rattle.cm_base.specs.Judged.{Judged, ◌>>=◌}
 use Rattle.serde_json.specs.Written.{compact_text}
 use Rattle.rd_nav.specs.ReadChildren.{has_more, page}
@@ -124,6 +124,10 @@ child_in l x = child_data (shown_object l.repository l.user l.question.filter l.
 abbrev pub children_in : Listing → List Object → List Data
 children_in l xs = map child_data (map (shown_object l.repository l.user l.question.filter l.question.succinct) xs)
 
--- the text of what is answered
-abbrev pub answer_text : Judged Reply → Judged (List ℕ)
-answer_text judged = judged >>= λ reply. Ok (compact_text (reply_data reply))
+-- the text of what is answered about an object
+abbrev pub object_answer_text : Judged ObjectReply → Judged (List ℕ)
+object_answer_text judged = judged >>= λ reply. Ok (compact_text (shown_data reply.object))
+
+-- the text of what is answered about children
+abbrev pub answer_text : Judged ChildrenReply → Judged (List ℕ)
+answer_text judged = judged >>= λ reply. Ok (compact_text (children_data reply))

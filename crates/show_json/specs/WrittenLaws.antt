@@ -10,17 +10,17 @@ use Rattle.json_text.specs.TokenLaws.{object_written}
 use Rattle.json_text.specs.Values.{value_data}
 use Rattle.cm_base.specs.declared.object.Object.{Object}
 use Rattle.cm_base.specs.declared.value.Value.{Value}
-use Rattle.cm_call.specs.declared.question.ReadChildren.{ReadChildren}
-use Rattle.cm_call.specs.declared.reply.ShownObject.{ShownObject}
+use Rattle.call_parts.specs.declared.readings.ReadChildren.{ReadChildren}
+use Rattle.call_parts.specs.declared.replies.ShownObject.{ShownObject}
 use Rattle.map_keys.specs.Parts.{pointee}
 use Rattle.type_keys.specs.Words.{kind_word, cardinality_word}
 use Rattle.cm_show.specs.Shown.{shown_object}
 use Rattle.rd_nav.specs.ReadChildren.{has_more, page, page_size}
-use Rattle.cm_call.specs.declared.reply.ChildrenReply.{ChildrenReply}
+use Rattle.call_parts.specs.declared.replies.ChildrenReply.{ChildrenReply}
 use Rattle.cm_types.specs.declared.property.PropDef.{PropDef}
 use Rattle.cmis_spec.specs.Repository.{Repository}
-use Rattle.bind_json.specs.Objects.{property_data}
-use Rattle.bind_json.specs.Replies.{child_data, children_data}
+use Rattle.object_json.specs.Objects.{property_data}
+use Rattle.object_json.specs.Pages.{child_data, children_data}
 use Rattle.show_json.specs.Columns.{child_by, counts_before, described, full_field, object_by, page_reply, properties_by, Sight, slot_field, texts_before}
 
 -- members, and one more

@@ -8,6 +8,5 @@ pub mod column;
 pub mod listing;
 pub mod object;
 pub mod one;
-pub mod sent;
 pub mod sight;
 mod value;

@@ -6,7 +6,7 @@ ghost use Rattle.show_json.specs.Columns.{listing, sight};
 use crate::sight::Sight;
 use cm_base::object::Object;
 use cm_base::text::Text;
-use cm_call::question::ReadChildren;
+use call_parts::readings::ReadChildren;
 use cm_state::state::State;
 use cm_types::definition::BaseType;
 use std::alloc::Global;

@@ -3,9 +3,9 @@ ghost use Rattle.std.specs.Prelude.{◌≡◌, IfOk};
 ghost use Rattle.serde_json.specs.Written.{compact_text};
 ghost use Rattle.cm_base.specs.Judged.{Meets};
 ghost use Rattle.cm_show.specs.Shown.{shown_object};
-ghost use Rattle.bind_json.specs.Objects.{shown_data};
+ghost use Rattle.object_json.specs.Objects.{shown_data};
 ghost use Rattle.rd_object.specs.ReadObject.{answer_addressed};
-ghost use Rattle.show_json.specs.Columns.{answer_text};
+ghost use Rattle.show_json.specs.Columns.{object_answer_text};
 
 use crate::column::columns_of;
 use crate::object::write_object;
@@ -15,8 +15,8 @@ use cm_base::cause::Cause;
 use cm_base::fail::Fail;
 use cm_base::object::Object;
 use cm_base::text::Text;
-use cm_call::place::Place;
-use cm_call::question::PropertyFilter;
+use call_parts::place::Place;
+use call_parts::readings::PropertyFilter;
 use cm_show::address::addressed;
 use cm_state::state::State;
 use json_text::write::Writer;
@@ -51,7 +51,7 @@ pub fn object_text(
     filter: &PropertyFilter,
     succinct: bool,
 ) -> Result<Bytes, Fail>
-    ensures { Meets (λ y. y) result (answer_text (answer_addressed state.now user.now place.now filter.now succinct)) }
+    ensures { Meets (λ y. y) result (object_answer_text (answer_addressed state.now user.now place.now filter.now succinct)) }
 {
     match addressed(state, user, place) {
         Some(x) => {

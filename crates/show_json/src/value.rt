@@ -3,7 +3,7 @@ ghost use Rattle.std.specs.Prelude.{◌≡◌, ◌++◌, IfOk, OnOk, codes, opti
 ghost use Rattle.serde_json.specs.Data.{string};
 ghost use Rattle.json_text.specs.Tokens.{field_tokens, fields_tokens, tokens_of};
 ghost use Rattle.json_text.specs.Values.{value_data};
-ghost use Rattle.bind_json.specs.Objects.{property_data};
+ghost use Rattle.object_json.specs.Objects.{property_data};
 ghost use Rattle.type_keys.specs.Words.{cardinality_word, kind_word};
 ghost use Rattle.cm_types.specs.Changes.{base_id};
 ghost use Rattle.cm_show.specs.Seen.{value_seen};

@@ -1,14 +1,10 @@
 //! createFolder (CMIS 1.1, section 2.2.4.3).
-ghost use Rattle.std.specs.Prelude.{◌≡◌, ◌+◌, ◌<◌, ◌^◌, ◌&&◌, not, [], Some, None, Ok, IfOk, filter, is_some, true};
-ghost use Rattle.cm_base.specs.declared.object.Object.{Object};
+ghost use Rattle.std.specs.Prelude.{◌≡◌, ◌+◌, ◌<◌, ◌^◌, ◌&&◌, not, [], Some, None, Ok, IfOk, filter};
 ghost use Rattle.cm_base.specs.Judged.{Leaves, Writes};
 ghost use Rattle.cm_types.specs.declared.given.PropertyCall.TheVariants as calls;
 ghost use Rattle.cm_types.specs.Properties.{kept_values, is_set};
-ghost use Rattle.cm_call.specs.declared.question.PropertyFilter.TheVariants as filters;
-ghost use Rattle.cm_call.specs.declared.reply.Reply.TheVariants as replies;
 ghost use Rattle.cm_show.specs.Addressed.{addressed};
-ghost use Rattle.cm_show.specs.Shown.{shown_object};
-ghost use Rattle.cmis_spec.specs.Repository.{new_number, object_at};
+ghost use Rattle.cmis_spec.specs.Repository.{new_number};
 ghost use Rattle.cmis_spec.specs.Values.{is_apart, kept_beside};
 ghost use Rattle.cmis_spec.specs.Well.{IsWellFormed};
 ghost use Rattle.wr_object.specs.CreateFolder.{cost_create_folder, refusal_create_folder, new_folder, after_create_folder, acknowledgement_create_folder};
@@ -17,6 +13,9 @@ ghost use Rattle.wr_object.specs.Parts.{wanted_in, judge_found, refusal_in_parts
 use crate::folder_rules::{judge_kinds, judge_name, judge_place, judge_values};
 use crate::making::made_in;
 use crate::wanted::{Wanted, wanted_by};
+use call_parts::replies::ObjectReply;
+use call_parts::weight::weight_of_create_folder;
+use call_parts::writes::CreateFolder;
 use cm_base::cause::Cause;
 use cm_base::copies::Copies;
 use cm_base::fail::Fail;
@@ -25,19 +24,15 @@ use cm_base::number::{Moment, Oid};
 use cm_base::object::Object;
 use cm_base::text::Text;
 use cm_base::value::{Slot, Values};
-use cm_call::question::PropertyFilter;
-use cm_call::reply::{ObjectReply, Reply};
-use cm_call::weight::weight_of_create_folder;
-use cm_call::write::CreateFolder;
 use cm_rules::kept::is_set;
 use cm_show::address::addressed;
-use cm_show::shown::shown_object;
 use cm_state::state::State;
 use cm_types::definition::TypeDef;
 use std::alloc::{AllocError, Global};
 use wr_rules::costs::with_defaults;
 use wr_rules::entries::new_aces;
 use wr_rules::kinds::judge_types;
+use wr_rules::made::with_reply;
 use wr_rules::policies::{judge_read, policies_in};
 use wr_rules::storage::judge_storage;
 
@@ -63,7 +58,9 @@ fn judge_found(
     parent: &Object,
     kind: &TypeDef,
 ) -> Result<Values, Fail>
-    ensures { Leaves result (judge_found state.now user.now call.now wanted.now parent.now kind.now) (kept_values calls.Create wanted.now.defs [] call.now.properties) }
+    ensures { Leaves result
+        (judge_found state.now user.now call.now wanted.now parent.now kind.now)
+        (kept_values calls.Create wanted.now.defs [] call.now.properties) }
 {
     judge_kinds(
         alloc,
@@ -90,7 +87,10 @@ fn judge_parts(
     call: &CreateFolder,
     wanted: &Wanted,
 ) -> Result<(Oid, Values), Fail>
-    ensures { Writes result (refusal_in_parts state.now user.now cost call.now wanted.now) (parent_of state.now user.now call.now) (kept_values calls.Create wanted.now.defs [] call.now.properties) }
+    ensures { Writes result
+        (refusal_in_parts state.now user.now cost call.now wanted.now)
+        (parent_of state.now user.now call.now)
+        (kept_values calls.Create wanted.now.defs [] call.now.properties) }
 {
     judge_storage(state, cost)?;
     let parent = addressed(state, user, &call.place).ok_or(Cause::NotFound)?;
@@ -111,7 +111,10 @@ fn judge(
     wanted: &Wanted,
 ) -> Result<(Oid, Values), Fail>
     requires { wanted.now ≡ wanted_in state.now.types call.now.properties }
-    ensures { Writes result (refusal_create_folder state.now user.now moment cost call.now) (parent_of state.now user.now call.now) (kept_values calls.Create wanted.now.defs [] call.now.properties) }
+    ensures { Writes result
+        (refusal_create_folder state.now user.now moment cost call.now)
+        (parent_of state.now user.now call.now)
+        (kept_values calls.Create wanted.now.defs [] call.now.properties) }
 {
     let _ = moment;
     judge_parts(alloc, state, user, cost, call, wanted)
@@ -154,7 +157,19 @@ fn new_folder(
     values: Values,
 ) -> Result<Object, AllocError>
     requires room { state.now.step + 1 < 2 ^ 64 }
-    ensures { IfOk result (λ x. x ≡ record { id = new_number state.now; kind = wanted.kind; name = Some wanted.name; secondary = wanted.secondary; values = kept_beside values; maker = user.now; made = moment; changer = user.now; changed = moment; token = state.now.step + 1; series = None }) }
+    ensures { IfOk result (λ x. x ≡ record {
+      id = new_number state.now;
+      kind = wanted.kind;
+      name = Some wanted.name;
+      secondary = wanted.secondary;
+      values = kept_beside values;
+      maker = user.now;
+      made = moment;
+      changer = user.now;
+      changed = moment;
+      token = state.now.step + 1;
+      series = None;
+    }) }
 {
     Ok(Object {
         id: Oid(state.next_number()),
@@ -194,41 +209,6 @@ fn with_folder(
     Ok(draft.seal())
 }
 
-// The reply that shows an object which was just made.
-fn acknowledged(
-    alloc: Global,
-    made: &State,
-    user: &Text,
-    succinct: bool,
-    number: Oid,
-) -> Result<Reply, AllocError>
-    requires there { is_some (object_at made.now number) ≡ true }
-    ensures { IfOk result (λ a. (x : Object) → object_at made.now number ≡ Some x → a ≡ replies.Object (record { object = shown_object made.now user.now filters.All succinct x; created = true })) }
-{
-    let x = made.object(number).unwrap();
-    let object = shown_object(alloc, made, user, &PropertyFilter::All, succinct, x)?;
-    Ok(Reply::Object(ObjectReply {
-        object,
-        created: true,
-    }))
-}
-
-// The state, with the reply that shows what was just made in it.
-fn with_reply(
-    alloc: Global,
-    made: State,
-    user: &Text,
-    succinct: bool,
-    number: Oid,
-) -> Result<(State, Reply), AllocError>
-    requires there { is_some (object_at made number) ≡ true }
-    ensures same { IfOk result (λ a. a.0 ≡ made) }
-    ensures shown { IfOk result (λ a. (x : Object) → object_at made number ≡ Some x → a.1 ≡ replies.Object (record { object = shown_object made user.now filters.All succinct x; created = true })) }
-{
-    let reply = acknowledged(alloc, &made, user, succinct, number)?;
-    Ok((made, reply))
-}
-
 /// Makes a folder. The cost is the weight of the call and the default values that the folder takes.
 ///
 /// The answer is the first cause that refuses the call, or the repository after it and the new folder as the caller sees it there.
@@ -238,8 +218,11 @@ pub fn create_folder(
     user: &Text,
     moment: Moment,
     call: &CreateFolder,
-) -> Result<(State, Reply), Fail>
-    ensures written { Writes result (refusal_create_folder state.now user.now moment (cost_create_folder state.now call.now) call.now) (after_create_folder state.now user.now moment (cost_create_folder state.now call.now) call.now) (acknowledgement_create_folder state.now user.now moment (cost_create_folder state.now call.now) call.now) }
+) -> Result<(State, ObjectReply), Fail>
+    ensures written { Writes result
+        (refusal_create_folder state.now user.now moment (cost_create_folder state.now call.now) call.now)
+        (after_create_folder state.now user.now moment (cost_create_folder state.now call.now) call.now)
+        (acknowledgement_create_folder state.now user.now moment (cost_create_folder state.now call.now) call.now) }
     ensures well { IfOk result (λ x. IsWellFormed x.0) }
 {
     let _step = state.step();

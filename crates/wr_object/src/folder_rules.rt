@@ -10,6 +10,7 @@ ghost use Rattle.wr_rules.specs.Rules.{has_other_policy, has_other_secondary, ha
 ghost use Rattle.wr_object.specs.CreateFolder.{is_uncontrollable};
 ghost use Rattle.wr_object.specs.Parts.{judge_kinds, judge_place, judge_name};
 
+use call_parts::writes::CreateFolder;
 use cm_base::access::Level;
 use cm_base::cause::Cause;
 use cm_base::fail::Fail;
@@ -19,7 +20,6 @@ use cm_base::number::Oid;
 use cm_base::object::Object;
 use cm_base::text::Text;
 use cm_base::value::Values;
-use cm_call::write::CreateFolder;
 use cm_rules::check::check_new;
 use cm_see::level::lacks;
 use cm_see::tree::depth_of;
@@ -54,7 +54,8 @@ fn is_wrong_type(
     kind: &TypeDef,
     secondary: &[Text],
 ) -> Result<bool, AllocError>
-    ensures { IfOk result (λ b. b ≡ (not (same_base bases.Folder kind.now.base) || has_other_secondary types.now secondary.now)) }
+    ensures { IfOk result (λ b. b ≡
+        (not (same_base bases.Folder kind.now.base) || has_other_secondary types.now secondary.now)) }
 {
     if !is_folder_type(kind) {
         return Ok(true);
@@ -150,7 +151,9 @@ pub(crate) fn judge_place(
 
 /// The values of the new object, or the first fault of the given properties.
 pub(crate) fn judge_values(alloc: Global, defs: &PropDefs, given: &Givens) -> Result<Values, Fail>
-    ensures { Leaves result (judge_properties calls.Create defs.now [] given.now) (kept_values calls.Create defs.now [] given.now) }
+    ensures { Leaves result
+        (judge_properties calls.Create defs.now [] given.now)
+        (kept_values calls.Create defs.now [] given.now) }
 {
     check_new(alloc, defs, &Items::new(alloc), given)
 }

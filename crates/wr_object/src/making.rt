@@ -28,7 +28,9 @@ pub(crate) fn made_in(
     requires next { state.now.next + 1 < 2 ^ 64 }
     requires step { state.now.step + 1 < 2 ^ 64 }
     requires cost { state.now.cost + cost < 2 ^ 64 }
-    ensures { IfOk result (λ d. d ≡ noted (stepped (with_pair (with_object state.now object aces policies.now) folder object.id) cost) Created object.id moment []) }
+    ensures { IfOk result (λ d. d ≡
+        noted (stepped (with_pair (with_object state.now object aces policies.now) folder object.id) cost)
+        Created object.id moment []) }
 {
     let number = object.id;
     let _step = state.step();

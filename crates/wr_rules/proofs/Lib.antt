@@ -6,3 +6,4 @@ pub mod Found
 pub mod Known
 pub mod Named
 pub mod Room
+pub mod TextCosts

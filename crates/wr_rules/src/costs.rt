@@ -1,7 +1,7 @@
 //! What the default values cost that a new object takes.
 ghost use Rattle.std.specs.Prelude.{◌≡◌, ◌+◌, [], ◌∷◌, map, sum, is_none};
 ghost use Rattle.cm_types.specs.Properties.{given_of};
-ghost use Rattle.cm_call.specs.Weight.{bounded};
+ghost use Rattle.call_parts.specs.Weight.{bounded};
 ghost use Rattle.wr_rules.specs.Rules.{scalar_cost, value_cost, defaults_cost};
 
 use cm_base::value::{Scalar, Value};
@@ -28,7 +28,7 @@ fn with_scalars(so_far: u64, scalars: &[Scalar]) -> u64
     total
 }
 
-fn with_value(so_far: u64, value: &Value) -> u64
+pub(crate) fn with_value(so_far: u64, value: &Value) -> u64
     ensures { result ≡ bounded (so_far + value_cost value.now) }
 {
     match value {

@@ -3,10 +3,12 @@
 
 ghost use Rattle.std.specs.Prelude.{◌≡◌};
 
+pub mod copied;
 pub mod costs;
 pub mod entries;
 pub mod firsts;
 pub mod kinds;
+pub mod made;
 pub mod policies;
 pub mod properties;
 pub mod storage;

@@ -1,22 +1,24 @@
 -- What checkOut makes: the working copy in its series is the repository after the call, and is well formed.
-use Rattle.std.specs.Prelude.{◌≡◌, ℕ, ◌+◌, ◌<◌, ◌^◌, List, [], Option, Some, None, IfSome, Ok, is_some, true, option_map, unwrap_or}
+use Rattle.std.specs.Prelude.{◌≡◌, ℕ, ◌+◌, ◌<◌, ◌^◌, List, [], Option, Some, None, IfSome, Ok, is_some, true, find, ◌∷◌, ◌++◌, false, All, option_map, unwrap_or}
 use Rattle.std.proofs.Common.{refl, sym, ap, subst, ◌∙◌, arith}
+use Rattle.std.proofs.lemmas.List.Elements.{All-weaker}
 use Rattle.cm_base.specs.declared.number.Oid.{Oid}
 use Rattle.cm_base.specs.declared.number.Moment.{Moment}
 use Rattle.cm_base.specs.declared.object.Object.{Object}
 use Rattle.cm_base.specs.declared.content.Content.{Content}
 use Rattle.cm_base.specs.declared.series.Series.{Series}
 use Rattle.cm_base.specs.declared.log.ChangeKind.TheVariants as changes
-use Rattle.cm_call.specs.declared.versions.CheckOut.{CheckOut}
+use Rattle.call_parts.specs.declared.versions.CheckOut.{CheckOut}
 use Rattle.cm_show.specs.Addressed.{addressed}
-use Rattle.cmis_spec.specs.Repository.{Repository, most_steps, most_cost, object_at, series_at, series_of, entry_of, new_number}
+use Rattle.cmis_spec.specs.Repository.{Repository, same, root_folder, most_steps, most_cost, object_at, series_at, series_of, entry_of, new_number}
 use Rattle.cmis_spec.specs.Changes.{stepped, noted}
 use Rattle.cmis_spec.specs.Documents.{with_copy, with_contents}
-use Rattle.cmis_spec.specs.Well.{IsWellFormed}
-use Rattle.cmis_laws.proofs.Lists.{some_eq}
+use Rattle.cmis_spec.specs.Well.{HasNumbers, IsWellFormed}
+use Rattle.cmis_laws.proofs.Lists.{some_eq, find_last, same_refl}
+use Rattle.cmis_laws.proofs.Entries.{is_other}
 use Rattle.wr_rules.specs.Documents.{content_copied}
 use Rattle.wr_rules.proofs.Found.{addressed_there}
-use Rattle.wr_version.specs.CheckOut.{refusal_check_out, new_copy, new_content, after_check_out_of, after_check_out}
+use Rattle.wr_version.specs.CheckOut.{refusal_check_out, new_copy, new_content, after_check_out_of, after_check_out, copy_made}
 use Rattle.wr_version.proofs.CheckOut.{passes, keeps_check_out, IsIn, series_is}
 
 -- one more step and its cost stay numbers of 64 bits
@@ -56,3 +58,25 @@ pub copied_well : (r : Repository) (u : List ℕ) (m : Moment) (cost : ℕ) (cal
     → copy ≡ new_copy r u m x → o ≡ new_content r x
     → IsWellFormed (noted (stepped (with_contents (with_copy r s.id copy u) o) cost) changes.Created copy.id m [])
 copied_well r u m cost call x copy s o w h i at found e f = subst IsWellFormed (sym (copied_is r u m cost call x copy s o i at found e f)) (keeps_check_out r u m cost call w h)
+
+-- a content changes no object
+same_objects : (r : Repository) (o : Option Content) → (with_contents r o).objects ≡ r.objects
+same_objects r None = refl
+same_objects r (Some c) = refl
+
+-- the working copy is found under its number
+copy_is_there : (r : Repository) (u : List ℕ) (m : Moment) (cost : ℕ) (x : Object) → HasNumbers r → object_at (after_check_out_of r u m cost x) (new_number r) ≡ Some (new_copy r u m x)
+copy_is_there r u m cost x w =
+    ap (λ ys. find (λ y. same y.id (new_number r)) ys) (same_objects (with_copy r (entry_of x) (new_copy r u m x) u) (new_content r x))
+    ∙ find_last (λ y. same y.id (new_number r)) r.objects (new_copy r u m x)
+    (All-weaker (λ y. y.id.0 < r.next) (λ y. same y.id (new_number r) ≡ false) (λ y lt. is_other y.id (new_number r) lt) r.objects w.1)
+    (same_refl (new_number r))
+
+pub copy_found : (r : Repository) (u : List ℕ) (m : Moment) (cost : ℕ) (call : CheckOut) (made : Repository) (n : ℕ) → HasNumbers r → refusal_check_out r u cost call ≡ Ok tt
+    → made ≡ after_check_out r u m cost call → n ≡ r.next → object_at made (record { 0 = n }) ≡ Some (copy_made r u m call)
+copy_found r u m cost call made n w h e f =
+    let p = passes r u cost call h in
+    let after : after_check_out r u m cost call ≡ after_check_out_of r u m cost p.x = ap (λ o. unwrap_or (option_map (after_check_out_of r u m cost) o) r) p.at in
+    let copy : copy_made r u m call ≡ new_copy r u m p.x = ap (λ o. new_copy r u m (unwrap_or o (root_folder u m r.step))) p.at in
+    let all = e ∙ after in
+    (λ i. object_at (all i) (record { 0 = f i })) ∙ (copy_is_there r u m cost p.x w ∙ ap Some (sym copy))

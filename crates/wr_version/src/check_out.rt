@@ -1,16 +1,21 @@
 //! checkOut (CMIS 1.1, section 2.2.7.1).
 ghost use Rattle.std.specs.Prelude.{◌≡◌, ◌+◌, ◌<◌, ◌^◌, not, Ok, Some, IfOk, filter};
-ghost use Rattle.cm_base.specs.Judged.{Leaves};
+ghost use Rattle.cm_base.specs.Judged.{Leaves, Writes};
 ghost use Rattle.cm_base.specs.declared.value.Slot.{Slot};
-ghost use Rattle.cmis_spec.specs.Repository.{object_at, name_of, series_of};
+ghost use Rattle.cmis_spec.specs.Repository.{series_of};
 ghost use Rattle.cmis_spec.specs.Documents.{is_comment, without_comment};
 ghost use Rattle.cmis_spec.specs.Well.{IsWellFormed};
+ghost use Rattle.call_parts.specs.Weight.{bounded};
 ghost use Rattle.cm_show.specs.Addressed.{addressed};
-ghost use Rattle.wr_rules.specs.Documents.{is_versionable, is_checked_out, is_latest_version};
+ghost use Rattle.wr_rules.specs.Documents.{is_versionable, is_checked_out};
+ghost use Rattle.cm_show.specs.Shown.{is_latest_version};
 ghost use Rattle.wr_version.specs.Found.{Finds};
-ghost use Rattle.wr_version.specs.CheckOut.{judge_latest, refusal_check_out, new_copy, new_content, after_check_out};
+ghost use Rattle.wr_version.specs.CheckOut.{copies_cost, cost_check_out, judge_latest, refusal_check_out, new_copy, new_content, after_check_out, acknowledgement_check_out};
 
 use crate::copying::{checked_out, copied_in};
+use call_parts::replies::ObjectReply;
+use call_parts::versions::CheckOut;
+use call_parts::weight::weight_of_check_out;
 use cm_base::access::Level;
 use cm_base::cause::Cause;
 use cm_base::content::Content;
@@ -22,13 +27,14 @@ use cm_base::object::Object;
 use cm_base::series::Series;
 use cm_base::text::Text;
 use cm_base::value::{Slot, Values};
-use cm_call::versions::CheckOut;
 use cm_see::level::lacks;
 use cm_show::address::addressed;
-use cm_state::look::{entry_of, is_latest};
+use cm_state::look::is_latest;
 use cm_state::state::State;
 use cm_types::definition::BaseType;
 use std::alloc::{AllocError, Global};
+use wr_rules::copied::{is_comment, name_of, with_copied};
+use wr_rules::made::with_reply;
 use wr_rules::storage::judge_storage;
 
 fn is_versionable(state: &State, x: &Object) -> bool
@@ -80,7 +86,9 @@ fn judge_latest(state: &State, x: &Object) -> Result<(), Cause>
 // The document that is addressed, or the cause of the refusal.
 #[tactic(auto, using(cm_types::proofs::Exits::fails_then, cm_types::proofs::Exits::fails_bind))]
 fn judge<'a>(state: &'a State, user: &Text, cost: u64, call: &CheckOut) -> Result<&'a Object, Cause>
-    ensures { Finds (λ x. x.now) result (refusal_check_out state.now user.now cost call.now) (addressed state.now user.now call.now.place) }
+    ensures { Finds (λ x. x.now) result
+        (refusal_check_out state.now user.now cost call.now)
+        (addressed state.now user.now call.now.place) }
 {
     judge_storage(state, cost)?;
     let x = match addressed(state, user, &call.place) {
@@ -92,12 +100,6 @@ fn judge<'a>(state: &'a State, user: &Text, cost: u64, call: &CheckOut) -> Resul
     }
     judge_latest(state, x)?;
     Ok(x)
-}
-
-fn is_comment(slot: &Slot) -> bool
-    ensures { result ≡ is_comment slot.now }
-{
-    slot.id.is_str("cmis:checkinComment")
 }
 
 fn only_others(slots: Vec<Slot>) -> Vec<Slot>
@@ -116,15 +118,6 @@ fn without_comment(alloc: Global, values: &Values) -> Result<Values, AllocError>
     Ok(Items::from_vec(only_others(all.into_vec())))
 }
 
-fn name_of(alloc: Global, state: &State, x: &Object) -> Result<Text, AllocError>
-    ensures { IfOk result (λ name. name ≡ name_of state.now x.now) }
-{
-    match &x.name {
-        Some(name) => name.copied(alloc),
-        None => Text::from_str(alloc, state.entry_text(entry_of(x))),
-    }
-}
-
 // The working copy of a document.
 fn new_copy(
     alloc: Global,
@@ -136,7 +129,7 @@ fn new_copy(
     requires room { state.now.step + 1 < 2 ^ 64 }
     ensures { IfOk result (λ c. c ≡ new_copy state.now user.now moment x.now) }
 {
-    let name = name_of(alloc, state, x)?;
+    let name = Text::from_str(alloc, name_of(state, x))?;
     let values = without_comment(alloc, &x.values)?;
     Ok(Object {
         id: Oid(state.next_number()),
@@ -195,8 +188,8 @@ fn with_copy(
     Ok(draft.seal())
 }
 
-/// Checks a document out, at this cost: the state with its working copy, or the first cause that refuses the call.
-pub fn check_out(
+// The state with the working copy, at this cost, or the first cause that refuses the call.
+fn copied_out(
     alloc: Global,
     state: &State,
     user: &Text,
@@ -204,13 +197,59 @@ pub fn check_out(
     cost: u64,
     call: &CheckOut,
 ) -> Result<State, Fail>
-    ensures written { Leaves result (refusal_check_out state.now user.now cost call.now) (after_check_out state.now user.now moment cost call.now) }
-    ensures well { IfOk result (λ s. IsWellFormed s) }
+    ensures { Leaves result
+        (refusal_check_out state.now user.now cost call.now)
+        (after_check_out state.now user.now moment cost call.now) }
 {
     let _now = state.step();
     let x = judge(state, user, cost, call)?;
     let series = state.series_of(x).unwrap();
     let made = with_copy(alloc, state, user, moment, cost, call, x, series)?;
-    let _step = made.step();
     Ok(made)
+}
+
+// The scalars of what is copied, if it is a document.
+fn with_copies(so_far: u64, state: &State, x: &Object) -> u64
+    ensures { result ≡ bounded (so_far + copies_cost state.now x.now) }
+{
+    if state.is_a(BaseType::Document, x) {
+        with_copied(so_far, state, x)
+    } else {
+        so_far
+    }
+}
+
+fn cost_of(state: &State, user: &Text, call: &CheckOut) -> u64
+    ensures { result ≡ cost_check_out state.now user.now call.now }
+{
+    let weight = weight_of_check_out(call);
+    match addressed(state, user, &call.place) {
+        Some(x) => with_copies(weight, state, x),
+        None => weight,
+    }
+}
+
+/// Checks a document out. The cost is the weight of the call and the scalars that the working copy takes over.
+///
+/// The answer is the first cause that refuses the call, or the repository after it and the working copy as the caller sees it there.
+pub fn check_out(
+    alloc: Global,
+    state: &State,
+    user: &Text,
+    moment: Moment,
+    call: &CheckOut,
+) -> Result<(State, ObjectReply), Fail>
+    ensures written { Writes result
+        (refusal_check_out state.now user.now (cost_check_out state.now user.now call.now) call.now)
+        (after_check_out state.now user.now moment (cost_check_out state.now user.now call.now) call.now)
+        (acknowledgement_check_out state.now user.now moment (cost_check_out state.now user.now call.now) call.now) }
+    ensures well { IfOk result (λ x. IsWellFormed x.0) }
+{
+    let _step = state.step();
+    let cost = cost_of(state, user, call);
+    let made = copied_out(alloc, state, user, moment, cost, call)?;
+    let number = Oid(state.next_number());
+    let (next, reply) = with_reply(alloc, made, user, call.succinct, number)?;
+    let _next_step = next.step();
+    Ok((next, reply))
 }

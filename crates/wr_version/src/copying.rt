@@ -67,7 +67,9 @@ pub(crate) fn copied_in(
     requires next { state.now.next + 1 < 2 ^ 64 }
     requires step { state.now.step + 1 < 2 ^ 64 }
     requires cost { state.now.cost + cost < 2 ^ 64 }
-    ensures { IfOk result (λ d. d ≡ noted (stepped (with_contents (edited_series (with_member state.now copy) series) content) cost) Created copy.id moment []) }
+    ensures { IfOk result (λ d. d ≡
+        noted (stepped (with_contents (edited_series (with_member state.now copy) series) content) cost)
+        Created copy.id moment []) }
 {
     let number = copy.id;
     let _step = state.step();
