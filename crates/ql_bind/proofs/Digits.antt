@@ -17,13 +17,13 @@ own : IsNumeralModel (λ ds. list_all is_ascii_digit ds ≡ true) (digits_value 
 own = numerals_by_value _ tells
 
 all_of : (w : List ℕ) → is_digits w ≡ true → list_all is_ascii_digit w ≡ true
-all_of [] h = cc h
+all_of [] h = cc
 all_of (d ∷ ds) h = h
 
 -- digits that state a number below 2^64 parse
 pub parses : {E : Type 0} (w : List ℕ) (r : Result ℕ E) → ParsesUnsigned 64 10 w r → is_digits w ≡ true → digits_value 10 w < 2 ^ 64 → r ≡ Ok (digits_value 10 w)
 parses [] r h plain small = cc plain
-parses (d ∷ ds) r h plain small = parse_gives own 64 (d ∷ ds) r h (search rules) plain small
+parses (d ∷ ds) r h plain small = parse_gives own 64 (d ∷ ds) r h plain (omega arith) small
 
 digits-ascii : (bs : List ℕ) → list_all is_ascii_digit bs ≡ true → IsAscii bs
 digits-ascii [] p i = grind (arith, common_steps)

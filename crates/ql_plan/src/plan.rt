@@ -20,6 +20,7 @@ use std::marker::Model;
 use std::sync::ledger::Ledger;
 
 /// A search: who asks, for what, and whether each version is a row.
+#[derive(Drop)]
 struct Search<'a> {
     user: &'a Text,
     bound: &'a Bound,

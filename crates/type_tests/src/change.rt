@@ -75,8 +75,7 @@ fn copied(alloc: Global, types: &Types) -> Result<Types, Fail> {
     Ok(copy)
 }
 
-/// The list after a change.
-pub fn changed(alloc: Global, types: &Types, word: &str, text: &str) -> Result<Types, Fail> {
+fn changed(alloc: Global, types: &Types, word: &str, text: &str) -> Result<Types, Fail> {
     match word {
         "base" => anew(alloc),
         "copy" => copied(alloc, types),
@@ -87,11 +86,18 @@ pub fn changed(alloc: Global, types: &Types, word: &str, text: &str) -> Result<T
     }
 }
 
-/// What came of a change.
-pub fn told(changed: &Result<Types, Fail>) -> &'static str {
-    match changed {
-        Ok(_) => "done",
-        Err(Fail::Refused(cause)) => cause.text(),
-        Err(Fail::Memory) => "memory is wanted",
+/// The list after a change, and what came of it.
+pub fn next(
+    alloc: Global,
+    types: Types,
+    word: &str,
+    text: &str,
+) -> Result<(Types, &'static str), AllocError> {
+    match changed(alloc, &types, word, text) {
+        Ok(more) => Ok((more, "done")),
+        Err(fail) => match fail {
+            Fail::Refused(cause) => Ok((types, cause.text())),
+            Fail::Memory => Err(AllocError),
+        },
     }
 }

@@ -22,11 +22,9 @@ fn main(rt: HostRuntime) -> io::Result<()> {
         let line = line?;
         let (word, text) = parts(line.as_str());
         if change::is_change(word) {
-            let changed = change::changed(alloc, &types, word, text);
-            println!(rt; "{line}: {}", change::told(&changed))?;
-            if let Ok(more) = changed {
-                types = more;
-            }
+            let (next, told) = change::next(alloc, types, word, text)?;
+            types = next;
+            println!(rt; "{line}: {told}")?;
         } else {
             let said = answer::answer(alloc, &types, word, text)?;
             println!(rt; "{line}: {said}")?;
