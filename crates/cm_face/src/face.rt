@@ -35,12 +35,7 @@ fn shown_step(
 
 // What is sent of a page of children, whose text is written from the state.
 #[tactic(auto, using(crate::proofs::Sent::children_sent, crate::proofs::Sent::children_fail))]
-fn sent_children(
-    alloc: Global,
-    state: &State,
-    user: &Text,
-    q: &ReadChildren,
-) -> Result<Shown, Fail>
+fn sent_children(alloc: Global, state: &State, user: &Text, q: &ReadChildren) -> Result<Shown, Fail>
     ensures { Meets (λ s. s) result (sent_children state.now user.now q.now) }
 {
     let text = children_text(alloc, state, user, q)?;

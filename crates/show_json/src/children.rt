@@ -71,11 +71,7 @@ fn lay_out<'a>(ask: &Listing<'a>, x: &'a Object) -> Result<Laid<'a>, AllocError>
 }
 
 // The columns of x, taken from the object before where they are the same.
-fn next_laid<'a>(
-    ask: &Listing<'a>,
-    before: Laid<'a>,
-    x: &'a Object,
-) -> Result<Laid<'a>, AllocError>
+fn next_laid<'a>(ask: &Listing<'a>, before: Laid<'a>, x: &'a Object) -> Result<Laid<'a>, AllocError>
     requires own { before.columns.items ≡ columns_in ask.now before.of.now }
     requires own_base { before.base ≡ base_of ask.now.repository.types before.of.now.kind }
     ensures own { IfOk result (λ l. l.columns.items ≡ columns_in ask.now l.of.now) }

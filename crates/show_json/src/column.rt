@@ -7,8 +7,8 @@ ghost use Rattle.map_keys.specs.Parts.{pointee};
 ghost use Rattle.show_json.specs.Ordered.{in_key_order, placed};
 ghost use Rattle.show_json.specs.Columns.{columns_of, id_of, setting_of};
 
-use cm_base::object::Object;
 use call_parts::readings::PropertyFilter;
+use cm_base::object::Object;
 use cm_show::shown::shown_defs;
 use cm_show::system::{SystemProperty, find_system};
 use cm_state::state::State;

@@ -4,9 +4,9 @@ ghost use Rattle.cm_types.specs.Types.{base_of};
 ghost use Rattle.show_json.specs.Columns.{listing, sight};
 
 use crate::sight::Sight;
+use call_parts::readings::ReadChildren;
 use cm_base::object::Object;
 use cm_base::text::Text;
-use call_parts::readings::ReadChildren;
 use cm_state::state::State;
 use cm_types::definition::BaseType;
 use std::alloc::Global;

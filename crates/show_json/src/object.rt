@@ -10,11 +10,7 @@ use crate::value::{write_full, write_slot};
 use json_text::write::Writer;
 use std::alloc::AllocError;
 
-fn write_slots(
-    out: &mut Writer,
-    sight: &Sight,
-    columns: &[Column],
-) -> Result<(), AllocError>
+fn write_slots(out: &mut Writer, sight: &Sight, columns: &[Column]) -> Result<(), AllocError>
     ensures { OnOk result (out.new ≡ out.old ++ fields_tokens (map (slot_field sight.now) columns.now)) }
 {
     for column in columns {
@@ -23,11 +19,7 @@ fn write_slots(
     Ok(())
 }
 
-fn write_fulls(
-    out: &mut Writer,
-    sight: &Sight,
-    columns: &[Column],
-) -> Result<(), AllocError>
+fn write_fulls(out: &mut Writer, sight: &Sight, columns: &[Column]) -> Result<(), AllocError>
     ensures { OnOk result (out.new ≡ out.old ++ fields_tokens (map (full_field sight.now) columns.now)) }
 {
     for column in columns {
@@ -51,11 +43,7 @@ fn write_succinct_object(
 }
 
 #[tactic(auto, using(json_text::specs::TokenLaws::object_written))]
-fn write_full_object(
-    out: &mut Writer,
-    sight: &Sight,
-    columns: &[Column],
-) -> Result<(), AllocError>
+fn write_full_object(out: &mut Writer, sight: &Sight, columns: &[Column]) -> Result<(), AllocError>
     ensures { OnOk result (out.new ≡ out.old ++ tokens_of (object (listed_members (map (full_field sight.now) columns.now)))) }
 {
     out.begin_object()?;
@@ -78,11 +66,7 @@ fn write_succinct_member(
 }
 
 #[tactic(auto, using(crate::specs::WrittenLaws::full_written))]
-fn write_full_member(
-    out: &mut Writer,
-    sight: &Sight,
-    columns: &[Column],
-) -> Result<(), AllocError>
+fn write_full_member(out: &mut Writer, sight: &Sight, columns: &[Column]) -> Result<(), AllocError>
     ensures { OnOk result (out.new ≡ out.old ++ field_tokens (properties_by sight.now false columns.now)) }
 {
     out.key("properties")?;

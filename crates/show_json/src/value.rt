@@ -54,13 +54,16 @@ fn path<'a>(sight: &Sight<'a>) -> Result<PropertyValue<'a>, AllocError>
     Ok(PropertyValue::Made(Value::One(Scalar::Words(path))))
 }
 
-fn other<'a>(
-    sight: &Sight<'a>,
-    property: SystemProperty,
-) -> Result<PropertyValue<'a>, AllocError>
+fn other<'a>(sight: &Sight<'a>, property: SystemProperty) -> Result<PropertyValue<'a>, AllocError>
     ensures { IfOk result (λ v. value_seen v ≡ system_value sight.now.repository sight.now.user sight.now.object property) }
 {
-    let value = system_seen(sight.alloc(), sight.state(), sight.user(), sight.object(), property)?;
+    let value = system_seen(
+        sight.alloc(),
+        sight.state(),
+        sight.user(),
+        sight.object(),
+        property,
+    )?;
     Ok(value)
 }
 
@@ -86,10 +89,7 @@ fn system_of<'a>(
 }
 
 #[tactic(auto, using(crate::specs::ColumnLaws::value_by_setting))]
-fn seen<'a>(
-    sight: &Sight<'a>,
-    column: &Column,
-) -> Result<PropertyValue<'a>, AllocError>
+fn seen<'a>(sight: &Sight<'a>, column: &Column) -> Result<PropertyValue<'a>, AllocError>
     ensures { IfOk result (λ v. value_seen v ≡ value_shown sight.now.repository sight.now.user sight.now.object column.now.id) }
 {
     match column.property() {
@@ -188,11 +188,7 @@ fn write_described(out: &mut Writer, def: &PropDef, value: &PropertyValue) -> Re
 }
 
 /// Writes a property and its value.
-pub(crate) fn write_slot(
-    out: &mut Writer,
-    sight: &Sight,
-    column: &Column,
-) -> Result<(), AllocError>
+pub(crate) fn write_slot(out: &mut Writer, sight: &Sight, column: &Column) -> Result<(), AllocError>
     ensures { OnOk result (out.new ≡ out.old ++ field_tokens (slot_field sight.now column.now)) }
 {
     let value = seen(sight, column)?;
@@ -202,11 +198,7 @@ pub(crate) fn write_slot(
 }
 
 /// Writes a property in full.
-pub(crate) fn write_full(
-    out: &mut Writer,
-    sight: &Sight,
-    column: &Column,
-) -> Result<(), AllocError>
+pub(crate) fn write_full(out: &mut Writer, sight: &Sight, column: &Column) -> Result<(), AllocError>
     ensures { OnOk result (out.new ≡ out.old ++ field_tokens (full_field sight.now column.now)) }
 {
     let value = seen(sight, column)?;
