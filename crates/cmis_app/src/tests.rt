@@ -99,7 +99,14 @@ fn served<R: Threads + Wait + Sync>(
     let mut output = MemSink::new(alloc, &[])?;
     let mut clock = FixedClock::new(0);
     let ran = run(
-        rt, alloc, &words, &mut input, &mut output, &mut host, &mut clock, &OpenGate,
+        rt,
+        alloc,
+        &words,
+        &mut input,
+        &mut output,
+        &mut host,
+        &mut clock,
+        &OpenGate,
     );
     Ok(ran.status == status && output.held() == line)
 }

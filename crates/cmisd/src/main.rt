@@ -5,10 +5,9 @@ use cmis_app::{refuse, run};
 use outside::OpenGate;
 use real_edge::{StdSink, StdSource, SystemClock, TcpHost};
 use std::alloc::{AllocError, Global};
-use std::env;
-use std::io;
 use std::io::ErrorKind;
 use std::process::ExitCode;
+use std::{env, io};
 
 /// Why there are no words to run.
 enum Unread {

@@ -336,8 +336,8 @@ where
         thread::scope_env(),
         rt,
         move |scope| -> Back<'_, '_, M, H, C>
-                requires workers { workers ≤ most_workers }
-    requires ready { IsReady (terms M.next M.answer M.number M.call M.user M.least M.closes H.Link.Source.told H.Link.Sink.told users.now (H.left host.now)) lock.now hall.now.pass hall.now.ended.items (vec_len hall.now.running) }
+            requires workers { workers ≤ most_workers }
+            requires ready { IsReady (terms M.next M.answer M.number M.call M.user M.least M.closes H.Link.Source.told H.Link.Sink.told users.now (H.left host.now)) lock.now hall.now.pass hall.now.ended.items (vec_len hall.now.running) }
             ensures same_host { result.host.ghost_name ≡ host.entry.ghost_name }
             ensures same_hall { result.hall.ghost_name ≡ hall.entry.ghost_name }
             ensures over { IsOverAll (terms M.next M.answer M.number M.call M.user M.least M.closes H.Link.Source.told H.Link.Sink.told users.entry.now (H.left host.entry.now)) lock.entry.now result.hall.now.pass result.hall.now.ended.items (H.told host.entry.now) (H.told result.host.now) (H.left result.host.now) result.end }

@@ -1,9 +1,9 @@
 //! One test for each: what a reader, a writer and a clock do, seen through the traits; and the system's own once.
 use crate::{LATEST_MS, StdSink, StdSource, SystemClock, TcpHost, TcpLink};
 use outside::{Clock, Failed, Host, Link, Sink, Source};
-use std::os::fd::{AsRawFd, RawFd};
 use std::io::{self, Error, ErrorKind, Read, Write};
 use std::net::{IpAddr, Ipv4Addr, Net, OpenListener, OpenStream, SocketAddr};
+use std::os::fd::{AsRawFd, RawFd};
 use std::rt::Clock as System;
 use std::test::Fail;
 use std::time::Duration;
