@@ -28,9 +28,13 @@ struct Search<'a> {
 }
 
 impl<'a> Model for Search<'a> {
+    ghost use Rattle.std.specs.Coded.{codes};
+    ghost use Rattle.ql_bind.specs.contracts.bound.Condition as condition;
     ghost use Rattle.ql_plan.specs.Planned.{Search as Sought};
 
     ghost Value = { Sought };
+
+    ghost coded = { Prim.hlevel (codes, condition.the_row.coded) };
 
     ghost view = { λ s. record { user = s.user.now; bound = s.bound.now; versions = s.versions } };
 }
