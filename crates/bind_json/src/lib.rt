@@ -3,7 +3,6 @@
 
 ghost use Rattle.std.specs.Prelude.{◌≡◌};
 
-pub mod objects;
 pub mod replies;
 #[cfg(test)]
 mod tests;

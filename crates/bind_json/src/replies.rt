@@ -1,46 +1,18 @@
 //! Replies as JSON, and what is sent of them.
-ghost use Rattle.std.specs.Prelude.{◌≡◌, map, codes, IfOk};
+ghost use Rattle.std.specs.Prelude.{◌≡◌, codes, IfOk};
 ghost use Rattle.serde_json.specs.Written.{compact_text};
-ghost use Rattle.json_text.specs.Shown.{data_of, listed};
-ghost use Rattle.bind_json.specs.Replies.{child_data, children_data, reply_data, status_of_reply, shown_reply};
+ghost use Rattle.json_text.specs.Shown.{data_of};
+ghost use Rattle.bind_json.specs.Replies.{reply_data, status_of_reply, shown_json, shown_reply};
 
-use crate::objects::{alone, object_json};
 use bytes::Bytes;
 use cm_base::media::MediaType;
 use cm_base::shown::Shown;
 use cm_base::text::Text;
-use cm_call::reply::{ChildrenReply, Reply, ShownObject};
-use json_text::tree::{Elements, Fields, Json};
+use cm_call::reply::Reply;
+use json_text::tree::Json;
+use object_json::objects::object_json;
+use object_json::pages::children_json;
 use std::alloc::{AllocError, Global};
-
-fn child_json(alloc: Global, object: &ShownObject) -> Result<Json, AllocError>
-    ensures { IfOk result (λ j. data_of j ≡ child_data object.now) }
-{
-    let json = object_json(alloc, object)?;
-    alone(alloc, "object", json)
-}
-
-fn each_child(alloc: Global, objects: &[ShownObject]) -> Result<Elements, AllocError>
-    ensures { IfOk result (λ e. listed e ≡ map child_data objects.now) }
-{
-    let mut elements = Elements::new(alloc);
-    for object in objects {
-        elements.push(child_json(alloc, object)?)?;
-    }
-    Ok(elements)
-}
-
-#[tactic(auto, unfolding(crate::specs::Replies::children_data))]
-fn children_json(alloc: Global, reply: &ChildrenReply) -> Result<Json, AllocError>
-    ensures { IfOk result (λ j. data_of j ≡ children_data reply.now) }
-{
-    let objects = each_child(alloc, reply.objects.as_slice())?;
-    let mut fields = Fields::new(alloc);
-    fields.put(alloc, "objects", Json::array(objects))?;
-    fields.put(alloc, "hasMoreItems", Json::flag(reply.has_more_items))?;
-    fields.put(alloc, "numItems", Json::count(reply.num_items))?;
-    Ok(Json::object(fields))
-}
 
 fn reply_json(alloc: Global, reply: &Reply) -> Result<Json, AllocError>
     ensures { IfOk result (λ j. data_of j ≡ reply_data reply.now) }
@@ -79,15 +51,29 @@ fn body_of(alloc: Global, reply: &Reply) -> Result<Bytes, AllocError>
     Ok(body)
 }
 
+/// What is sent of a text of JSON that is made at this step, with this status.
+pub fn shown_json(
+    alloc: Global,
+    status: u16,
+    body: Bytes,
+    number: u64,
+) -> Result<Shown, AllocError>
+    ensures { IfOk result (λ s. s ≡ shown_json status body number) }
+{
+    Ok(Shown {
+        status,
+        kind: json_kind(alloc)?,
+        body,
+        number: Some(number),
+    })
+}
+
 /// What is sent of a reply that is made at this step: 201 where the call made the object, else 200; compact JSON with the names
 /// of each object in byte order.
 pub fn text_of(alloc: Global, reply: &Reply, number: u64) -> Result<Shown, AllocError>
     ensures { IfOk result (λ s. s ≡ shown_reply reply.now number) }
 {
-    Ok(Shown {
-        status: status_of_reply(reply),
-        kind: json_kind(alloc)?,
-        body: body_of(alloc, reply)?,
-        number: Some(number),
-    })
+    let body = body_of(alloc, reply)?;
+    let shown = shown_json(alloc, status_of_reply(reply), body, number)?;
+    Ok(shown)
 }

@@ -1,10 +1,11 @@
 //! Replies and the texts that clients read.
 use crate::replies::text_of;
+use call_parts::replies::{ChildrenReply, ObjectReply, Properties, ShownObject, ShownProperty};
 use cm_base::items::Items;
 use cm_base::shown::Shown;
 use cm_base::text::Text;
 use cm_base::value::{Scalar, Slot, Value};
-use cm_call::reply::{ChildrenReply, ObjectReply, Properties, Reply, ShownObject, ShownProperty};
+use cm_call::reply::Reply;
 use cm_types::property::{Cardinality, PropertyKind};
 use std::alloc::{AllocError, Global};
 

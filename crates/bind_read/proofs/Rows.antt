@@ -9,10 +9,10 @@ use Rattle.percent_encoding.specs.Percent.{percent_decode}
 use lib.Utf8.{encode}
 use Rattle.cm_base.specs.declared.argument.Argument.TheVariants as args
 use Rattle.cm_base.specs.declared.cause.Cause.TheVariants as causes
-use Rattle.cm_call.specs.declared.place.Place.TheVariants as places
+use Rattle.call_parts.specs.declared.place.Place.TheVariants as places
 use Rattle.cm_call.specs.declared.write.Write.TheVariants as writes
 use Rattle.cm_call.specs.declared.question.Question.TheVariants as questions
-use Rattle.cm_call.specs.declared.question.PropertyFilter.TheVariants as filters
+use Rattle.call_parts.specs.declared.readings.PropertyFilter.TheVariants as filters
 use Rattle.http_grammar.specs.Request.{Request, FieldParts}
 use Rattle.http_grammar.specs.Fields.{values_named}
 use Rattle.form_args.specs.Properties.{most_properties, most_values}

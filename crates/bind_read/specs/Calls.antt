@@ -11,13 +11,13 @@ use Rattle.bind_read.specs.declared.asked.Asked.{Asked}
 use Rattle.bind_read.specs.declared.asked.Asked.TheVariants as asks
 use Rattle.bind_read.specs.declared.words.Service.{Service}
 use Rattle.bind_read.specs.declared.words.Service.TheVariants as services
-use Rattle.bind_read.specs.declared.asking.Asking.{Asking}
-use Rattle.bind_read.specs.Askings.{with_query, host_of}
+use Rattle.bind_parts.specs.declared.asking.Asking.{Asking}
+use Rattle.bind_parts.specs.Askings.{with_query, host_of}
 use Rattle.bind_read.specs.Forms.{method_of, form_of}
 use Rattle.bind_read.specs.Words.{service_of}
-use Rattle.bind_read.specs.CreateFolder.{create_folder_of}
-use Rattle.bind_read.specs.Objects.{object_of, properties_of}
-use Rattle.bind_read.specs.Children.{children_of}
+use Rattle.bind_tree.specs.CreateFolder.{create_folder_of}
+use Rattle.bind_tree.specs.Objects.{object_of, properties_of}
+use Rattle.bind_tree.specs.Children.{children_of}
 
 -- the arguments of each service
 abbrev pub bound : Service → Asking → Judged Asked

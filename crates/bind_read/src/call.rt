@@ -4,12 +4,12 @@ ghost use Rattle.cm_base.specs.Judged.{Meets};
 ghost use Rattle.bind_read.specs.Calls.{bound, call_of_request};
 
 use crate::asked::Asked;
-use crate::asking::{Asking, host_of, with_query};
-use crate::children::children_of;
-use crate::create_folder::create_folder_of;
 use crate::form::{form_of, method_of};
-use crate::object::{object_of, properties_of};
 use crate::words::{Service, service_of};
+use bind_parts::asking::{Asking, host_of, with_query};
+use bind_tree::children::children_of;
+use bind_tree::create_folder::create_folder_of;
+use bind_tree::object::{object_of, properties_of};
 use cm_base::fail::Fail;
 use cm_call::question::Question;
 use cm_call::write::Write;

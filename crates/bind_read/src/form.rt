@@ -1,6 +1,5 @@
 //! The method and the form of a request.
-ghost use Rattle.std.specs.Prelude.{◌≡◌, codes, option_map, IfOk};
-ghost use Rattle.cm_base.specs.declared.cause.Cause.TheVariants as causes;
+ghost use Rattle.std.specs.Prelude.{◌≡◌, option_map};
 ghost use Rattle.cm_base.specs.Judged.{Meets};
 ghost use Rattle.bind_read.specs.Forms.{method_of, only_pairs, form_in_parts, form_by, form_in, form_of};
 
@@ -11,13 +10,12 @@ use bytes::Bytes;
 use cm_base::cause::Cause;
 use cm_base::fail::Fail;
 use cm_base::items::Items;
-use cm_base::text::Text;
 use form_args::pairs::Pair;
 use form_args::read::form_pairs;
 use form_parts::gathered::Parts;
 use form_parts::parts::parts;
 use http_wire::{Head, Request};
-use std::alloc::{AllocError, Global};
+use std::alloc::Global;
 
 /// The methods of the Browser Binding.
 #[derive(Clone, Copy, Debug, PartialEq, Eq)]
@@ -37,14 +35,6 @@ pub fn method_of(word: &[u8]) -> Result<Method, Cause>
     } else {
         Err(Cause::BadMethod)
     }
-}
-
-/// The cause of a form of request that is not served yet.
-pub fn unserved(alloc: Global) -> Result<Cause, AllocError>
-    ensures { IfOk result (λ c. c ≡ causes.NotServed (codes "form")) }
-{
-    let word = Text::from_str(alloc, "form")?;
-    Ok(Cause::NotServed(word))
 }
 
 fn only_pairs(pairs: Vec<Pair>) -> Parts

@@ -4,14 +4,9 @@
 ghost use Rattle.std.specs.Prelude.{◌≡◌};
 
 pub mod asked;
-pub mod asking;
 pub mod boundary;
 pub mod call;
-pub mod children;
-pub mod create_folder;
 pub mod fields;
 pub mod form;
 pub mod media;
-pub mod object;
-pub mod parts;
 pub mod words;

@@ -5,7 +5,8 @@ ghost use Rattle.cm_base.specs.declared.cause.Cause.TheVariants as causes;
 ghost use Rattle.cm_base.specs.Judged.{Meets, find_or};
 ghost use Rattle.bind_read.specs.Words.{word_of, is_action, is_by, is_at, all_services, is_named, unnamed, argument_of, service_of};
 
-use crate::form::{Method, unserved};
+use crate::form::Method;
+use bind_parts::parts::unserved_form;
 use cm_base::argument::Argument;
 use cm_base::cause::Cause;
 use cm_base::copies::Copies;
@@ -112,7 +113,7 @@ fn unnamed(alloc: Global, method: Method) -> Result<Cause, AllocError>
     ensures { IfOk result (λ c. c ≡ unnamed method) }
 {
     match method {
-        Method::Get => unserved(alloc),
+        Method::Get => unserved_form(alloc),
         Method::Post => Ok(Cause::MissingArgument(Argument::CmisAction)),
     }
 }

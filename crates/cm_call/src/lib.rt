@@ -1,15 +1,6 @@
-//! The calls of the repository, as values: writes, questions, and what they are answered.
+//! The calls of the repository as values: one variant a call. Their arguments and what replies hold are records of `call_parts`.
 #![tactic(auto)]
 
-ghost use Rattle.std.specs.Prelude.{◌≡◌};
-
-pub mod names;
-pub mod place;
 pub mod question;
 pub mod reply;
-pub mod stream;
-#[cfg(test)]
-mod tests;
-pub mod versions;
-pub mod weight;
 pub mod write;

@@ -1,41 +1,5 @@
-//! Questions: one variant a reading, which holds its arguments (CMIS 1.1, section 2.2).
-use crate::names::Names;
-use crate::place::Place;
-
-/// Which properties a reply shows: all, or those of these query names (section 2.2.1.2.1). cmis:objectId is always shown.
-#[derive(Drop)]
-pub enum PropertyFilter {
-    All,
-    QueryNames(Names),
-}
-
-/// The object (section 2.2.4.8).
-#[derive(Drop)]
-pub struct ReadObject {
-    pub place: Place,
-    pub filter: PropertyFilter,
-    pub succinct: bool,
-}
-
-/// The object's properties alone (section 2.2.4.9).
-#[derive(Drop)]
-pub struct ReadProperties {
-    pub place: Place,
-    pub filter: PropertyFilter,
-    pub succinct: bool,
-}
-
-/// The children of a folder, a page of them (section 2.2.3.1).
-#[derive(Drop)]
-pub struct ReadChildren {
-    pub place: Place,
-    pub filter: PropertyFilter,
-    /// How many at most; a greater number than 1000 counts as 1000.
-    pub max_items: u64,
-    /// How many are passed over.
-    pub skip_count: u64,
-    pub succinct: bool,
-}
+//! Questions (CMIS 1.1, section 2.2).
+use call_parts::readings::{ReadChildren, ReadObject, ReadProperties};
 
 /// A call that changes nothing.
 #[derive(Drop)]

@@ -1,5 +1,5 @@
 -- A repository may begin with the base types.
-use Rattle.std.specs.Prelude.{◌≡◌, ◌≤◌, ℕ, Bool, true, false, ◌&&◌, ◌||◌, not, List, [], ◌∷◌, ◌++◌, map, find, All, Option, Some, None, option_map, bytes_eq, codes}
+use Rattle.std.specs.Prelude.{◌≡◌, ◌≤◌, ℕ, Bool, true, false, ◌&&◌, ◌||◌, not, List, [], ◌∷◌, ◌++◌, map, find, All, Option, Some, option_map, bytes_eq, codes}
 use Rattle.std.specs.List.{list_all, list_any}
 use Rattle.core.specs.declared.cmp.Ordering.{Ordering}
 use Rattle.core.specs.declared.cmp.Ordering.TheVariants.{Less, Equal, Greater}
@@ -8,7 +8,7 @@ use Rattle.core.specs.Cmp.Lexicographic.{slice_cmp}
 use Rattle.std.proofs.Common.{refl, sym, ap, subst, ◌∙◌}
 use Rattle.std.proofs.lemmas.Bool.{both_ways}
 use Rattle.cmis_laws.proofs.Kept.{bytes_true}
-use Rattle.std.proofs.lemmas.List.Elements.{All-nil, All-cons}
+use Rattle.std.proofs.lemmas.List.Elements.{All-nil, All-cons, All-weaker}
 use Rattle.cm_base.specs.declared.number.Moment.{Moment}
 use Rattle.cm_base.specs.declared.user.User.{User}
 use Rattle.cm_base.specs.declared.value.Scalar.TheVariants.{Words}
@@ -20,11 +20,13 @@ use Rattle.cm_types.specs.declared.property.Cardinality.TheVariants.{Single, Mul
 use Rattle.cm_types.specs.declared.property.Updatability.TheVariants.{ReadOnly, ReadWrite, OnCreate}
 use Rattle.cm_types.specs.Types.{type_in, chain, props_of, longest_chain}
 use Rattle.cm_types.specs.Changes.{base_id}
-use Rattle.cm_types.specs.Properties.{value_fault, is_faulty, is_of_kind, is_too_long, is_no_choice}
+use Rattle.cm_types.specs.Sound.{IsSoundDef}
+use Rattle.cm_types.proofs.Sound.{row_is_sound}
+use Rattle.cm_types.specs.Properties.{is_faulty, is_of_kind, is_too_long, is_no_choice}
 use Rattle.cm_types.specs.BaseTypes.{prop, common_props, version_props, content_props, folder_props, relationship_props, policy_props, base_types}
 use Rattle.cmis_spec.specs.Values.{words, texts}
 use Rattle.cmis_spec.specs.Repository.{opening, most_steps, last_of}
-use Rattle.cmis_spec.specs.Well.{Apart, MayOpen, IsWellFormed, root_value, ends_at_base, HasBases, IsRooted, Agrees, TakesTexts, IsDef, HasDefs}
+use Rattle.cmis_spec.specs.Well.{Apart, MayOpen, IsWellFormed, root_value, ends_at_base, HasBases, IsRooted, Agrees, TakesTexts, IsDef, HasDefs, define_apart}
 use Rattle.cmis_laws.proofs.Opening.{opening_is}
 use Rattle.cmis_laws.proofs.Lists.{by_test, some_eq, all_zip, apart_weaker}
 
@@ -90,8 +92,14 @@ found = all_by_maps (λ t. t.properties) (λ d. in_table d.id) Some base_types r
 named : All (λ t. All (λ d. d.query_name ≡ d.id) t.properties) base_types
 named = all_by_maps (λ t. t.properties) (λ d. d.query_name) (λ d. d.id) base_types refl
 
-defaults : All (λ t. All (λ d. value_fault d d.default ≡ None) t.properties) base_types
-defaults = all_by_maps (λ t. t.properties) (λ d. value_fault d d.default) (λ d. None) base_types refl
+-- each is a row as `prop` makes it
+made : All (λ t. All (λ d. d ≡ prop d.id d.kind d.cardinality d.updatability d.required d.queryable) t.properties) base_types
+made = all_by_maps (λ t. t.properties) (λ d. d) (λ d. prop d.id d.kind d.cardinality d.updatability d.required d.queryable) base_types refl
+
+sound : All (λ t. All IsSoundDef t.properties) base_types
+sound = All-weaker (λ t. All (λ d. d ≡ prop d.id d.kind d.cardinality d.updatability d.required d.queryable) t.properties) (λ t. All IsSoundDef t.properties)
+    (λ t. All-weaker (λ d. d ≡ prop d.id d.kind d.cardinality d.updatability d.required d.queryable) IsSoundDef
+    (λ d e. subst IsSoundDef (sym e) (row_is_sound d.id d.kind d.cardinality d.updatability d.required d.queryable)) t.properties) base_types made
 
 types_differ : Apart (λ s t. bytes_eq s.id t.id ≡ false) base_types
 types_differ = apart_by_test (λ s t. bytes_eq s.id t.id) base_types refl
@@ -130,6 +138,11 @@ props_rise = all_zip (λ t. All (λ d. in_table d.id ≡ Some d) t.properties) (
     (λ t f h. apart_weaker (λ d. in_table d.id ≡ Some d) (λ d e. later d.id e.id ≡ false) (λ d e. slice_cmp nat_cmp d.id e.id ≡ Less) t.properties
     (λ d e a b k. less (slice_cmp nat_cmp d.id e.id) k) f (apart_by_test (λ d e. later d.id e.id) t.properties h))
     found (all_by_map (λ t. apart_test (λ d e. later d.id e.id) t.properties) (λ t. true) base_types refl)
+
+-- base types share properties, and there are no others yet
+define_apart_all : All (λ s. All (λ t. define_apart s t ≡ true) base_types) base_types
+define_apart_all = All-weaker (λ s. map (define_apart s) base_types ≡ map (λ t. true) base_types) (λ s. All (λ t. define_apart s t ≡ true) base_types) (λ s. all_by_map (define_apart s) (λ t. true) base_types) base_types
+    (all_by_map (λ s. map (define_apart s) base_types) (λ s. map (λ t. true) base_types) base_types refl)
 
 root_fits : All (λ d. is_faulty d (root_value d.id) ≡ false) (props_of base_types (codes "cmis:folder") [])
 unfolding longest_chain
@@ -188,7 +201,7 @@ takes_comment d f h = subst (λ p. (is_faulty p Unset ≡ false) × ((t : List �
 takes : (d : PropDef) → in_table d.id ≡ Some d → TakesTexts d
 takes d f = (takes_word d f, λ h ts. subst (λ p. is_faulty p (texts ts) ≡ false) (one_row secondary d refl f (sym (bytes_true d.id (codes "cmis:secondaryObjectTypeIds") h))) (takes_texts ts), takes_comment d f)
 
-is_def : (d : PropDef) → in_table d.id ≡ Some d → d.query_name ≡ d.id → value_fault d d.default ≡ None → IsDef base_types d
+is_def : (d : PropDef) → in_table d.id ≡ Some d → d.query_name ≡ d.id → IsSoundDef d → IsDef base_types d
 is_def d f n v = (
   all_zip (λ t. All (λ e. in_table e.id ≡ Some e) t.properties) (λ t. All (λ e. e.query_name ≡ e.id) t.properties) (λ t. Agrees d t.properties) base_types (λ t. agrees_all d f n t.properties) found named,
   v,
@@ -206,13 +219,13 @@ are_rows = all_zip (λ t. All (λ d. in_table d.id ≡ Some d) t.properties) (λ
     found named
 
 have_defs : HasDefs base_types
-have_defs = all_zip (λ t. All IsRow t.properties) (λ t. All (λ d. value_fault d d.default ≡ None) t.properties) (λ t. All (IsDef base_types) t.properties) base_types
-    (λ t. all_zip IsRow (λ d. value_fault d d.default ≡ None) (IsDef base_types) t.properties (λ d f v. is_def d f.0 f.1 v))
-    are_rows defaults
+have_defs = all_zip (λ t. All IsRow t.properties) (λ t. All IsSoundDef t.properties) (λ t. All (IsDef base_types) t.properties) base_types
+    (λ t. all_zip IsRow IsSoundDef (IsDef base_types) t.properties (λ d f v. is_def d f.0 f.1 v))
+    are_rows sound
 
 pub base_types_may_open : MayOpen base_types
 base_types_may_open = record {
-  well = (types_differ, query_names_differ, end_at_base, rows_found, rooted, types_rise, props_rise);
+  well = (types_differ, query_names_differ, end_at_base, rows_found, rooted, types_rise, props_rise, define_apart_all);
   defs = have_defs;
   folder = refl;
   root = root_fits;

@@ -2,12 +2,13 @@
 use Rattle.std.specs.Prelude.{ℕ, List, Result, Ok}
 use Rattle.cm_base.specs.declared.number.Moment.{Moment}
 use Rattle.cm_base.specs.declared.cause.Cause.{Cause}
-use Rattle.cm_base.specs.Judged.{Judged, ◌>>◌}
+use Rattle.cm_base.specs.Judged.{Judged, ◌>>=◌, ◌>>◌}
 use Rattle.cm_call.specs.declared.write.Write.{Write}
 use Rattle.cm_call.specs.declared.write.Write.TheVariants as writes
 use Rattle.cm_call.specs.declared.question.Question.{Question}
 use Rattle.cm_call.specs.declared.question.Question.TheVariants as questions
 use Rattle.cm_call.specs.declared.reply.Reply.{Reply}
+use Rattle.cm_call.specs.declared.reply.Reply.TheVariants as replies
 use Rattle.cmis_spec.specs.Repository.{Repository}
 use Rattle.desk_model.specs.declared.entry.Entry.{Entry}
 use Rattle.wr_object.specs.CreateFolder.{cost_create_folder, refusal_create_folder, after_create_folder, acknowledgement_create_folder}
@@ -28,13 +29,13 @@ after r u m (writes.CreateFolder call) = after_create_folder r u m (cost_of r (w
 
 -- what the write is answered, where it is not refused
 abbrev pub acknowledgement : Repository → List ℕ → Moment → Write → Reply
-acknowledgement r u m (writes.CreateFolder call) = acknowledgement_create_folder r u m (cost_of r (writes.CreateFolder call)) call
+acknowledgement r u m (writes.CreateFolder call) = replies.Object (acknowledgement_create_folder r u m (cost_of r (writes.CreateFolder call)) call)
 
 -- what the user's question is answered
 abbrev pub answer_of : Repository → List ℕ → Question → Judged Reply
-answer_of r u (questions.Object q) = answer_object r u q
-answer_of r u (questions.Properties q) = answer_properties r u q
-answer_of r u (questions.Children q) = answer_children r u q
+answer_of r u (questions.Object q) = answer_object r u q >>= λ reply. Ok (replies.Object reply)
+answer_of r u (questions.Properties q) = answer_properties r u q >>= λ reply. Ok (replies.Object reply)
+answer_of r u (questions.Children q) = answer_children r u q >>= λ reply. Ok (replies.Children reply)
 
 -- the step of an entry: the cause that refuses it, or the repository after it and its answer
 abbrev pub step_of : Repository → Entry Write → Result (Repository × Reply) Cause

@@ -29,7 +29,10 @@ fn write(
     ensures { Writes result (refusal_of state.now user.now moment call.now) (after state.now user.now moment call.now) (acknowledgement state.now user.now moment call.now) }
 {
     match call {
-        Write::CreateFolder(folder) => create_folder(alloc, state, user, moment, folder),
+        Write::CreateFolder(call) => {
+            let (next, reply) = create_folder(alloc, state, user, moment, call)?;
+            Ok((next, Reply::Object(reply)))
+        }
     }
 }
 
@@ -58,9 +61,18 @@ fn read(alloc: Global, state: &State, user: &Text, question: &Question) -> Resul
     ensures { Meets (λ x. x) result (answer_of state.now user.now question.now) }
 {
     match question {
-        Question::Object(q) => object(alloc, state, user, q),
-        Question::Properties(q) => properties(alloc, state, user, q),
-        Question::Children(q) => children(alloc, state, user, q),
+        Question::Object(q) => {
+            let reply = object(alloc, state, user, q)?;
+            Ok(Reply::Object(reply))
+        }
+        Question::Properties(q) => {
+            let reply = properties(alloc, state, user, q)?;
+            Ok(Reply::Object(reply))
+        }
+        Question::Children(q) => {
+            let reply = children(alloc, state, user, q)?;
+            Ok(Reply::Children(reply))
+        }
     }
 }
 

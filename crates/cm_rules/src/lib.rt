@@ -7,6 +7,4 @@ pub mod check;
 pub mod fault;
 pub mod kept;
 pub mod lookup;
-#[cfg(test)]
-mod tests;
 pub mod text;

@@ -14,12 +14,12 @@ use Rattle.cm_types.specs.declared.property.PropDef.{PropDef}
 use Rattle.cm_types.specs.Changes.{base_id}
 use Rattle.cm_types.specs.Types.{base_of, props_of}
 use Rattle.cm_types.specs.Properties.{value_in}
-use Rattle.cm_call.specs.declared.question.PropertyFilter.{PropertyFilter}
-use Rattle.cm_call.specs.declared.question.PropertyFilter.TheVariants as filters
-use Rattle.cm_call.specs.declared.reply.Properties.{Properties}
-use Rattle.cm_call.specs.declared.reply.Properties.TheVariants as forms
-use Rattle.cm_call.specs.declared.reply.ShownObject.{ShownObject}
-use Rattle.cm_call.specs.declared.reply.ShownProperty.{ShownProperty}
+use Rattle.call_parts.specs.declared.readings.PropertyFilter.{PropertyFilter}
+use Rattle.call_parts.specs.declared.readings.PropertyFilter.TheVariants as filters
+use Rattle.call_parts.specs.declared.replies.Properties.{Properties}
+use Rattle.call_parts.specs.declared.replies.Properties.TheVariants as forms
+use Rattle.call_parts.specs.declared.replies.ShownObject.{ShownObject}
+use Rattle.call_parts.specs.declared.replies.ShownProperty.{ShownProperty}
 use Rattle.cm_show.specs.declared.system.SystemProperty.{SystemProperty}
 use Rattle.cm_show.specs.declared.system.SystemProperty.TheVariants as properties
 use Rattle.cm_show.specs.System.{system_named}

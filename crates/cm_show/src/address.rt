@@ -5,7 +5,7 @@ ghost use Rattle.cm_show.specs.Addressed.{addressed};
 
 use cm_base::object::Object;
 use cm_base::text::Text;
-use cm_call::place::Place;
+use call_parts::place::Place;
 use cm_see::path::at_path;
 use cm_see::read::read_named;
 use cm_state::state::State;

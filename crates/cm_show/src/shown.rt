@@ -3,7 +3,7 @@ ghost use Rattle.std.specs.Prelude.{◌≡◌, ◌∷◌, ◌++◌, [], map, fil
 ghost use Rattle.std.specs.List.{flat_map};
 ghost use Rattle.map_keys.specs.Parts.{pointee};
 ghost use Rattle.cm_show.specs.Shown.{passes, shown_defs, shown_object, shown_properties, shown_property, shown_slot};
-ghost use Rattle.cm_call.specs.declared.reply.Properties.TheVariants as forms;
+ghost use Rattle.call_parts.specs.declared.replies.Properties.TheVariants as forms;
 
 use crate::property::property_value;
 use cm_base::copies::Copies;
@@ -11,8 +11,8 @@ use cm_base::items::Items;
 use cm_base::object::Object;
 use cm_base::text::Text;
 use cm_base::value::{Slot, Values};
-use cm_call::question::PropertyFilter;
-use cm_call::reply::{Properties, ShownObject, ShownProperties, ShownProperty};
+use call_parts::readings::PropertyFilter;
+use call_parts::replies::{Properties, ShownObject, ShownProperties, ShownProperty};
 use cm_state::state::State;
 use cm_types::definition::TypeDef;
 use cm_types::property::PropDef;

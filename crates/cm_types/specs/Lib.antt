@@ -1,4 +1,5 @@
 pub mod BaseTypes
 pub mod Changes
 pub mod Properties
+pub mod Sound
 pub mod Types

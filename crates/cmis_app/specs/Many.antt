@@ -6,7 +6,7 @@ use Rattle.outside.specs.Hosts.{HostTold, Begins}
 use Rattle.http_reply.specs.Sent.{TookFront}
 use Rattle.cm_base.specs.declared.number.Moment.{Moment}
 use Rattle.cm_base.specs.declared.user.User.{User}
-use Rattle.cm_basetypes.specs.BaseTypes.{base_types}
+use Rattle.cm_types.specs.BaseTypes.{base_types}
 use Rattle.cm_call.specs.declared.write.Write.{Write}
 use Rattle.cmis_spec.specs.Repository.{Repository, opening}
 use Rattle.desk_model.specs.Clocks.{moment_of}
@@ -56,6 +56,6 @@ Summed end text empty full status =
     ((status ≡ status_of_end end) × Took empty full text)
     ⊎ ((status ≡ status_of_loss end) × Rose empty.faults full.faults × TookFront empty full text)
 
--- nothing was served: memory was wanted, or the host failed to begin
+-- Nothing was served, and the host has given no link: memory was wanted, maybe before the host began; or the host failed to begin.
 abbrev pub Unserved : HostTold → HostTold → ℕ → Type 0
-Unserved host host' status = (status ≡ 7) ⊎ ((status ≡ 5) × Rose host.faults host'.faults)
+Unserved host host' status = ((status ≡ 7) × ((host' ≡ host) ⊎ (host'.given ≡ 0))) ⊎ ((status ≡ 5) × Rose host.faults host'.faults × (host'.given ≡ 0))

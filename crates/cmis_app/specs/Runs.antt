@@ -13,6 +13,7 @@ use Rattle.cm_face.specs.Faces.{shown_step, shown_answer}
 use Rattle.cm_face.specs.Requests.{called, least}
 use Rattle.http_caller.specs.Callers.{caller_of}
 use Rattle.http_wire.specs.Connections.{closes}
+use Rattle.desk_model.specs.declared.entry.Entry.{Entry}
 use Rattle.desk_model.specs.Clocks.{moment_of}
 use Rattle.talk.specs.declared.end.End.{End}
 use Rattle.talk.specs.declared.end.End.TheVariants.{Ended, Bad, ReadFault, WriteFault, Starved}
@@ -34,12 +35,13 @@ status_of WriteFault = 4
 status_of Starved = 7
 status_of (Bad fault) = 8
 
--- A session over this opening and a clock with these words, with nobody beside it. A session that ends well or by a fault of its
--- bytes is the session alone on all that the source had left.
-pub record Served (opened : Repository) (users : List User) (words : Option Words) (before : SourceTold) (empty : SinkTold) (after : SourceTold) (full : SinkTold) (status : ℕ) : Type 0 where
+-- A session over this opening and a clock with these words, with nobody beside it, and the words that the clock is then still to give.
+-- A session that ends well or by a fault of its bytes is the session alone on all that the source had left.
+pub record Served (opened : Repository) (users : List User) (words : Option Words) (before : SourceTold) (empty : SinkTold) (after : SourceTold) (full : SinkTold) (status : ℕ) (left : Option Words) : Type 0 where
   pub end : End
   pub status_is : status ≡ status_of end
-  pub ran : RunAlone repository opened users words before empty after full end
+  pub journal : List (Entry Write)
+  pub ran : RunAlone repository opened users words before empty after full end journal left
 
 -- a clock that always gives this word
 abbrev pub always : ℕ → Words
@@ -50,31 +52,40 @@ abbrev pub Begins : Option Moment → Option Words → Moment → Option Words �
 Begins (Some at) clock root words = (root ≡ at) × ((word : ℕ) × (at ≡ moment_of word) × (words ≡ Some (always word)))
 Begins None clock root words = IfSome clock (λ w. (root ≡ moment_of (first_word w)) × (words ≡ Some (rest_words w)))
 
+-- Where the words name a moment the clock is not asked. Else it is still to give what the session has left: no other word is taken.
+abbrev pub Leaves : Option Moment → Option Words → Option Words → Option Words → Type 0
+Leaves (Some at) clock left clock' = clock' ≡ clock
+Leaves None clock left clock' = clock' ≡ left
+
 -- a run that serves one session, over the repository with the root alone
-pub record Piped (users : List User) (at : Option Moment) (from : ℕ) (clock : Option Words) (before : SourceTold) (empty : SinkTold) (after : SourceTold) (full : SinkTold) (status : ℕ) : Type 0 where
+pub record Piped (users : List User) (at : Option Moment) (from : ℕ) (clock clock' : Option Words) (before : SourceTold) (empty : SinkTold) (after : SourceTold) (full : SinkTold) (status : ℕ) : Type 0 where
   pub root : Moment
   pub words : Option Words
   pub begins : Begins at clock root words
-  pub served : Served (opening base_types users root from) users words before empty after full status
+  pub left : Option Words
+  pub served : Served (opening base_types users root from) users words before empty after full status left
+  pub leaves : Leaves at clock left clock'
 
--- the text and a line end were written, with this status; or 4: the output failed in this call, and a front of them was written
-abbrev pub Wrote : List ℕ → ℕ → SinkTold → SinkTold → ℕ → Type 0
-Wrote text due empty full status =
-    ((status ≡ due) × Took empty full (text ++ 10 ∷ []))
-    ⊎ ((status ≡ 4) × Rose empty.faults full.faults × TookFront empty full (text ++ 10 ∷ []))
+-- what is written for words that are none of the program's
+abbrev pub not_valid : List ℕ
+not_valid = codes "cmisd: words are not valid" ++ 10 ∷ []
+
+-- Words that are none of the program's end with 2: the line was written, or the output failed in this call, and a front of it was written.
+abbrev pub Refused : SinkTold → SinkTold → ℕ → Type 0
+Refused empty full status = (status ≡ 2) × (Took empty full not_valid ⊎ Rose empty.faults full.faults × TookFront empty full not_valid)
 
 -- 7: there was no memory to begin, and nothing was read or written
 abbrev pub Unbegun : SourceTold → SinkTold → SourceTold → SinkTold → ℕ → Type 0
 Unbegun before empty after full status = (status ≡ 7) × (after ≡ before) × (full ≡ empty)
 
--- Of a run with these words. Other words than the program's read nothing, write one line and end with 2.
-abbrev pub Ran : Option Asked → Option Words → SourceTold → SinkTold → SourceTold → SinkTold → ℕ → Type 0
-Ran None clock before empty after full status =
+-- Of a run with these words, by the words that the clock had to give and then still has. Other words than the program's ask no clock and read nothing.
+abbrev pub Ran : Option Asked → Option Words → Option Words → SourceTold → SinkTold → SourceTold → SinkTold → ℕ → Type 0
+Ran None clock clock' before empty after full status =
     Unbegun before empty after full status
-    ⊎ ((after ≡ before) × Wrote (codes "cmisd: words are not valid") 2 empty full status)
-Ran (Some (Pipe asked)) clock before empty after full status =
+    ⊎ (clock' ≡ clock) × (after ≡ before) × Refused empty full status
+Ran (Some (Pipe asked)) clock clock' before empty after full status =
     Unbegun before empty after full status
-    ⊎ Piped asked.users asked.at asked.from clock before empty after full status
+    ⊎ Piped asked.users asked.at asked.from clock clock' before empty after full status
 
 -- 3 and 4 come only where the input, the output failed in this call
 pub record OnlyWhereFailed (before : SourceTold) (empty : SinkTold) (after : SourceTold) (full : SinkTold) (status : ℕ) : Type 0 where

@@ -12,5 +12,5 @@ mod program;
 mod tests;
 
 pub use many::serve;
-pub use once::run_once;
+pub use once::{refuse, run_once};
 pub use program::{Ran, run};

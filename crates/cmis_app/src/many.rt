@@ -11,17 +11,21 @@ use desk_serve::Closing;
 use outside::{Clock, Gate, Host};
 use std::alloc::{AllocError, Global};
 use std::sync::Wait;
+use std::thread::Threads;
 
-/// Serves the host's links over the repository with the root alone, each by a session of its own. Where memory is wanted before the first one, the host isn't asked.
+/// Serves the host's links over the repository with the root alone, each by a session of its own, at most so many at once. Where memory is wanted before the first one, the host isn't asked.
 #[tactic(auto, unfolding(cmis_spec::specs::Repository::most_steps))]
-pub fn serve<H: Host, C: Clock, G: Gate, R: Wait>(
+pub fn serve<H: Host, C: Clock + Send, G: Gate + Sync, R: Threads + Wait + Sync>(
     rt: &R,
     alloc: Global,
     users: &Users,
+    workers: usize,
     host: &mut H,
     clock: &mut C,
     gate: &G,
 ) -> Result<Closing<Face, H::Link>, AllocError>
+where
+    H::Link: Send,
     ensures served { IfOk result (λ c. ServedAll H.Link.Source.told H.Link.Sink.told users.now (C.words clock.old) (H.left host.old) c.last c.ended) }
     ensures taken { IfOk result (λ c. Taken (H.told host.old) (H.left host.old) (H.told host.new) (H.left host.new) (length c.ended)) }
     ensures end { IfOk result (λ c. EndsFor (H.told host.old) (H.told host.new) (H.left host.new) (length c.ended) c.end) }
@@ -29,7 +33,9 @@ pub fn serve<H: Host, C: Clock, G: Gate, R: Wait>(
 {
     let root = moment_of_word(clock.now());
     let opening = open(alloc, users, root, 0)?;
-    match desk_serve::serve::<Face, H, &mut C, G, R>(rt, alloc, opening, clock, users, host, gate) {
+    match desk_serve::serve::<Face, H, &mut C, G, R>(
+        rt, alloc, opening, clock, users, workers, host, gate,
+    ) {
         Ok(closing) => Ok(closing),
         Err(failed) => Err(failed),
     }

@@ -1,11 +1,12 @@
 //! One run of the program in one thread.
-ghost use Rattle.std.specs.Prelude.{◌≡◌, ◌⊎◌, ◌≤◌, ℕ, map, codes, string_bytes, Some, None, IfSome};
+ghost use Rattle.std.specs.Prelude.{◌≡◌, ◌⊎◌, ◌≤◌, ℕ, map, codes, string_bytes, Option, Some, None, IfSome};
 ghost use Rattle.cm_types.specs.BaseTypes.{base_types};
 ghost use Rattle.cmis_spec.specs.Repository.{opening};
+ghost use Rattle.outside.specs.Clocks.{Words};
 ghost use Rattle.desk_model.specs.Clocks.{moment_of};
 ghost use Rattle.cmis_words.specs.Programs.{words_of};
 ghost use Rattle.cmis_words.specs.Bounds.{IsMoment};
-ghost use Rattle.cmis_app.specs.Runs.{status_of, OnlyWhereFailed, always, Wrote, Unbegun, Served, Piped, Ran};
+ghost use Rattle.cmis_app.specs.Runs.{status_of, OnlyWhereFailed, always, Refused, Unbegun, Served, Piped, Ran};
 
 use crate::lent::Lent;
 use cm_base::number::Moment;
@@ -24,18 +25,31 @@ use talk::{End, run_alone};
 /// The line for words that the program does not have.
 const NOT_VALID: &str = "cmisd: words are not valid\n";
 
+/// The status of words that the program does not have.
+const NOT_THE_PROGRAMS: u8 = 2;
+
 /// The status where memory is wanted.
 const WANTS_MEMORY: u8 = 7;
 
-// A line, and then the status; 4 where the output fails on it.
+/// Writes the line for words that the program does not have, and answers the status 2, also where it could not be written.
+pub fn refuse<O: Sink>(output: &mut O) -> u8
+    ensures { Refused (O.told output.old) (O.told output.new) result }
+{
+    match send(output, NOT_VALID.as_bytes()) {
+        Ok(()) => NOT_THE_PROGRAMS,
+        Err(_) => NOT_THE_PROGRAMS,
+    }
+}
+
+// The same on a link.
 fn refused<L: Link>(link: &mut L) -> u8
-    ensures line { Wrote (codes "cmisd: words are not valid") 2 (L.Sink.told link.old) (L.Sink.told link.new) result }
+    ensures line { Refused (L.Sink.told link.old) (L.Sink.told link.new) result }
     ensures unread { L.Source.told link.new ≡ L.Source.told link.old }
     ensures stands_for { L.stands_for link.new ≡ L.stands_for link.old }
 {
     match send(link, NOT_VALID.as_bytes()) {
-        Ok(()) => 2,
-        Err(_) => 4,
+        Ok(()) => NOT_THE_PROGRAMS,
+        Err(_) => NOT_THE_PROGRAMS,
     }
 }
 
@@ -60,11 +74,11 @@ fn serve<L: Link, C: Clock + Drop>(
     link: &mut L,
 ) -> u8
     ensures ran { Unbegun (L.Source.told link.old) (L.Sink.told link.old) (L.Source.told link.new) (L.Sink.told link.new) result
-        ⊎ Served opening users.now (C.words clock) (L.Source.told link.old) (L.Sink.told link.old) (L.Source.told link.new) (L.Sink.told link.new) result }
+        ⊎ ((left : Option Words) × Served opening users.now (C.words clock) (L.Source.told link.old) (L.Sink.told link.old) (L.Source.told link.new) (L.Sink.told link.new) result left) }
     ensures stands_for { L.stands_for link.new ≡ L.stands_for link.old }
 {
     match run_alone::<Face, C, L, OpenGate>(alloc, opening, clock, users, link, &OpenGate) {
-        Ok(end) => status_of(end),
+        Ok(run) => status_of(run.end),
         Err(_) => WANTS_MEMORY,
     }
 }
@@ -84,7 +98,7 @@ fn at_moment<L: Link>(alloc: Global, users: &Users, moment: Moment, from: u64, l
     requires moment { IsMoment moment }
     requires from { from ≤ 1048576 }
     ensures ran { Unbegun (L.Source.told link.old) (L.Sink.told link.old) (L.Source.told link.new) (L.Sink.told link.new) result
-        ⊎ ((word : ℕ) × (moment ≡ moment_of word) × Served (opening base_types users.now moment from) users.now (Some (always word)) (L.Source.told link.old) (L.Sink.told link.old) (L.Source.told link.new) (L.Sink.told link.new) result) }
+        ⊎ ((word : ℕ) × (left : Option Words) × (moment ≡ moment_of word) × Served (opening base_types users.now moment from) users.now (Some (always word)) (L.Source.told link.old) (L.Sink.told link.old) (L.Source.told link.new) (L.Sink.told link.new) result left) }
     ensures stands_for { L.stands_for link.new ≡ L.stands_for link.old }
 {
     let word = word_of(moment);
@@ -105,12 +119,19 @@ fn by_clock<L: Link, C: Clock>(
 ) -> u8
     requires from { from ≤ 1048576 }
     ensures ran { Unbegun (L.Source.told link.old) (L.Sink.told link.old) (L.Source.told link.new) (L.Sink.told link.new) result
-        ⊎ Piped users.now None from (C.words clock.old) (L.Source.told link.old) (L.Sink.told link.old) (L.Source.told link.new) (L.Sink.told link.new) result }
+        ⊎ Piped users.now None from (C.words clock.old) (C.words clock.new) (L.Source.told link.old) (L.Sink.told link.old) (L.Source.told link.new) (L.Sink.told link.new) result }
     ensures stands_for { L.stands_for link.new ≡ L.stands_for link.old }
 {
     let root = moment_of_word(clock.now());
     match open(alloc, users, root, from) {
-        Ok(state) => serve(alloc, state, clock, users, link),
+        Ok(state) => {
+            match run_alone::<Face, &mut C, L, OpenGate>(
+                alloc, state, clock, users, link, &OpenGate,
+            ) {
+                Ok(run) => status_of(run.end),
+                Err(_) => WANTS_MEMORY,
+            }
+        }
         Err(_) => WANTS_MEMORY,
     }
 }
@@ -120,7 +141,7 @@ fn piped<L: Link, C: Clock>(alloc: Global, asked: &Pipe, link: &mut L, clock: &m
     requires at { IfSome asked.now.at IsMoment }
     requires from { asked.now.from ≤ 1048576 }
     ensures ran { Unbegun (L.Source.told link.old) (L.Sink.told link.old) (L.Source.told link.new) (L.Sink.told link.new) result
-        ⊎ Piped asked.now.users asked.now.at asked.now.from (C.words clock.old) (L.Source.told link.old) (L.Sink.told link.old) (L.Source.told link.new) (L.Sink.told link.new) result }
+        ⊎ Piped asked.now.users asked.now.at asked.now.from (C.words clock.old) (C.words clock.new) (L.Source.told link.old) (L.Sink.told link.old) (L.Source.told link.new) (L.Sink.told link.new) result }
     ensures stands_for { L.stands_for link.new ≡ L.stands_for link.old }
 {
     match asked.at {
@@ -131,7 +152,7 @@ fn piped<L: Link, C: Clock>(alloc: Global, asked: &Pipe, link: &mut L, clock: &m
 
 // Runs the program with these words.
 fn run_words<L: Link, C: Clock>(alloc: Global, words: &[String], link: &mut L, clock: &mut C) -> u8
-    ensures ran { Ran (words_of (map string_bytes words.now)) (C.words clock.old) (L.Source.told link.old) (L.Sink.told link.old) (L.Source.told link.new) (L.Sink.told link.new) result }
+    ensures ran { Ran (words_of (map string_bytes words.now)) (C.words clock.old) (C.words clock.new) (L.Source.told link.old) (L.Sink.told link.old) (L.Source.told link.new) (L.Sink.told link.new) result }
     ensures stands_for { L.stands_for link.new ≡ L.stands_for link.old }
 {
     words_are_bounded();
@@ -144,7 +165,7 @@ fn run_words<L: Link, C: Clock>(alloc: Global, words: &[String], link: &mut L, c
 
 // The same, and what the statuses of the sides that failed say.
 fn run_link<L: Link, C: Clock>(alloc: Global, words: &[String], link: &mut L, clock: &mut C) -> u8
-    ensures ran { Ran (words_of (map string_bytes words.now)) (C.words clock.old) (L.Source.told link.old) (L.Sink.told link.old) (L.Source.told link.new) (L.Sink.told link.new) result }
+    ensures ran { Ran (words_of (map string_bytes words.now)) (C.words clock.old) (C.words clock.new) (L.Source.told link.old) (L.Sink.told link.old) (L.Source.told link.new) (L.Sink.told link.new) result }
     ensures failed { OnlyWhereFailed (L.Source.told link.old) (L.Sink.told link.old) (L.Source.told link.new) (L.Sink.told link.new) result }
     ensures stands_for { L.stands_for link.new ≡ L.stands_for link.old }
 {
@@ -162,7 +183,7 @@ pub fn run_once<I: Source, O: Sink, C: Clock>(
     output: &mut O,
     clock: &mut C,
 ) -> u8
-    ensures ran { Ran (words_of (map string_bytes words.now)) (C.words clock.old) (I.told input.old) (O.told output.old) (I.told input.new) (O.told output.new) result }
+    ensures ran { Ran (words_of (map string_bytes words.now)) (C.words clock.old) (C.words clock.new) (I.told input.old) (O.told output.old) (I.told input.new) (O.told output.new) result }
     ensures failed { OnlyWhereFailed (I.told input.old) (O.told output.old) (I.told input.new) (O.told output.new) result }
 {
     let mut link = Lent { input, output };

@@ -18,6 +18,7 @@ use http_reply::send;
 use outside::{Clock, Gate, Host, Link, Sink, Source};
 use std::alloc::Global;
 use std::sync::Wait;
+use std::thread::Threads;
 
 /// The status where memory is wanted.
 const WANTS_MEMORY: u8 = 7;
@@ -64,7 +65,7 @@ fn sum_up<O: Sink>(output: &mut O, sessions: u64, steps: u64, end: HostEnd) -> u
 }
 
 // Serves many connections.
-fn run_serve<O: Sink, H: Host, C: Clock, G: Gate, R: Wait>(
+fn run_serve<O: Sink, H: Host, C: Clock + Send, G: Gate + Sync, R: Threads + Wait + Sync>(
     rt: &R,
     alloc: Global,
     asked: &Serve,
@@ -73,6 +74,8 @@ fn run_serve<O: Sink, H: Host, C: Clock, G: Gate, R: Wait>(
     clock: &mut C,
     gate: &G,
 ) -> Ran<H::Link>
+where
+    H::Link: Send,
     ensures served { MatchOption result.closing (Unserved (H.told host.old) (H.told host.new) result.status × (O.told output.new ≡ O.told output.old))
         (λ c. ServedAll H.Link.Source.told H.Link.Sink.told asked.now.users (C.words clock.old) (H.left host.old) c.last c.ended
         × Hosted asked.now (H.told host.old) (H.left host.old) (H.told host.new) (H.left host.new) (length c.ended) c.end
@@ -87,7 +90,7 @@ fn run_serve<O: Sink, H: Host, C: Clock, G: Gate, R: Wait>(
             };
         }
     }
-    match serve(rt, alloc, &asked.users, host, clock, gate) {
+    match serve(rt, alloc, &asked.users, asked.workers, host, clock, gate) {
         Ok(closing) => {
             let sessions = closing.ended.len() as u64;
             let steps = closing.last.number();
@@ -108,7 +111,7 @@ fn run_serve<O: Sink, H: Host, C: Clock, G: Gate, R: Wait>(
 ///
 /// `serve USERS PORT WORKERS [links=K]` serves the host's links at this port. 0: the host had none to give, or as many were served as may be;
 /// 4: the line at the end could not be written; 5: the host failed; 7: memory was wanted. Every other list of words is run by `run_once`.
-pub fn run<I: Source, O: Sink, H: Host, C: Clock, G: Gate, R: Wait>(
+pub fn run<I: Source, O: Sink, H: Host, C: Clock + Send, G: Gate + Sync, R: Threads + Wait + Sync>(
     rt: &R,
     alloc: Global,
     words: &[String],
@@ -118,12 +121,15 @@ pub fn run<I: Source, O: Sink, H: Host, C: Clock, G: Gate, R: Wait>(
     clock: &mut C,
     gate: &G,
 ) -> Ran<H::Link>
-    ensures once { serve_of (map string_bytes words.now) ≡ None → (result.closing ≡ None) × ((result.status ≡ 7) × (I.told input.new ≡ I.told input.old) × (O.told output.new ≡ O.told output.old) ⊎ RunsOnce (words_of (map string_bytes words.now)) (C.words clock.old) (I.told input.old) (O.told output.old) (I.told input.new) (O.told output.new) result.status
+where
+    H::Link: Send,
+    ensures once { serve_of (map string_bytes words.now) ≡ None → (result.closing ≡ None) × ((result.status ≡ 7) × (I.told input.new ≡ I.told input.old) × (O.told output.new ≡ O.told output.old) ⊎ RunsOnce (words_of (map string_bytes words.now)) (C.words clock.old) (C.words clock.new) (I.told input.old) (O.told output.old) (I.told input.new) (O.told output.new) result.status
         × OnlyWhereFailed (I.told input.old) (O.told output.old) (I.told input.new) (O.told output.new) result.status) }
     ensures served { IfSome (serve_of (map string_bytes words.now)) (λ asked. MatchOption result.closing (Unserved (H.told host.old) (H.told host.new) result.status × (O.told output.new ≡ O.told output.old))
         (λ c. ServedAll H.Link.Source.told H.Link.Sink.told asked.users (C.words clock.old) (H.left host.old) c.last c.ended
         × Hosted asked (H.told host.old) (H.left host.old) (H.told host.new) (H.left host.new) (length c.ended) c.end
         × Summed c.end (summary (length c.ended) (state_of shown_step c.last).step) (O.told output.old) (O.told output.new) result.status)) }
+    ensures unasked { serve_of (map string_bytes words.now) ≡ None → host.new ≡ host.old }
     ensures unread { IfSome (serve_of (map string_bytes words.now)) (λ asked. I.told input.new ≡ I.told input.old) }
 {
     match read_serve(alloc, words) {

@@ -360,6 +360,7 @@ module _ (r : Repository) (s : Series) (y x : Object) (label : Label) (name : Li
     listed = all_put (λ z. is_listed r.access (entry_of z) ≡ true) (λ z. is_listed r.access (entry_of z) ≡ true) (λ z a h. subst (λ n. is_listed r.access n ≡ true) (sym (entry_same z (put z) a)) h) w.listed;
     sizes = w.sizes;
     own_values = by_object (OwnsValues r.types) (OwnsValues r.types) f.owned (λ z e h. h) w.own_values;
+    groups = w.groups;
     contents = (w.contents.0, All-weaker (λ c. IsBaseAt r bases.Document c.of × (c.step ≤ r.step)) (λ c. IsBaseAt after bases.Document c.of × (c.step ≤ r.step)) (λ c h. (base_stays bases.Document c.of h.0, h.1)) r.contents w.contents.1);
     typed = by_object (IsTyped r.types) (IsTyped r.types) f.typed (λ z e h. h) w.typed;
     types = w.types;

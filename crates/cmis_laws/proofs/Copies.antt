@@ -11,10 +11,10 @@ use Rattle.cm_types.specs.Properties.{value_in, is_faulty, def_of}
 use Rattle.cmis_spec.specs.Repository.{Repository}
 use Rattle.cmis_spec.specs.Values.{form_value}
 use Rattle.cmis_spec.specs.Documents.{is_comment, without_comment}
-use Rattle.cmis_spec.specs.Well.{IsDef, HasDefs, IsKept, IsOwn, OwnsValues}
+use Rattle.cmis_spec.specs.Well.{Apart, IsDef, HasDefs, IsKept, IsOwn, OwnsValues}
 use Rattle.cmis_laws.proofs.Lists.{by_test, all_zip}
 use Rattle.cmis_laws.proofs.Kept.{apart_value, bytes_true, form_is, props_all}
-use Rattle.cmis_laws.proofs.Left.{find_filtered, none_filtered}
+use Rattle.cmis_laws.proofs.Left.{find_filtered, none_filtered, apart_filter}
 
 -- another value is the same without the comment
 pub other_value : (slots : List Slot) (id : List ℕ) → bytes_eq id (codes "cmis:checkinComment") ≡ false → value_in (without_comment slots) id ≡ value_in slots id
@@ -33,9 +33,12 @@ kept_copied r r' x y types values k = all_zip (IsDef r.types) (λ d. is_faulty d
     (λ e. ap (is_faulty d) (other_value x.values d.id e) ∙ (ap (is_faulty d) (sym (apart_value r x d.id other)) ∙ h))))
     (props_all (IsDef r.types) r.types x.kind x.secondary types) k
 
--- and they are of its own properties
+-- and they are of its own properties, each once
 pub owns_copied : (types : List TypeDef) (x y : Object) → y.values ≡ without_comment x.values → y.kind ≡ x.kind → y.secondary ≡ x.secondary → OwnsValues types x → OwnsValues types y
-owns_copied types x y values kind secondary h = subst (All (IsOwn types y)) (sym values)
-    (subst (λ k. All (λ s. is_some (def_of (props_of types k y.secondary) s.id) ≡ true) (without_comment x.values)) (sym kind)
-    (subst (λ ss. All (λ s. is_some (def_of (props_of types x.kind ss) s.id) ≡ true) (without_comment x.values)) (sym secondary)
-    (All-filter (λ s. not (is_comment s)) (IsOwn types x) x.values h)))
+owns_copied types x y values kind secondary h = (
+  subst (All (IsOwn types y)) (sym values)
+      (subst (λ k. All (λ s. is_some (def_of (props_of types k y.secondary) s.id) ≡ true) (without_comment x.values)) (sym kind)
+      (subst (λ ss. All (λ s. is_some (def_of (props_of types x.kind ss) s.id) ≡ true) (without_comment x.values)) (sym secondary)
+      (All-filter (λ s. not (is_comment s)) (IsOwn types x) x.values h.0))),
+  subst (Apart (λ s t. bytes_eq s.id t.id ≡ false)) (sym values) (apart_filter (λ s t. bytes_eq s.id t.id ≡ false) (λ s. not (is_comment s)) x.values h.1),
+)

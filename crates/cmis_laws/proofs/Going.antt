@@ -213,6 +213,7 @@ module _ (r : Repository) (w : IsWellFormed r) where
           defs = k.defs;
           kept = k.kept;
           own_values = k.own_values;
+          groups = k.groups;
           bounds = k.bounds;
           tokens = k.tokens;
           labels = k.labels;

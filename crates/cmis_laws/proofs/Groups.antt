@@ -6,7 +6,7 @@ use Rattle.cm_base.specs.declared.number.Moment.{Moment}
 use Rattle.cm_base.specs.declared.log.ChangeKind.{ChangeKind}
 use Rattle.cmis_spec.specs.Repository.{Repository}
 use Rattle.cmis_spec.specs.Changes.{stepped, noted}
-use Rattle.cmis_spec.specs.Well.{HasNumbers, HasSeriesNumbers, HasFirsts, HasRenditions, HasRoot, HasWays, HasOneParent, HasPairs, HasNames, HasDocuments, HasSeries, HasPlain, HasOwnNames, HasRelationships, HasPolicies, HasAccess, HasLists, HasContents, HasSizes, HasTyped, HasTypes, HasDefs, HasKept, HasOwnValues, HasBounds, HasTokens, HasLabels, IsWellFormed}
+use Rattle.cmis_spec.specs.Well.{HasNumbers, HasSeriesNumbers, HasFirsts, HasRenditions, HasRoot, HasWays, HasOneParent, HasPairs, HasNames, HasDocuments, HasSeries, HasPlain, HasOwnNames, HasRelationships, HasPolicies, HasAccess, HasLists, HasContents, HasSizes, HasTyped, HasTypes, HasDefs, HasKept, HasOwnValues, HasGroups, HasBounds, HasTokens, HasLabels, IsWellFormed}
 use Rattle.cmis_laws.proofs.Steps.{HasRoom, labels_stepped, tokens_stepped, contents_stepped}
 
 abbrev pub NumbersOf : Repository → Type 0
@@ -27,6 +27,9 @@ ListsOf r = HasAccess r × HasLists r × HasContents r × HasSizes r
 abbrev pub ValuesOf : Repository → Type 0
 ValuesOf r = HasTyped r × HasTypes r.types × HasDefs r.types × HasKept r × HasOwnValues r
 
+abbrev pub UsersOf : Repository → Type 0
+UsersOf r = HasGroups r.users r.groups
+
 abbrev pub BoundsOf : Repository → Type 0
 BoundsOf r = HasBounds r × HasTokens r × HasLabels r
 
@@ -37,6 +40,7 @@ pub record Groups (r : Repository) : Type 0 where
   pub links : LinksOf r
   pub lists : ListsOf r
   pub values : ValuesOf r
+  pub users : UsersOf r
   pub bounds : BoundsOf r
 
 pub groups : (r : Repository) → IsWellFormed r → Groups r
@@ -47,6 +51,7 @@ groups r w = record {
   links = (w.relationships, w.policies);
   lists = (w.access, w.listed, w.contents, w.sizes);
   values = (w.typed, w.types, w.defs, w.kept, w.own_values);
+  users = w.groups;
   bounds = (w.bounds, w.tokens, w.labels);
 }
 
@@ -76,6 +81,7 @@ well r g = record {
   defs = g.values.2;
   kept = g.values.3;
   own_values = g.values.4;
+  groups = g.users;
   bounds = g.bounds.0;
   tokens = g.bounds.1;
   labels = g.bounds.2;
@@ -83,7 +89,7 @@ well r g = record {
 
 -- an event changes no group
 pub note_groups : (r : Repository) (kind : ChangeKind) (n : Oid) (m : Moment) (readers : List Bool) → Groups r → Groups (noted r kind n m readers)
-note_groups r kind n m readers g = record { numbers = g.numbers; tree = g.tree; versions = g.versions; links = g.links; lists = g.lists; values = g.values; bounds = g.bounds }
+note_groups r kind n m readers g = record { numbers = g.numbers; tree = g.tree; versions = g.versions; links = g.links; lists = g.lists; values = g.values; users = g.users; bounds = g.bounds }
 
 -- a step changes the bounds, and those of contents
 pub step_groups : (r : Repository) (cost : ℕ) → HasRoom r cost → Groups r → Groups (stepped r cost)
@@ -94,5 +100,6 @@ step_groups r cost room g = record {
   links = g.links;
   lists = (g.lists.0, g.lists.1, contents_stepped r cost g.lists.2, g.lists.3);
   values = g.values;
+  users = g.users;
   bounds = ((room.steps, room.bytes, omega (arith, g.bounds.0.2)), tokens_stepped r cost g.bounds.1, labels_stepped r cost g.bounds.2);
 }

@@ -181,6 +181,7 @@ module _ (r : Repository) (x : Object) (ss : List Series) (ls : List AccessList)
     listed = f.listed;
     sizes = w.sizes;
     own_values = All-push (OwnsValues r.types) r.objects x w.own_values f.owned;
+    groups = w.groups;
     contents = (w.contents.0, All-weaker (λ c. IsBaseAt r bases.Document c.of × (c.step ≤ r.step)) (λ c. IsBaseAt after bases.Document c.of × (c.step ≤ r.step)) (λ c h. (base bases.Document c.of h.0, h.1)) r.contents w.contents.1);
     typed = All-push (IsTyped r.types) r.objects x w.typed f.typed;
     types = w.types;

@@ -1,6 +1,6 @@
 -- The values that a create keeps have no fault.
-use Rattle.std.specs.Prelude.{◌≡◌, ℕ, zero, suc, Bool, true, false, not, ◌&&◌, ◌||◌, if◌then◌else◌, List, [], ◌∷◌, map, filter, find, is_some, reverse, All, Contains, Option, Some, None, Ok, option_map, unwrap_or, bytes_eq, codes}
-use Rattle.std.specs.List.{flat_map}
+use Rattle.std.specs.Prelude.{◌≡◌, ℕ, zero, suc, Bool, true, false, not, ◌&&◌, ◌||◌, if◌then◌else◌, List, [], ◌∷◌, map, filter, find, is_some, is_none, reverse, All, Contains, Option, Some, None, Ok, option_map, unwrap_or, bytes_eq, codes}
+use Rattle.std.specs.List.{list_any, flat_map}
 use mathlib.Core.List.{reverse_aux}
 use Rattle.std.proofs.Common.{refl, sym, ap, subst, ◌∙◌}
 use Rattle.std.proofs.lemmas.Bool.{both_ways}
@@ -21,11 +21,13 @@ use Rattle.cm_types.specs.declared.given.PropertyCall.{PropertyCall}
 use Rattle.cm_types.specs.declared.given.PropertyCall.TheVariants as calls
 use Rattle.cm_types.specs.Types.{type_in, chain_of, chain, longest_chain, first_of_each, types_of, props_of}
 use Rattle.cm_types.specs.Properties.{value_in, is_set, value_fault, is_faulty, may_give, breaks_cardinality, breaks_form, stated, fault_by, def_of, property_fault, given_cause, given_of, value_before, kept_value, kept_values, is_missing, missing_cause, judge_properties}
+use Rattle.cm_types.specs.Changes.{is_wrong_choice}
+use Rattle.cm_types.specs.Sound.{IsSoundDef}
 use Rattle.cmis_spec.specs.Repository.{Repository, name_of}
 use Rattle.cmis_spec.specs.Values.{words, texts, is_apart, kept_beside, form_value}
-use Rattle.cmis_spec.specs.Well.{IsDef, Agrees, HasDefs, TakesTexts, IsKept, IsOwn, OwnsValues}
+use Rattle.cmis_spec.specs.Well.{IsDef, Agrees, HasDefs, TakesTexts, IsKept, IsOwn}
 use Rattle.cmis_laws.proofs.Lists.{by_test, find_yes, find_no, found_holds, found_passes, none_some, all_zip}
-use Rattle.cmis_laws.proofs.Passed.{first_none, then_ok, some_none}
+use Rattle.cmis_laws.proofs.Passed.{first_none, then_ok, some_none, or_left}
 
 -- ---- what holds of each property of the types holds of an object's
 
@@ -33,7 +35,7 @@ above_all : (Q : TypeDef → Type 0) (f : List ℕ → List TypeDef) (o : Option
 above_all Q f None h = All-nil Q
 above_all Q f (Some id) h = h id
 
-chain_all : (Q : TypeDef → Type 0) (n : ℕ) (types : List TypeDef) (id : List ℕ) → All Q types → All Q (chain_of n types id)
+pub chain_all : (Q : TypeDef → Type 0) (n : ℕ) (types : List TypeDef) (id : List ℕ) → All Q types → All Q (chain_of n types id)
 chain_all Q zero types id all = All-nil Q
 chain_all Q (suc n) types id all = elim (type_in types id) as (λ o. type_in types id ≡ o → All Q (unwrap_or (option_map (λ t. t ∷ unwrap_or (option_map (chain_of n types) t.parent) []) o) [])) [
   | None ↦ λ e. All-nil Q
@@ -45,28 +47,30 @@ onto_all : {A : Type 0} (Q : A → Type 0) (xs ys : List A) → All Q xs → All
 onto_all Q [] ys all more = more
 onto_all Q (x ∷ xs) ys all more = onto_all Q xs (x ∷ ys) (All-tail Q x xs all) (All-cons Q x ys (All-head Q x xs all) more)
 
-reverse_all : {A : Type 0} (Q : A → Type 0) (xs : List A) → All Q xs → All Q (reverse xs)
+pub reverse_all : {A : Type 0} (Q : A → Type 0) (xs : List A) → All Q xs → All Q (reverse xs)
 reverse_all Q xs all = onto_all Q xs [] all (All-nil Q)
 
-flat_all : {A B : Type 0} (Q : B → Type 0) (f : A → List B) (xs : List A) → All (λ x. All Q (f x)) xs → All Q (flat_map f xs)
+pub flat_all : {A B : Type 0} (Q : B → Type 0) (f : A → List B) (xs : List A) → All (λ x. All Q (f x)) xs → All Q (flat_map f xs)
 flat_all Q f [] all = All-nil Q
 flat_all Q f (x ∷ xs) all = All-append Q (f x) (flat_map f xs) (All-head (λ x. All Q (f x)) x xs all) (flat_all Q f xs (All-tail (λ x. All Q (f x)) x xs all))
 
-every : {A : Type 0} (Q : A → Type 0) (xs : List A) → ((x : A) → Q x) → All Q xs
+pub every : {A : Type 0} (Q : A → Type 0) (xs : List A) → ((x : A) → Q x) → All Q xs
 every Q [] h = All-nil Q
 every Q (x ∷ xs) h = All-cons Q x xs (h x) (every Q xs h)
 
-first_all : (Q : TypeDef → Type 0) (ts : List TypeDef) → All Q ts → All Q (first_of_each ts)
+pub first_all : (Q : TypeDef → Type 0) (ts : List TypeDef) → All Q ts → All Q (first_of_each ts)
 first_all Q [] all = All-nil Q
 first_all Q (t ∷ ts) all = All-cons Q t (filter (λ s. not (bytes_eq s.id t.id)) (first_of_each ts)) (All-head Q t ts all)
     (All-filter (λ s. not (bytes_eq s.id t.id)) Q (first_of_each ts) (first_all Q ts (All-tail Q t ts all)))
 
+pub types_all : (Q : TypeDef → Type 0) (types : List TypeDef) (kind : List ℕ) (secondary : List (List ℕ)) → All Q types → All Q (types_of types kind secondary)
+types_all Q types kind secondary all = first_all Q (flat_map (λ s. reverse (chain types s)) (kind ∷ secondary))
+    (flat_all Q (λ s. reverse (chain types s)) (kind ∷ secondary)
+    (every (λ s. All Q (reverse (chain types s))) (kind ∷ secondary)
+    (λ s. reverse_all Q (chain types s) (chain_all Q longest_chain types s all))))
+
 pub props_all : (P : PropDef → Type 0) (types : List TypeDef) (kind : List ℕ) (secondary : List (List ℕ)) → All (λ t. All P t.properties) types → All P (props_of types kind secondary)
-props_all P types kind secondary all = flat_all P (λ t. t.properties) (types_of types kind secondary)
-    (first_all (λ t. All P t.properties) (flat_map (λ s. reverse (chain types s)) (kind ∷ secondary))
-    (flat_all (λ t. All P t.properties) (λ s. reverse (chain types s)) (kind ∷ secondary)
-    (every (λ s. All (λ t. All P t.properties) (reverse (chain types s))) (kind ∷ secondary)
-    (λ s. reverse_all (λ t. All P t.properties) (chain types s) (chain_all (λ t. All P t.properties) longest_chain types s all)))))
+props_all P types kind secondary all = flat_all P (λ t. t.properties) (types_of types kind secondary) (types_all (λ t. All P t.properties) types kind secondary all)
 
 -- ---- bytes
 
@@ -210,6 +214,14 @@ kept_anywhere r r' x y types values k = all_zip (IsDef r.types) (λ d. is_faulty
     (λ d i h. form_is r' y d i.2 (λ other. ap (λ vs. is_faulty d (value_in vs d.id)) values ∙ (ap (is_faulty d) (sym (apart_value r x d.id other)) ∙ h)))
     (props_all (IsDef r.types) r.types x.kind x.secondary types) k
 
+-- a default value has no fault
+default_right : (d : PropDef) → IsSoundDef d → value_fault d d.default ≡ None
+default_right d s = by (value_fault d d.default) (or_left (not (is_none (value_fault d d.default))) (list_any (is_wrong_choice d) d.choices) s.has_no_fault)
+  where
+    by : (o : Option PropertyFault) → not (is_none o) ≡ false → o ≡ None
+    by None h = refl
+    by (Some f) h = absurd (both_ways true h refl)
+
 -- the values of a new object, once its properties are judged
 pub kept_new : (r : Repository) (kind : List ℕ) (secondary : List (List ℕ)) (given : List Given) (x : Object) → HasDefs r.types → judge_properties calls.Create (props_of r.types kind secondary) [] given ≡ Ok tt
     → x.values ≡ kept_beside (kept_values calls.Create (props_of r.types kind secondary) [] given) → IsKept r (props_of r.types kind secondary) x
@@ -224,7 +236,7 @@ kept_new r kind secondary given x types h values =
     let first = find_first defs d agree i.1 in
     form_is r x d i.0.2 (λ other.
     let v : value_in x.values d.id ≡ kept_value calls.Create [] given d = ap (λ vs. value_in vs d.id) values ∙ beside_value defs (kept_value calls.Create [] given) d agree first other in
-    ap (is_faulty d) v ∙ faultless d (kept_value calls.Create [] given d) (kept_right calls.Create [] defs given d given_ok first i.0.1) (missing_not calls.Create [] given d m)))
+    ap (is_faulty d) v ∙ faultless d (kept_value calls.Create [] given d) (kept_right calls.Create [] defs given d given_ok first (default_right d i.0.1)) (missing_not calls.Create [] given d m)))
     (all_zip (IsDef r.types) (Contains defs) (λ d. IsDef r.types d × Contains defs d) defs (λ d a b. (a, b)) is_def (All-contains_itself defs))
     (first_none (missing_cause calls.Create [] given) defs parts.1)
 
@@ -240,6 +252,3 @@ owns_kept types call old given x = All-filter (λ s. not (is_apart s.id) && is_s
       | None ↦ λ e. absurd (both_ways (bytes_eq d.id d.id) (All-contains (λ e. bytes_eq e.id d.id ≡ false) defs d (all_unfound (λ e. bytes_eq e.id d.id) defs e) h) (bytes_same d.id d.id refl))
       | Some e ↦ λ k. refl
     ] refl
-
-pub owns_new : (types : List TypeDef) (given : List Given) (x : Object) → x.values ≡ kept_beside (kept_values calls.Create (props_of types x.kind x.secondary) [] given) → OwnsValues types x
-owns_new types given x values = subst (All (IsOwn types x)) (sym values) (owns_kept types calls.Create [] given x)

@@ -15,8 +15,10 @@ pub mod Listing
 pub mod Lists
 pub mod Made
 pub mod MadeDocument
+pub mod Members
 pub mod Moved
 pub mod Objects
+pub mod Once
 pub mod Opening
 pub mod Paired
 pub mod Passed
@@ -25,3 +27,4 @@ pub mod Removed
 pub mod Standing
 pub mod Steps
 pub mod Tree
+pub mod TypeSharing

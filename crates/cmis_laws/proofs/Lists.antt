@@ -97,7 +97,7 @@ apart_weaker P R S [] f all ap = tt
 apart_weaker P R S (x ∷ xs) f all ap =
     (all_zip P (R x) (S x) xs (λ y p q. f x y (All-head P x xs all) p q) (All-tail P x xs all) ap.0, apart_weaker P R S xs f (All-tail P x xs all) ap.1)
 
-pub apart_map : {A : Type 0} (R : A → A → Type 0) (f : A → A) (xs : List A) → Apart (λ x y. R (f x) (f y)) xs → Apart R (map f xs)
+pub apart_map : {A B : Type 0} (R : B → B → Type 0) (f : A → B) (xs : List A) → Apart (λ x y. R (f x) (f y)) xs → Apart R (map f xs)
 apart_map R f [] ap = tt
 apart_map R f (x ∷ xs) ap = (All-map (R (f x)) f xs ap.0, apart_map R f xs ap.1)
 

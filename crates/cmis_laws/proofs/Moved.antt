@@ -248,6 +248,7 @@ move_keeps r x s t w p =
       defs = w.defs;
       kept = w.kept;
       own_values = w.own_values;
+      groups = w.groups;
       bounds = w.bounds;
       tokens = w.tokens;
       labels = w.labels;

@@ -38,6 +38,7 @@ object_keeps r x aces policies w f no_folder = record {
   defs = w.defs;
   kept = Added.kept_with r x aces policies w f;
   own_values = Added.own_values_with r x aces policies w f;
+  groups = w.groups;
   bounds = Added.bounds_with r x aces policies w f;
   tokens = Added.tokens_with r x aces policies w f;
   labels = w.labels;

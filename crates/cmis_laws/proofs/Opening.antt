@@ -17,11 +17,11 @@ use Rattle.cm_base.specs.declared.value.Value.{Value}
 use Rattle.cm_base.specs.declared.value.Value.TheVariants.{Unset}
 use Rattle.cm_types.specs.declared.definition.TypeDef.{TypeDef}
 use Rattle.cm_types.specs.declared.definition.BaseType.TheVariants as bases
-use Rattle.cm_types.specs.Types.{type_in, same_base, props_of}
+use Rattle.cm_types.specs.Types.{type_in, same_base, is_below, props_of}
 use Rattle.cm_types.specs.Properties.{is_faulty}
 use Rattle.cmis_spec.specs.Repository.{object_at, series_at, root, same, most_steps, most_cost, is_a, opening, root_folder, root_access, administrator_of, entry_of, longest_stream}
 use Rattle.cmis_spec.specs.Values.{words, form_value}
-use Rattle.cmis_spec.specs.Well.{MayOpen, root_value, IsTyped, IsKept, IsAceList, ComesBefore, IsAccess, is_listed, IsOwn, OwnsValues, IsRendition, IsPair, HasWay, Belongs, IsMember, members, HasSome, IsBaseAt, IsThere, HasEnds, IsLabel, IsAlone, is_plain, is_version, Apart, IsWellFormed}
+use Rattle.cmis_spec.specs.Well.{MayOpen, root_value, IsTyped, IsKept, IsAceList, ComesBefore, IsAccess, is_listed, IsOwn, OwnsValues, IsRendition, IsGroup, IsPair, HasWay, Belongs, IsMember, members, HasSome, IsBaseAt, IsThere, HasEnds, IsLabel, IsAlone, is_plain, is_version, Apart, IsWellFormed}
 use Rattle.cmis_laws.proofs.Entries.{not_both}
 
 one : {A : Type 0} (P : A → Type 0) (x : A) → P x → All P (x ∷ [])
@@ -84,9 +84,10 @@ opening_is types users m n f bound =
       access = ((All-nil (λ l. root.0 < l.at.0), tt), one (IsAccess r) (root_access admin) (inl (x, refl, not_both r x bases.Folder bases.Document refl f.folder), two_aces admin (codes "anyone") (slice_cmp nat_cmp admin (codes "anyone")) refl));
       listed = one (λ y. is_listed (root_access admin ∷ []) (entry_of y) ≡ true) x refl;
       sizes = All-nil (λ c. length c.stream.pieces ≤ longest_stream);
-      own_values = one (OwnsValues types) x (All-nil (IsOwn types x));
+      groups = (tt, All-nil (IsGroup (map (λ u. u.name) users)));
+      own_values = one (OwnsValues types) x (All-nil (IsOwn types x), tt);
       contents = (tt, All-nil (λ c. IsBaseAt r bases.Document c.of × (c.step ≤ n)));
-      typed = one (IsTyped types) x (there (type_in types (codes "cmis:folder")) f.folder, All-nil (λ s. is_some (type_in types s) ≡ true));
+      typed = one (IsTyped types) x (there (type_in types (codes "cmis:folder")) f.folder, All-nil (λ s. is_below types s (codes "cmis:secondary") ≡ true));
       types = f.well;
       defs = f.defs;
       kept = one (λ y. IsKept r (props_of types y.kind y.secondary) y) x

@@ -96,6 +96,7 @@ pair_keeps r folder child w f =
       defs = w.defs;
       kept = w.kept;
       own_values = w.own_values;
+      groups = w.groups;
       bounds = w.bounds;
       tokens = w.tokens;
       labels = w.labels;

@@ -90,6 +90,7 @@ module _ (r : Repository) (x : Object) (aces : List Ace) (policies : List Oid) (
         defs = w.defs;
         kept = Added.kept_with r x aces policies w f;
         own_values = Added.own_values_with r x aces policies w f;
+        groups = w.groups;
         bounds = Added.bounds_with r x aces policies w f;
         tokens = Added.tokens_with r x aces policies w f;
         labels = w.labels;

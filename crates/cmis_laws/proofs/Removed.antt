@@ -300,6 +300,7 @@ module _ (r : Repository) (gone : Oid → Bool) (w : IsWellFormed r) (f : IsRemo
         (all_zip (λ y. object_at r y.id ≡ Some y) (λ y. Belongs r y y.series) (λ y. (object_at r y.id ≡ Some y) × Belongs r y y.series) r.objects (λ y a b. (a, b)) (all_found (λ y. y.id) r.objects w.numbers.0) w.documents) w.listed);
     sizes = All-filter (λ c. not (gone c.of)) (λ c. length c.stream.pieces ≤ longest_stream) r.contents w.sizes;
     own_values = All-filter (λ y. not (gone y.id)) (OwnsValues r.types) r.objects w.own_values;
+    groups = w.groups;
     contents = (
       apart_filter (λ c d. c.of.0 < d.of.0) (λ c. not (gone c.of)) r.contents w.contents.0,
       all_kept (λ c. not (gone c.of)) (λ c. IsBaseAt after bases.Document c.of × (c.step ≤ r.step)) r.contents

@@ -1,5 +1,5 @@
 -- A repository that is well formed: a record of named facts, each about the lists that it names (CMIS 1.1, section 2.1).
-use Rattle.std.specs.Prelude.{if◌then◌else◌, ◌≡◌, ℕ, zero, suc, ◌+◌, ◌<◌, ◌≤◌, Bool, true, false, ◌&&◌, ◌||◌, not, ◌⊎◌, List, [], ◌∷◌, ◌++◌, map, length, All, count_by, bytes_eq, codes, Option, Some, None, IfSome, is_some, option_map, unwrap_or}
+use Rattle.std.specs.Prelude.{if◌then◌else◌, ◌≡◌, ℕ, zero, suc, ◌+◌, ◌<◌, ◌≤◌, Bool, true, false, ◌&&◌, ◌||◌, not, ◌⊎◌, List, [], ◌∷◌, ◌++◌, map, length, All, count_by, bytes_eq, codes, Option, Some, None, IfSome, is_some, is_none, option_map, unwrap_or}
 use Rattle.std.specs.List.{list_any}
 use Rattle.core.specs.Ordering.{nat_cmp, ordering_then}
 use Rattle.core.specs.Cmp.Lexicographic.{slice_cmp}
@@ -12,17 +12,20 @@ use Rattle.cm_base.specs.declared.filing.Filed.{Filed}
 use Rattle.cm_base.specs.declared.series.Series.{Series}
 use Rattle.cm_base.specs.declared.series.Label.{Label}
 use Rattle.cm_base.specs.declared.content.Rendition.{Rendition}
+use Rattle.cm_base.specs.declared.user.Group.{Group}
 use Rattle.cm_base.specs.declared.value.Slot.{Slot}
 use Rattle.cm_base.specs.declared.value.Value.{Value}
 use Rattle.cm_base.specs.declared.value.Value.TheVariants.{Unset}
+use Rattle.cm_base.specs.UserLists.{is_reserved_name, is_user_name, all_differ}
 use Rattle.cm_types.specs.declared.definition.TypeDef.{TypeDef}
 use Rattle.cm_types.specs.declared.definition.BaseType.{BaseType}
 use Rattle.cm_types.specs.declared.definition.BaseType.TheVariants as bases
 use Rattle.cm_types.specs.declared.property.PropDef.{PropDef}
-use Rattle.cm_types.specs.Types.{type_in, is_of_base, props_of, chain, longest_chain}
+use Rattle.cm_types.specs.Types.{type_in, is_of_base, is_below, props_of, chain, longest_chain}
 use Rattle.cm_types.specs.Changes.{base_id}
 use Rattle.cm_types.specs.BaseTypes.{base_types}
-use Rattle.cm_types.specs.Properties.{value_in, texts_of, value_fault, is_faulty, def_of}
+use Rattle.cm_types.specs.Properties.{value_in, texts_of, is_faulty, def_of}
+use Rattle.cm_types.specs.Sound.{IsSoundDef}
 use Rattle.cmis_spec.specs.Repository.{Repository, same, root, most_levels, most_steps, most_cost, longest_stream, object_at, series_at, is_a, type_of, entry_of, entry_name, parent_in, last_of}
 use Rattle.cmis_spec.specs.Access.{object_named, rank}
 use Rattle.cmis_spec.specs.Values.{words, texts, form_value}
@@ -202,8 +205,9 @@ HasSizes r = All (λ c. length c.stream.pieces ≤ longest_stream) r.contents
 
 -- ---- types and values
 
+-- the type is there, and each secondary type is below the base type of such types
 abbrev pub IsTyped : List TypeDef → Object → Type 0
-IsTyped types x = (is_some (type_in types x.kind) ≡ true) × All (λ s. is_some (type_in types s) ≡ true) x.secondary
+IsTyped types x = (is_some (type_in types x.kind) ≡ true) × All (λ s. is_below types s (codes "cmis:secondary") ≡ true) x.secondary
 
 abbrev pub HasTyped : Repository → Type 0
 HasTyped r = All (IsTyped r.types) r.objects
@@ -221,6 +225,14 @@ HasBases types = All (λ b. type_in types b.id ≡ Some b) base_types
 abbrev pub IsRooted : List TypeDef → TypeDef → Type 0
 IsRooted types t = option_map (λ b. b.id) (last_of (chain types t.id)) ≡ Some (base_id t.base)
 
+-- the types define a property of one id
+abbrev pub define_one : TypeDef → TypeDef → Bool
+define_one s t = list_any (λ d. list_any (λ e. bytes_eq d.id e.id) t.properties) s.properties
+
+-- a property is defined by one type, or by several base types
+abbrev pub define_apart : TypeDef → TypeDef → Bool
+define_apart s t = bytes_eq s.id t.id || (is_none s.parent && is_none t.parent) || not (define_one s t)
+
 -- type ids and query names are unique, and each chain ends at a base type; types and their properties stand in byte order
 abbrev pub HasTypes : List TypeDef → Type 0
 HasTypes types =
@@ -231,6 +243,7 @@ HasTypes types =
     × All (IsRooted types) types
     × Apart (λ s t. slice_cmp nat_cmp s.id t.id ≡ Less) types
     × All (λ t. Apart (λ d e. slice_cmp nat_cmp d.id e.id ≡ Less) t.properties) types
+    × All (λ s. All (λ t. define_apart s t ≡ true) types) types
 
 -- no other property has this one's id or query name
 abbrev pub Agrees : PropDef → List PropDef → Type 0
@@ -243,9 +256,9 @@ TakesTexts d =
     × (bytes_eq d.id (codes "cmis:secondaryObjectTypeIds") ≡ true → (ts : List (List ℕ)) → is_faulty d (texts ts) ≡ false)
     × (bytes_eq d.id (codes "cmis:checkinComment") ≡ true → (is_faulty d Unset ≡ false) × ((t : List ℕ) → is_faulty d (words t) ≡ false))
 
--- and its default value has no fault of its own
+-- and it is sound
 abbrev pub IsDef : List TypeDef → PropDef → Type 0
-IsDef types d = All (λ t. Agrees d t.properties) types × (value_fault d d.default ≡ None) × TakesTexts d
+IsDef types d = All (λ t. Agrees d t.properties) types × IsSoundDef d × TakesTexts d
 
 abbrev pub HasDefs : List TypeDef → Type 0
 HasDefs types = All (λ t. All (IsDef types) t.properties) types
@@ -257,15 +270,32 @@ IsKept r defs x = All (λ d. is_faulty d (form_value r x d.id) ≡ false) defs
 abbrev pub HasKept : Repository → Type 0
 HasKept r = All (λ x. IsKept r (props_of r.types x.kind x.secondary) x) r.objects
 
--- an object keeps values of its own properties alone
+-- an object keeps values of its own properties alone, each once
 abbrev pub IsOwn : List TypeDef → Object → Slot → Type 0
 IsOwn types x s = is_some (def_of (props_of types x.kind x.secondary) s.id) ≡ true
 
 abbrev pub OwnsValues : List TypeDef → Object → Type 0
-OwnsValues types x = All (IsOwn types x) x.values
+OwnsValues types x = All (IsOwn types x) x.values × Apart (λ s t. bytes_eq s.id t.id ≡ false) x.values
 
 abbrev pub HasOwnValues : Repository → Type 0
 HasOwnValues r = All (OwnsValues r.types) r.objects
+
+-- ---- groups of users
+
+abbrev pub is_user : List (List ℕ) → List ℕ → Bool
+is_user users name = list_any (bytes_eq name) users
+
+-- a group's name is formed like a user's and is none; its members are users, each once, and at least one
+abbrev pub IsGroup : List (List ℕ) → Group → Type 0
+IsGroup users g =
+    (is_user_name g.name && not (is_user users g.name) ≡ true)
+    × All (λ m. not (is_reserved_name m) && is_user users m ≡ true) g.members
+    × (all_differ g.members ≡ true)
+    × (list_any (λ m. true) g.members ≡ true)
+
+-- groups stand in byte order of their names
+abbrev pub HasGroups : List (List ℕ) → List Group → Type 0
+HasGroups users groups = Apart (λ g h. slice_cmp nat_cmp g.name h.name ≡ Less) groups × All (IsGroup users) groups
 
 -- ---- bounds
 
@@ -308,6 +338,7 @@ pub record IsWellFormed (r : Repository) : Type 0 where
   pub defs : HasDefs r.types
   pub kept : HasKept r
   pub own_values : HasOwnValues r
+  pub groups : HasGroups r.users r.groups
   pub bounds : HasBounds r
   pub tokens : HasTokens r
   pub labels : HasLabels r

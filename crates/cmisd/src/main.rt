@@ -1,12 +1,22 @@
 //! The program: it makes the real objects, calls the top call and ends with its status.
 #![tactic(auto)]
 
-use cmis_app::run;
+use cmis_app::{refuse, run};
 use outside::OpenGate;
 use real_edge::{StdSink, StdSource, SystemClock, TcpHost};
 use std::alloc::{AllocError, Global};
 use std::env;
+use std::io;
+use std::io::ErrorKind;
 use std::process::ExitCode;
+
+/// Why there are no words to run.
+enum Unread {
+    /// One of them is not UTF-8, so that they are none of the program's.
+    NotText,
+    /// Memory was wanted.
+    Memory,
+}
 
 // The words behind the program's name.
 fn words_of(alloc: Global, all: env::Args) -> Result<Vec<String>, AllocError> {
@@ -17,16 +27,25 @@ fn words_of(alloc: Global, all: env::Args) -> Result<Vec<String>, AllocError> {
     Ok(words)
 }
 
+fn read_words(alloc: Global, all: io::Result<env::Args>) -> Result<Vec<String>, Unread> {
+    match all {
+        Ok(all) => match words_of(alloc, all) {
+            Ok(words) => Ok(words),
+            Err(_) => Err(Unread::Memory),
+        },
+        Err(failed) => match failed.kind() {
+            ErrorKind::OutOfMemory => Err(Unread::Memory),
+            _ => Err(Unread::NotText),
+        },
+    }
+}
+
 fn main(rt: HostRuntime) -> ExitCode {
     let alloc = rt.alloc();
-    let words = match env::args(&rt) {
-        Ok(all) => words_of(alloc, all),
-        Err(_) => Err(AllocError),
-    };
-    match words {
+    let mut output = StdSink::new(rt.stdout());
+    match read_words(alloc, env::args(&rt)) {
         Ok(words) => {
             let mut input = StdSource::new(rt.stdin());
-            let mut output = StdSink::new(rt.stdout());
             let mut host = TcpHost::new(&rt);
             let mut clock = SystemClock::new(&rt);
             let ran = run(
@@ -41,6 +60,7 @@ fn main(rt: HostRuntime) -> ExitCode {
             );
             ExitCode::from(ran.status)
         }
-        Err(_) => ExitCode::from(7),
+        Err(Unread::NotText) => ExitCode::from(refuse(&mut output)),
+        Err(Unread::Memory) => ExitCode::from(7),
     }
 }

@@ -1,5 +1,5 @@
 //! The lock as a desk.
-ghost use Rattle.std.specs.Prelude.{◌≡◌, ◌∷◌, length, None};
+ghost use Rattle.std.specs.Prelude.{◌≡◌, [], ◌∷◌, length, None};
 ghost use Rattle.desk_lock.specs.Numbers.{most_passes};
 ghost use Rattle.desk_lock.specs.Words.{IsOf, place_of};
 
@@ -55,7 +55,7 @@ impl<'a, R: Wait + 'a, M: Machine + 'a, C: Clock + Drop + 'a> Desk for LockDesk<
 
     ghost words = { λ d. None };
 
-    ghost callers = { λ d. most_passes };
+    ghost aside = { λ d. record { callers = most_passes; stands_for = [] } };
 
     fn moment(&mut self, leave: &mut &'a R) -> Moment {
         self.lock.moment(*leave)

@@ -1,6 +1,7 @@
 //! The lock and its calls.
 ghost use Rattle.std.specs.Prelude.{◌≡◌, ◌+◌, ◌<◌, length, IfOk, IfErr, OnOk, MatchResult};
 ghost use Rattle.std.specs.Arc.{arc_value};
+ghost use Rattle.desk_model.specs.Clocks.{IsOfWord};
 ghost use Rattle.desk_model.specs.Desks.{Wrote, Looked};
 ghost use Rattle.desk_model.specs.Halts.{TellsThird};
 ghost use Rattle.desk_model.specs.Histories.{IsLegal, grown, shown_by, state_of};
@@ -244,7 +245,9 @@ impl<M: Machine, C: Clock + Drop> Lock<M, C> {
     {}
 
     /// The moment of the clock's next word. It takes no memory.
-    pub fn moment<R: Wait>(&self, rt: &R) -> Moment {
+    pub fn moment<R: Wait>(&self, rt: &R) -> Moment
+        ensures { IsOfWord result }
+    {
         moment_of_word(self.clock.lock(rt).now())
     }
 

@@ -10,8 +10,8 @@ use Rattle.desk_model.specs.Single.{Single, single_at, IsOf}
 use Rattle.desk_model.proofs.OwnEntries.{own-mine, own-other, counts-more, prefix-more, prefix-le, below-append, below-weaker, own-new}
 
 -- the pass has seen the whole journal
-pub one-sees : {S C A X : Type 0} (next : S → Entry C → Result (S × A) X) (d : Single S C) (v w : History S C) (k l : Known S C) (b m : ℕ) (words : Option Words)
-    → single_at v b m words ≡ d → IsOf next d k → IsLegal next v.opening v.journal → w ≡ v → l ≡ known_at k.base k.caller w → IsOf next d l
+pub one-sees : {S C A X : Type 0} {names : List ℕ} (next : S → Entry C → Result (S × A) X) (d : Single S C) (v w : History S C) (k l : Known S C) (b m : ℕ) (words : Option Words)
+    → single_at v b m words names ≡ d → IsOf next d k → IsLegal next v.opening v.journal → w ≡ v → l ≡ known_at k.base k.caller w → IsOf next d l
 one-sees next d v w k l b m words is of lawful at knows =
     let o : v.opening ≡ d.opening = ap (λ d. d.opening) is in
     let j : v.journal ≡ d.journal = ap (λ d. d.journal) is in
@@ -32,13 +32,13 @@ one-sees next d v w k l b m words is of lawful at knows =
 pub record OneAdds {S C A X : Type 0} (next : S → Entry C → Result (S × A) X) (d : Single S C) (k : Known S C) (w : History S C) (e : Entry C) (words : Option Words) : Type 0 where
   pub count : length (own k.base k.caller w.journal) ≡ length k.own + 1
   pub knows : known_at k.base k.caller w ≡ with_entry k d.journal e
-  pub of : IsLegal next w.opening w.journal → IsOf next (single_at w d.base d.made words) (known_at k.base k.caller w)
+  pub of : IsLegal next w.opening w.journal → IsOf next (single_at w d.base d.made words d.stands_for) (known_at k.base k.caller w)
   pub begun : d.base ≤ length w.journal
   pub few : CallersBelow d.made (drop d.base w.journal)
-  pub others : (q : Known S C) → q.caller ≢ k.caller → IsOf next d q → IsOf next (single_at w d.base d.made words) q
+  pub others : (q : Known S C) → q.caller ≢ k.caller → IsOf next d q → IsOf next (single_at w d.base d.made words d.stands_for) q
 
-pub one-adds : {S C A X : Type 0} (next : S → Entry C → Result (S × A) X) (v w : History S C) (b m : ℕ) (words : Option Words) (k : Known S C) (e : Entry C)
-    → IsOf next (single_at v b m words) k → w ≡ grown v e → e.caller ≡ k.caller → e.serial ≡ length k.own → OneAdds next (single_at v b m words) k w e words
+pub one-adds : {S C A X : Type 0} {names : List ℕ} (next : S → Entry C → Result (S × A) X) (v w : History S C) (b m : ℕ) (words : Option Words) (k : Known S C) (e : Entry C)
+    → IsOf next (single_at v b m words names) k → w ≡ grown v e → e.caller ≡ k.caller → e.serial ≡ length k.own → OneAdds next (single_at v b m words names) k w e words
 one-adds next v w b m words k e of is caller serial =
     let o : w.opening ≡ v.opening = ap (λ w. w.opening) is in
     let j : w.journal ≡ v.journal ++ e ∷ [] = ap (λ w. w.journal) is in
@@ -78,8 +78,8 @@ one-adds next v w b m words k e of is caller serial =
     }
 
 -- what the accepted write tells
-pub one-wrote : {S C A X : Type 0} (next : S → Entry C → Result (S × A) X) (number : S → ℕ) (v w : History S C) (b m : ℕ) (words : Option Words) (k l : Known S C) (least n : ℕ) (user : List ℕ) (moment : Moment) (call : C) (a : A)
-    → IsOf next (single_at v b m words) k → w ≡ grown v (entry_of k user moment call) → l ≡ known_at k.base k.caller w
+pub one-wrote : {S C A X : Type 0} {names : List ℕ} (next : S → Entry C → Result (S × A) X) (number : S → ℕ) (v w : History S C) (b m : ℕ) (words : Option Words) (k l : Known S C) (least n : ℕ) (user : List ℕ) (moment : Moment) (call : C) (a : A)
+    → IsOf next (single_at v b m words names) k → w ≡ grown v (entry_of k user moment call) → l ≡ known_at k.base k.caller w
     → n ≡ number (state_of next v) → least ≤ n → shown_by (next (state_of next v) (entry_of k user moment call)) ≡ Ok a
     → Wrote next number k least user moment call (Ok a) l
 one-wrote next number v w b m words k l least n user moment call a of is knows num le told =
@@ -87,8 +87,8 @@ one-wrote next number v w b m words k l least n user moment call a of is knows n
     (v.journal, of.seen, knows ∙ adds.knows, rw (of.opening, ← num) le, rw of.opening told)
 
 -- a new pass
-pub one-new : {S C A X : Type 0} (next : S → Entry C → Result (S × A) X) (v w : History S C) (b m : ℕ) (words : Option Words)
-    → IsLegal next v.opening v.journal → b ≤ length v.journal → CallersBelow m (drop b v.journal) → w ≡ v → IsOf next (single_at v b (m + 1) words) (known_at b m w)
+pub one-new : {S C A X : Type 0} {names : List ℕ} (next : S → Entry C → Result (S × A) X) (v w : History S C) (b m : ℕ) (words : Option Words)
+    → IsLegal next v.opening v.journal → b ≤ length v.journal → CallersBelow m (drop b v.journal) → w ≡ v → IsOf next (single_at v b (m + 1) words names) (known_at b m w)
 one-new next v w b m words lawful begun few is = rw is (record {
   opening = refl;
   base = refl;
@@ -101,8 +101,8 @@ one-new next v w b m words lawful begun few is = rw is (record {
 })
 
 -- a pass stays one of the desk when another is made
-pub one-stays : {S C A X : Type 0} (next : S → Entry C → Result (S × A) X) (v : History S C) (b m : ℕ) (words : Option Words) (p : Known S C)
-    → IsOf next (single_at v b m words) p → IsOf next (single_at v b (m + 1) words) p
+pub one-stays : {S C A X : Type 0} {names : List ℕ} (next : S → Entry C → Result (S × A) X) (v : History S C) (b m : ℕ) (words : Option Words) (p : Known S C)
+    → IsOf next (single_at v b m words names) p → IsOf next (single_at v b (m + 1) words names) p
 one-stays next v b m words p of = record {
   opening = of.opening;
   base = of.base;

@@ -15,6 +15,11 @@ pub record Known (S C : Type 0) : Type 0 where
   pub seen : List (Entry C)
   pub own : List (Entry C)
 
+-- what no call of a desk changes: the number below which the callers of its entries are, and the references that it holds, by their ghost names
+pub record KeptByCalls : Type 0 where
+  pub callers : ℕ
+  pub stands_for : List ℕ
+
 -- what the pass n knows that has seen the version v, at a desk that began with b entries
 abbrev pub known_at : {S C : Type 0} → ℕ → ℕ → History S C → Known S C
 known_at b n v = record { opening = v.opening; base = b; caller = n; seen = v.journal; own = own b n v.journal }

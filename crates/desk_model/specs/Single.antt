@@ -6,31 +6,36 @@ use Rattle.desk_model.specs.declared.entry.Entry.{Entry}
 use Rattle.desk_model.specs.declared.machine.Stop.{Stop}
 use Rattle.desk_model.specs.declared.machine.Stop.TheVariants.{Refused, Ahead, Memory}
 use Rattle.desk_model.specs.Histories.{History, own, CallersBelow}
-use Rattle.desk_model.specs.Desks.{Known, IsSound}
+use Rattle.desk_model.specs.Desks.{Known, KeptByCalls, IsSound}
 
--- a desk of one thread: its opening, its journal and the journal's length at the beginning, the number of passes made, and the clock's words
+-- a desk of one thread: its opening, its journal and the journal's length at the beginning, the number of passes made, the clock's words, and the references that the clock holds
 pub record Single (S C : Type 0) : Type 0 where
   pub opening : S
   pub journal : List (Entry C)
   pub base : ℕ
   pub made : ℕ
   pub words : Option Words
+  pub stands_for : List ℕ
 
 -- the desk whose version is v
-abbrev pub single_at : {S C : Type 0} → History S C → ℕ → ℕ → Option Words → Single S C
-single_at v b m words = record { opening = v.opening; journal = v.journal; base = b; made = m; words = words }
+abbrev pub single_at : {S C : Type 0} → History S C → ℕ → ℕ → Option Words → List ℕ → Single S C
+single_at v b m words names = record { opening = v.opening; journal = v.journal; base = b; made = m; words = words; stands_for = names }
 
 -- the desk, after it has made m passes
 abbrev pub with_made : {S C : Type 0} → Single S C → ℕ → Single S C
-with_made d m = record { opening = d.opening; journal = d.journal; base = d.base; made = m; words = d.words }
+with_made d m = record { opening = d.opening; journal = d.journal; base = d.base; made = m; words = d.words; stands_for = d.stands_for }
 
 -- the desk, with another journal
 abbrev pub with_journal : {S C : Type 0} → Single S C → List (Entry C) → Single S C
-with_journal d h = record { opening = d.opening; journal = h; base = d.base; made = d.made; words = d.words }
+with_journal d h = record { opening = d.opening; journal = h; base = d.base; made = d.made; words = d.words; stands_for = d.stands_for }
 
 -- a desk of one thread is alone
 abbrev pub the_place : {S C : Type 0} → Known S C → List ℕ
 the_place p = []
+
+-- what no call of a desk of one thread changes
+abbrev pub kept_by_calls : {S C : Type 0} → Single S C → KeptByCalls
+kept_by_calls d = record { callers = d.made; stands_for = d.stands_for }
 
 -- the pass is one of the desk, and all entries of its number in the desk's journal are its own
 pub record IsOf {S C A X : Type 0} (next : S → Entry C → Result (S × A) X) (d : Single S C) (p : Known S C) : Type 0 where

@@ -1,9 +1,9 @@
 //! Desks: where writes are made one after the other, and looked at.
 ghost use Rattle.std.specs.Prelude.{◌≡◌, ◌≢◌, ℕ, List, Option, Some, IfSome, MatchResult, Result, drop};
 ghost use Rattle.outside.specs.Clocks.{Words, first_word, rest_words};
-ghost use Rattle.desk_model.specs.Clocks.{moment_of};
+ghost use Rattle.desk_model.specs.Clocks.{moment_of, IsOfWord};
 ghost use Rattle.desk_model.specs.Histories.{CallersBelow};
-ghost use Rattle.desk_model.specs.Desks.{Known, IsSound, Wrote, Looked};
+ghost use Rattle.desk_model.specs.Desks.{Known, KeptByCalls, IsSound, Wrote, Looked};
 
 use crate::machine::{Machine, Stop};
 use crate::snapshot::Snapshot;
@@ -31,13 +31,14 @@ pub trait Desk {
     /// The words of the clock that are still to come, where the desk tells them.
     ghost words: { Self → Option Words };
 
-    /// The callers of the entries that a pass sees past its base are below this number.
-    ghost callers: { Self → ℕ };
+    /// What no call changes: the number below which all callers of entries past a pass's base are, and the references that the desk holds, by their ghost names.
+    ghost aside: { Self → KeptByCalls };
 
-    /// The moment of the clock's next word. No other call takes one.
+    /// The moment of the clock's next word; at a desk that tells no words it is that of some word. No other call takes one.
     fn moment(&mut self, leave: &mut Self::Leave) -> Moment
+        ensures of_word { IsOfWord result }
         ensures word { IfSome (words self.old) (λ w. (result ≡ moment_of (first_word w)) × (words self.new ≡ Some (rest_words w))) }
-        ensures callers { callers self.new ≡ callers self.old }
+        ensures aside { aside self.new ≡ aside self.old }
         ensures passes { (p : Self.Pass) → is_of self.old p → is_of self.new p };
 
     /// Makes a write at the end of the journal, unless the least number that it asks for is ahead there.
@@ -56,7 +57,7 @@ pub trait Desk {
         ensures words { words self.new ≡ words self.old }
         ensures is_of { is_of self.new pass.new }
         ensures place { place pass.new ≡ place pass.old }
-        ensures callers { callers self.new ≡ callers self.old }
+        ensures aside { aside self.new ≡ aside self.old }
         ensures passes { (p : Self.Pass) → (known p).caller ≢ (known pass.old).caller → is_of self.old p → is_of self.new p };
 
     /// A version whose journal begins with all that the pass had seen.
@@ -70,7 +71,7 @@ pub trait Desk {
         ensures words { words self.new ≡ words self.old }
         ensures is_of { is_of self.new pass.new }
         ensures place { place pass.new ≡ place pass.old }
-        ensures callers { callers self.new ≡ callers self.old }
+        ensures aside { aside self.new ≡ aside self.old }
         ensures passes { (p : Self.Pass) → is_of self.old p → is_of self.new p };
 
     /// The pass's number. It takes no memory.
@@ -79,7 +80,7 @@ pub trait Desk {
         ensures { result ≡ (known pass.now).caller };
 
     /// The callers of what a pass of the desk sees past its base.
-    ghost below: { (d : Self) (p : Self.Pass) → is_of d p → CallersBelow (callers d) (drop (known p).base (known p).seen) };
+    ghost below: { (d : Self) (p : Self.Pass) → is_of d p → CallersBelow (aside d).callers (drop (known p).base (known p).seen) };
 
     /// Each pass of a desk is sound.
     ghost sound: { (d : Self) (p : Self.Pass) → is_of d p → IsSound Self.Kind.next (known p) };

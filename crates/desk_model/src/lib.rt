@@ -7,6 +7,7 @@ mod desk;
 mod entry;
 mod machine;
 mod one;
+mod shared;
 mod snapshot;
 #[cfg(test)]
 mod tests;
@@ -17,5 +18,6 @@ pub use desk::Desk;
 pub use entry::Entry;
 pub use machine::{Halt, Machine, Stop};
 pub use one::{OneDesk, OnePass};
+pub use shared::versions_are_shared;
 pub use snapshot::Snapshot;
 pub use version::Version;

@@ -4,7 +4,7 @@ ghost use Rattle.std.specs.Arc.{arc_value};
 ghost use Rattle.desk_model.specs.Histories.{History, own, IsLegal, grown, shown_by, state_of};
 ghost use Rattle.desk_model.specs.Desks.{Known, known_at, entry_of, Wrote, Looked};
 ghost use Rattle.desk_model.specs.Halts.{TellsThird};
-ghost use Rattle.desk_model.specs.Single.{Single, IsOf, Kept, the_place, with_made};
+ghost use Rattle.desk_model.specs.Single.{Single, IsOf, Kept, the_place, kept_by_calls, with_made};
 
 use crate::clock::moment_of_word;
 use crate::desk::Desk;
@@ -98,7 +98,7 @@ impl<M: Machine, C: Clock> Model for OneDesk<M, C> {
 
     ghost Value = { Single M.State M.Call };
 
-    ghost view = { λ d. single_at (arc_value d.version) d.base d.made (C.words d.clock) };
+    ghost view = { λ d. single_at (arc_value d.version) d.base d.made (C.words d.clock) (C.stands_for d.clock) };
 
     ghost invariant = { λ d. (d.base ≤ length (arc_value d.version).journal) × CallersBelow d.made (drop d.base (arc_value d.version).journal) };
 }
@@ -106,7 +106,7 @@ impl<M: Machine, C: Clock> Model for OneDesk<M, C> {
 impl<M: Machine, C: Clock + Drop> OneDesk<M, C> {
     /// A desk that begins with a version. No pass was made.
     pub fn new(alloc: Global, version: Version<M>, clock: C) -> Result<OneDesk<M, C>, AllocError>
-        ensures { IfOk result (λ d. d ≡ record { opening = version.opening; journal = version.journal; base = length version.journal; made = 0; words = C.words clock }) }
+        ensures { IfOk result (λ d. d ≡ record { opening = version.opening; journal = version.journal; base = length version.journal; made = 0; words = C.words clock; stands_for = C.stands_for clock }) }
     {
         let base = version.len();
         let version = Arc::new(alloc, version)?;
@@ -137,6 +137,21 @@ impl<M: Machine, C: Clock + Drop> OneDesk<M, C> {
             seen,
         })
     }
+
+    /// Its last version, and its clock. It takes no memory.
+    pub fn close(self) -> (Snapshot<M>, C)
+        ensures last { result.0 ≡ record { opening = self.opening; journal = self.journal } }
+        ensures words { C.words result.1 ≡ self.words }
+        ensures stands_for { C.stands_for result.1 ≡ self.stands_for }
+    {
+        let OneDesk {
+            base: _,
+            made: _,
+            version,
+            clock,
+        } = self;
+        (Snapshot { version }, clock)
+    }
 }
 
 impl<M: Machine, C: Clock> Desk for OneDesk<M, C> {
@@ -154,7 +169,7 @@ impl<M: Machine, C: Clock> Desk for OneDesk<M, C> {
 
     ghost words = { λ d. d.words };
 
-    ghost callers = { λ d. d.made };
+    ghost aside = { kept_by_calls };
 
     fn moment(&mut self, _leave: &mut ()) -> Moment {
         moment_of_word(self.clock.now())
@@ -176,7 +191,7 @@ impl<M: Machine, C: Clock> Desk for OneDesk<M, C> {
         ensures words { self.new.words ≡ self.old.words }
         ensures is_of { IsOf M.next self.new pass.new }
         ensures place { the_place pass.new ≡ the_place pass.old }
-        ensures callers { self.new.made ≡ self.old.made }
+        ensures aside { kept_by_calls self.new ≡ kept_by_calls self.old }
         ensures passes { (p : Known M.State M.Call) → p.caller ≢ pass.old.caller → IsOf M.next self.old p → IsOf M.next self.new p }
     {
         self.version.lawful();
@@ -213,7 +228,7 @@ impl<M: Machine, C: Clock> Desk for OneDesk<M, C> {
         ensures words { self.new.words ≡ self.old.words }
         ensures is_of { IsOf M.next self.new pass.new }
         ensures place { the_place pass.new ≡ the_place pass.old }
-        ensures callers { self.new.made ≡ self.old.made }
+        ensures aside { kept_by_calls self.new ≡ kept_by_calls self.old }
         ensures passes { (p : Known M.State M.Call) → IsOf M.next self.old p → IsOf M.next self.new p }
     {
         let version = Arc::try_clone(&self.version)?;

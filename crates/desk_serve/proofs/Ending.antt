@@ -19,7 +19,7 @@ use Rattle.desk_serve.specs.declared.ended.Ended.{Ended}
 use Rattle.desk_serve.specs.Sessions.{Terms, Taken, EndsFor, IsServed, Closed, setting_of, number_of, is_at}
 use Rattle.desk_serve.specs.declared.ended.HostEnd.{HostEnd}
 use Rattle.outside.specs.Hosts.{HostTold}
-use Rattle.desk_serve.specs.Keeping.{IsNoted, IsFresh, Keeps, IsDone, IsStopped, IsOverAll, count}
+use Rattle.desk_serve.specs.Keeping.{IsNoted, IsFresh, Keeps, KeepsWith, IsDone, IsStopped, IsOverAll, and_at}
 use Rattle.desk_serve.proofs.Lists.{prefix_trans, begin_longer, get_left, get_mid, at_append, names_append}
 use Rattle.desk_serve.proofs.Noting.{kept_note}
 
@@ -100,12 +100,12 @@ module _ {S C Q L : Type 0} (t : Terms S C Q L) (l : LockView S C) (stands : Sta
       }
 
 module _ {S C Q L : Type 0} (t : Terms S C Q L) (l : LockView S C) where
-  all_places : (ended : List (Ended L)) (n : ℕ) → length ended + 0 ≡ n → ((place : ℕ) → count_by (is_at place) ended + count place [] ≡ (if nat_lt place n then 1 else 0)) → (place : ℕ) → count_by (is_at place) ended ≡ (if nat_lt place (length ended) then 1 else 0)
-  all_places ended n total places place = (let z : count place [] ≡ 0 = refl in let a : count_by (is_at place) ended ≡ count_by (is_at place) ended + count place [] = omega arith in a) ∙ (places place ∙ ap (λ (m : ℕ). if nat_lt place m then 1 else 0) (let e : n ≡ length ended = omega arith in e))
+  all_places : (ended : List (Ended L)) (held : ℕ → ℕ) (n : ℕ) → ((k : ℕ) → held k ≡ 0) → length ended + 0 ≡ n → ((place : ℕ) → count_by (is_at place) ended + held place ≡ (if nat_lt place n then 1 else 0)) → (place : ℕ) → count_by (is_at place) ended ≡ (if nat_lt place (length ended) then 1 else 0)
+  all_places ended held n none total places place = (let z = none place in let a : count_by (is_at place) ended ≡ count_by (is_at place) ended + held place = omega arith in a) ∙ (places place ∙ ap (λ (m : ℕ). if nat_lt place m then 1 else 0) (let e : n ≡ length ended = omega arith in e))
 
   -- every pass got a link
-  pub done : (p : PassView S C) (ended : List (Ended L)) (n : ℕ) → Keeps t l p ended [] 0 n → IsDone t l p ended
-  done p ended n k = record {
+  pub done : (p : PassView S C) (ended : List (Ended L)) (held : ℕ → ℕ) (n : ℕ) → ((k : ℕ) → held k ≡ 0) → Keeps t l p ended held 0 0 n → IsDone t l p ended
+  done p ended held n none k = record {
     empty = k.empty;
     is_of = k.is_of;
     idle = k.idle;
@@ -114,7 +114,7 @@ module _ {S C Q L : Type 0} (t : Terms S C Q L) (l : LockView S C) where
     numbers = sym k.numbers ∙ sym (append-nil (map number_of ended));
     resting = (λ n i. absurd (some-ne-none n (sym i.1)));
     noted = k.noted;
-    places = all_places ended n k.total k.places;
+    places = all_places ended held n none k.total k.places;
   }
 
   only : (m n : ℕ) (k : ℕ) → get_elem? (m ∷ []) k ≡ some n → m ≡ n
@@ -122,8 +122,8 @@ module _ {S C Q L : Type 0} (t : Terms S C Q L) (l : LockView S C) where
   only m n (suc k) e = absurd (some-ne-none n (sym e))
 
   -- the pass that got none was retired
-  pub done_with : (p r q : PassView S C) (ended : List (Ended L)) (n : ℕ) → Keeps t l p ended [] 1 n → IsFresh t l r → IsOf t.kind.next l q → Retired p r q → IsDone t l q ended
-  done_with p r q ended n k fresh of_ retired =
+  pub done_with : (p r q : PassView S C) (ended : List (Ended L)) (held : ℕ → ℕ) (n : ℕ) → ((k : ℕ) → held k ≡ 0) → Keeps t l p ended held 0 1 n → IsFresh t.kind.next l r → IsOf t.kind.next l q → Retired p r q → IsDone t l q ended
+  done_with p r q ended held n none k fresh of_ retired =
       let same = retired.1 in
       let ends : q.ended ≡ p.ended ++ (r.known.caller, []) ∷ [] = ap (λ (y : PassView S C). y.ended) same ∙ ap (λ (y : List (Entry C) × List (ℕ × List (Entry C))). p.ended ++ (r.known.caller, y.0) ∷ y.1) (λ i. (fresh.own i, fresh.ended i)) in
       let seen : q.known.seen ≡ longer p.known.seen r.known.seen = ap (λ (y : PassView S C). y.known.seen) same in
@@ -137,7 +137,7 @@ module _ {S C Q L : Type 0} (t : Terms S C Q L) (l : LockView S C) where
         numbers = ap names ends ∙ (names_append p.ended ((r.known.caller, []) ∷ []) ∙ ap (λ e. e ++ r.known.caller ∷ []) (sym k.numbers));
         resting = (λ n i. (length p.ended, ap (λ e. get_elem? e (length p.ended)) ends ∙ (get_mid p.ended [] (r.known.caller, []) ∙ ap (λ (m : ℕ). some (m, [])) (only r.known.caller n i.0 i.1))));
         noted = All-weaker (IsNoted t p) (IsNoted t q) (kept_note t p q ((r.known.caller, []) ∷ []) (ap (λ (y : PassView S C). y.known.opening) same) grows ends) ended k.noted;
-        places = all_places ended n k.total k.places;
+        places = all_places ended held n none k.total k.places;
       }
 
   over_all : (p q : PassView S C) (ended : List (Ended L)) (host host' : HostTold) (left' : Option (List L)) (end : HostEnd) (n : ℕ) → length ended ≡ n → IsDone t l q ended → Taken host t.links host' left' n → EndsFor host host' left' n end → IsOverAll t l q ended host host' left' end
@@ -148,11 +148,22 @@ module _ {S C Q L : Type 0} (t : Terms S C Q L) (l : LockView S C) where
   }
 
   -- every pass got a link
-  pub over : (p : PassView S C) (ended : List (Ended L)) (host host' : HostTold) (left' : Option (List L)) (end : HostEnd) → IsStopped t l p ended [] host host' left' None end → IsOverAll t l p ended host host' left' end
-  over p ended host host' left' end s = let total : length ended ≡ s.n = (let m = s.keeps.total in omega arith) in
-      over_all p p ended host host' left' end s.n total (done p ended s.n s.keeps) s.taken s.ends
+  pub over : (p : PassView S C) (ended : List (Ended L)) (held : ℕ → ℕ) (host host' : HostTold) (left' : Option (List L)) (end : HostEnd) → ((k : ℕ) → held k ≡ 0) → IsStopped t l p ended held 0 host host' left' None end → IsOverAll t l p ended host host' left' end
+  over p ended held host host' left' end none s = let total : length ended ≡ s.n = (let m = s.keeps.total in omega arith) in
+      over_all p p ended host host' left' end s.n total (done p ended held s.n none s.keeps) s.taken s.ends
 
   -- the pass that got none was taken in
-  pub over_with : (p r q : PassView S C) (ended : List (Ended L)) (host host' : HostTold) (left' : Option (List L)) (end : HostEnd) → IsStopped t l p ended [] host host' left' (Some r) end → IsOf t.kind.next l q → Retired p r q → IsOverAll t l q ended host host' left' end
-  over_with p r q ended host host' left' end s of_ retired = let k = s.keeps.0 in let total : length ended ≡ s.n = (let m = k.total in omega arith) in
-      over_all p q ended host host' left' end s.n total (done_with p r q ended s.n k s.keeps.1 of_ retired) s.taken s.ends
+  pub over_with : (p r q : PassView S C) (ended : List (Ended L)) (held : ℕ → ℕ) (host host' : HostTold) (left' : Option (List L)) (end : HostEnd) → ((k : ℕ) → held k ≡ 0) → IsStopped t l p ended held 0 host host' left' (Some r) end → IsOf t.kind.next l q → Retired p r q → IsOverAll t l q ended host host' left' end
+  over_with p r q ended held host host' left' end none s of_ retired = let k = s.keeps.0 in let total : length ended ≡ s.n = (let m = k.total in omega arith) in
+      over_all p q ended host host' left' end s.n total (done_with p r q ended held s.n none k s.keeps.1 of_ retired) s.taken s.ends
+
+  -- a session more has ended, and the pass that got no link is still out
+  pub fewer : (p q : PassView S C) (ended ended' : List (Ended L)) (held held' : ℕ → ℕ) (running running' : ℕ) (host host' : HostTold) (left' : Option (List L)) (spare : Option (PassView S C)) (end : HostEnd)
+      → ((spare n : ℕ) → Keeps t l p ended held running spare n → Keeps t l q ended' held' running' spare n) → IsStopped t l p ended held running host host' left' spare end → IsStopped t l q ended' held' running' host host' left' spare end
+  fewer p q ended ended' held held' running running' host host' left' None end step s = record { n = s.n; taken = s.taken; ends = s.ends; keeps = step 0 s.n s.keeps }
+  fewer p q ended ended' held held' running running' host host' left' (Some r) end step s = record { n = s.n; taken = s.taken; ends = s.ends; keeps = (step 1 s.n s.keeps.0, s.keeps.1) }
+
+  -- whose pass it is, whoever has got a link
+  pub own_pass : (p : PassView S C) (ended : List (Ended L)) (held : ℕ → ℕ) (running : ℕ) (host host' : HostTold) (left' : Option (List L)) (spare : Option (PassView S C)) (end : HostEnd) → IsStopped t l p ended held running host host' left' spare end → IsOf t.kind.next l p
+  own_pass p ended held running host host' left' None end s = s.keeps.is_of
+  own_pass p ended held running host host' left' (Some r) end s = s.keeps.0.is_of

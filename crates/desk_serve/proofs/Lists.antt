@@ -1,9 +1,9 @@
 -- Prefixes, places in lists, and counts.
-use Rattle.std.proofs.Common.{◌≡◌, ℕ, zero, suc, ◌<◌, ◌≤◌, ◌+◌, Bool, true, false, cond, List, [], ◌∷◌, ◌++◌, length, map, refl, ap, sym, ◌∙◌, subst, ◌⊎◌, inl, inr, ⊎_elim, arith, append_assoc, append-nil, if◌then◌else◌, nat_lt, ◌==◌, Option, Some, None, All, drop}
+use Rattle.std.proofs.Common.{◌≡◌, ℕ, zero, suc, ◌<◌, ◌≤◌, ◌+◌, Bool, true, false, cond, List, [], ◌∷◌, ◌++◌, length, map, refl, ap, sym, ◌∙◌, subst, ◌⊎◌, inl, inr, ⊎_elim, arith, append_assoc, append-nil, if◌then◌else◌, nat_lt, ◌==◌, Option, Some, None, All, drop, get_or, slice_index_or}
 use Rattle.std.proofs.lemmas.List.{length-append}
-use Rattle.std.proofs.lemmas.List.Sums.{sum_by_push, sum_by-cons}
+use Rattle.std.proofs.lemmas.List.Sums.{sum_by_push, sum_by-swap_remove}
 use Rattle.std.proofs.lemmas.Bool.Decides.{nat_tests}
-use Rattle.std.specs.List.{count_by}
+use Rattle.std.specs.List.{count_by, swap_remove}
 use mathlib.Core.Option.{some, some-ne-none}
 use mathlib.Core.List.{IsPrefix}
 use lib.ListN.{get_elem?}
@@ -13,7 +13,7 @@ use Rattle.desk_lock.specs.Seats.{longer}
 use Rattle.outside.specs.Hosts.{Gives}
 use Rattle.desk_serve.specs.declared.ended.Ended.{Ended}
 use Rattle.desk_serve.specs.Sessions.{IsGiven, HasLeft, is_at}
-use Rattle.desk_serve.specs.Keeping.{count}
+use Rattle.desk_serve.specs.Keeping.{held_by, and_at}
 
 module _ {X : Type 0} where
   pub prefix_trans : (a b c : List X) → IsPrefix a b → IsPrefix b c → IsPrefix a c
@@ -58,9 +58,29 @@ module _ {C : Type 0} where
   names_append [] b = refl
   names_append (x ∷ a) b = ap (λ z. x.0 ∷ z) (names_append a b)
 
--- one more at a place
-pub count_first : (k place : ℕ) (out : List ℕ) → count k (place ∷ out) ≡ cond (place == k) 1 0 + count k out
-count_first k place out = sum_by-cons (λ n. cond (n == k) 1 0) place out
+-- one more row, at the end
+pub held_push : {X : Type 0} (place_of : X → ℕ) (rows : List X) (row : X) (k : ℕ) → held_by place_of (rows ++ row ∷ []) k ≡ and_at (place_of row) (held_by place_of rows) k
+held_push place_of rows row k = (let a = sum_by_push (λ r. cond (place_of r == k) 1 0) rows row in omega arith)
+
+-- one row less
+pub held_less : {X : Type 0} (place_of : X → ℕ) (rows : List X) (i : ℕ) (row : X) → i < length rows → row ≡ slice_index_or rows i row → (k : ℕ) → and_at (place_of row) (held_by place_of (swap_remove rows i row)) k ≡ held_by place_of rows k
+held_less place_of rows i row below is k =
+    let a = sum_by-swap_remove (λ r. cond (place_of r == k) 1 0) rows i row below in
+    let b : ◌≡◌ {A = ℕ} (cond {A = ℕ} (place_of row == k) 1 0) (cond {A = ℕ} (place_of (get_or rows i row) == k) 1 0) = ap (λ r. cond {A = ℕ} (place_of r == k) 1 0) is in
+    omega arith
+
+pub held_removed : {X : Type 0} (place_of : X → ℕ) (rows rest : List X) (i : ℕ) (row : X) → i < length rows → row ≡ slice_index_or rows i row → rest ≡ swap_remove rows i row → (k : ℕ) → and_at (place_of row) (held_by place_of rest) k ≡ held_by place_of rows k
+held_removed {X} place_of rows rest i row below is rests k = ap (λ (xs : List X). and_at (place_of row) (held_by place_of xs) k) rests ∙ held_less place_of rows i row below is k
+
+pub held_popped : {X : Type 0} (place_of : X → ℕ) (rows rest : List X) (row : X) → rows ≡ rest ++ row ∷ [] → (k : ℕ) → and_at (place_of row) (held_by place_of rest) k ≡ held_by place_of rows k
+held_popped {X} place_of rows rest row is k = sym (ap (λ (xs : List X). held_by place_of xs k) is ∙ held_push place_of rest row k)
+
+pub held_pushed : {X : Type 0} (place_of : X → ℕ) (rows rows' : List X) (row : X) → rows' ≡ rows ++ row ∷ [] → (k : ℕ) → held_by place_of rows' k ≡ and_at (place_of row) (held_by place_of rows) k
+held_pushed {X} place_of rows rows' row is k = ap (λ (xs : List X). held_by place_of xs k) is ∙ held_push place_of rows row k
+
+pub held_none : {X : Type 0} (place_of : X → ℕ) (rows : List X) → length rows ≡ 0 → (k : ℕ) → held_by place_of rows k ≡ 0
+held_none place_of [] e k = refl
+held_none place_of (x ∷ rows) e k = absurd (omega arith)
 
 pub count_ended : {L : Type 0} (k : ℕ) (ended : List (Ended L)) (x : Ended L) → count_by (is_at k) (ended ++ x ∷ []) ≡ count_by (is_at k) ended + cond (x.place == k) 1 0
 count_ended k ended x = sum_by_push (λ y. cond (is_at k y) 1 0) ended x

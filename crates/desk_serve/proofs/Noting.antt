@@ -1,23 +1,26 @@
 -- The calling thread's pass makes others, and takes in those of sessions that are over.
-use Rattle.std.proofs.Common.{◌≡◌, ℕ, ◌≤◌, ◌+◌, ◌==◌, cond, List, [], ◌∷◌, ◌++◌, length, map, refl, ap, sym, ◌∙◌, subst, arith, append-nil, if◌then◌else◌, nat_lt, All}
-use Rattle.std.proofs.lemmas.List.{length-append, map-append}
+use Rattle.std.proofs.Common.{◌≡◌, ℕ, suc, ◌<◌, ◌≤◌, ◌+◌, ◌==◌, cond, List, [], ◌∷◌, ◌++◌, length, map, refl, ap, sym, ◌∙◌, subst, arith, append-nil, if◌then◌else◌, nat_lt, All, None}
+use Rattle.std.proofs.lemmas.List.{length-append, length-map, map-append}
 use Rattle.std.proofs.lemmas.List.Elements.{All-push, All-weaker, All-nil}
 use Rattle.std.specs.List.{count_by}
 use mathlib.Core.Option.{some}
 use mathlib.Core.List.{IsPrefix}
 use lib.ListN.{get_elem?}
+use Rattle.cm_base.specs.declared.user.User.{User}
 use Rattle.desk_model.specs.declared.entry.Entry.{Entry}
 use Rattle.desk_model.specs.Histories.{own}
 use Rattle.desk_model.specs.Desks.{Known}
-use Rattle.desk_lock.specs.Numbers.{names}
+use Rattle.desk_lock.specs.Numbers.{names, most_passes}
 use Rattle.desk_lock.specs.Seats.{longer}
 use Rattle.desk_lock.specs.Words.{LockView, PassView, IsOf, Retired, with_one_more, made_by, first_pass}
+use Rattle.talk.specs.declared.end.End.{End}
 use Rattle.talk.specs.Session.{Setting, Session}
 use Rattle.talk.specs.Talked.{rose}
 use Rattle.desk_serve.specs.declared.ended.Ended.{Ended}
-use Rattle.desk_serve.specs.Sessions.{Terms, IsServed, setting_of, number_of, is_at}
-use Rattle.desk_serve.specs.Keeping.{IsHeld, IsNoted, IsFresh, Keeps, count}
-use Rattle.desk_serve.proofs.Lists.{prefix_trans, prefix_length, begin_longer, get_left, get_mid, names_append, count_first, count_ended, one_more, none_below}
+use Rattle.outside.specs.Hosts.{IsNew}
+use Rattle.desk_serve.specs.Sessions.{Terms, IsGiven, IsServed, setting_of, number_of, is_at, most_links}
+use Rattle.desk_serve.specs.Keeping.{IsHeld, IsNoted, IsFresh, Keeps, Runs, IsOver, IsReady, without_links, and_at}
+use Rattle.desk_serve.proofs.Lists.{prefix_trans, prefix_length, begin_longer, get_left, get_mid, names_append, count_ended, one_more, none_below}
 
 module _ {S C Q L : Type 0} (t : Terms S C Q L) where
   -- what is noted stays so as the pass sees more and takes in more
@@ -56,10 +59,10 @@ module _ {S C Q L : Type 0} (t : Terms S C Q L) (l : LockView S C) where
             (λ i. record { opening = opening i; users = t.users; number = caller i; before = sym h.before_is i }) said.session);
       }
 
-  pub noted_one : (p r q : PassView S C) (ended ended' : List (Ended L)) (x : Ended L) (out : List ℕ) (spare n : ℕ)
+  pub noted_one : (p r q : PassView S C) (ended ended' : List (Ended L)) (x : Ended L) (held : ℕ → ℕ) (running spare n : ℕ)
       → IsHeld t l x.place x.before r x.link x.outcome → x.number ≡ r.known.caller → x.after ≡ length r.known.seen
-      → IsOf t.kind.next l q → Retired p r q → ended' ≡ ended ++ x ∷ [] → Keeps t l p ended (x.place ∷ out) spare n → Keeps t l q ended' out spare n
-  noted_one p r q ended ended' x out spare n h number after of_ retired is k =
+      → IsOf t.kind.next l q → Retired p r q → ended' ≡ ended ++ x ∷ [] → Keeps t l p ended (and_at x.place held) (running + 1) spare n → Keeps t l q ended' held running spare n
+  noted_one p r q ended ended' x held running spare n h number after of_ retired is k =
       let same = retired.1 in
       let ends : q.ended ≡ p.ended ++ (r.known.caller, r.known.own) ∷ [] = ap (λ (y : PassView S C). y.ended) same ∙ ap (λ e. p.ended ++ (r.known.caller, r.known.own) ∷ e) h.over.ended in
       let seen : q.known.seen ≡ longer p.known.seen r.known.seen = ap (λ (y : PassView S C). y.known.seen) same in
@@ -85,13 +88,13 @@ module _ {S C Q L : Type 0} (t : Terms S C Q L) (l : LockView S C) where
         numbers = ap (map number_of) is ∙ (map-append number_of ended (x ∷ []) ∙ (ap (λ e. e ++ x.number ∷ []) k.numbers ∙ (ap (λ (m : ℕ). names p.ended ++ m ∷ []) number ∙ (sym (names_append p.ended ((r.known.caller, r.known.own) ∷ [])) ∙ ap names (sym ends)))));
         noted = subst (All (IsNoted t q)) (sym is) (All-push (IsNoted t q) ended x (kept_notes t p q ((r.known.caller, r.known.own) ∷ []) ended opens grows ends k.noted) one);
         total = (let a = ap length is in let m = k.total in omega (arith, length-append ended (x ∷ [])));
-        places = λ place. (let a = ap (count_by (is_at place)) is ∙ count_ended place ended x in let b = count_first place x.place out in let m = k.places place in
+        places = λ place. (let a = ap (count_by (is_at place)) is ∙ count_ended place ended x in let m = k.places place in
             sym (omega arith) ∙ m);
       }
 
   -- the pass has made another
-  pub split_one : (p q : PassView S C) (ended : List (Ended L)) (out : List ℕ) (spare n : ℕ) → Keeps t l p ended out spare n → IsOf t.kind.next l q → q ≡ with_one_more p → Keeps t l q ended out (spare + 1) n
-  split_one p q ended out spare n k of_ same = record {
+  pub split_one : (p q : PassView S C) (ended : List (Ended L)) (held : ℕ → ℕ) (running spare n : ℕ) → Keeps t l p ended held running spare n → IsOf t.kind.next l q → q ≡ with_one_more p → Keeps t l q ended held running (spare + 1) n
+  split_one p q ended held running spare n k of_ same = record {
     empty = k.empty;
     is_of = of_;
     idle = ap (λ (y : PassView S C). y.known.own) same ∙ k.idle;
@@ -102,12 +105,22 @@ module _ {S C Q L : Type 0} (t : Terms S C Q L) (l : LockView S C) where
     places = k.places;
   }
 
-  pub fresh_one : (p q : PassView S C) → l.version.journal ≡ [] → IsOf t.kind.next l q → q ≡ made_by p → IsFresh t l q
+  length_names : (es : List (ℕ × List (Entry C))) → length (names es) ≡ length es
+  length_names [] = refl
+  length_names (x ∷ es) = ap suc (length_names es)
+
+  -- more passes can be made than links are taken
+  pub never_many : (p : PassView S C) (ended : List (Ended L)) (held : ℕ → ℕ) (running n : ℕ) → Keeps t l p ended held running 0 n → n < most_links → p.made ≡ most_passes → ⊥
+  unfolding most_links most_passes
+  never_many p ended held running n k fewer many =
+      let m = k.made in let a = k.total in let b = ap length k.numbers in omega (arith, length-map ended number_of, length_names p.ended)
+
+  pub fresh_one : (p q : PassView S C) → l.version.journal ≡ [] → IsOf t.kind.next l q → q ≡ made_by p → IsFresh t.kind.next l q
   fresh_one p q empty of_ same = record { empty = empty; is_of = of_; made = ap (λ (y : PassView S C). y.made) same; ended = ap (λ (y : PassView S C). y.ended) same; own = ap (λ (y : PassView S C). y.known.own) same }
 
   -- the pass without a link gets the next one
-  pub takes_one : (p : PassView S C) (ended : List (Ended L)) (out : List ℕ) (n : ℕ) → Keeps t l p ended out 1 n → Keeps t l p ended (n ∷ out) 0 (n + 1)
-  takes_one p ended out n k = record {
+  pub takes_one : (p : PassView S C) (ended : List (Ended L)) (held : ℕ → ℕ) (running n : ℕ) → Keeps t l p ended held running 1 n → Keeps t l p ended (and_at n held) (running + 1) 0 (n + 1)
+  takes_one p ended held running n k = record {
     empty = k.empty;
     is_of = k.is_of;
     idle = k.idle;
@@ -115,11 +128,11 @@ module _ {S C Q L : Type 0} (t : Terms S C Q L) (l : LockView S C) where
     numbers = k.numbers;
     noted = k.noted;
     total = (let m = k.total in omega arith);
-    places = λ place. (let b = count_first place n out in let m = k.places place in let e = one_more place n in sym (omega arith) ∙ e);
+    places = λ place. (let m = k.places place in let e = one_more place n in sym (omega arith) ∙ e);
   }
 
-  pub begins : (p : PassView S C) → l.version.journal ≡ [] → IsOf t.kind.next l p → p ≡ first_pass l → Keeps t l p [] [] 0 0
-  begins p empty of_ same = record {
+  pub begins : (p : PassView S C) → l.version.journal ≡ [] → IsOf t.kind.next l p → p ≡ first_pass l → (held : ℕ → ℕ) → ((k : ℕ) → held k ≡ 0) → Keeps t l p [] held 0 0 0
+  begins p empty of_ same held none = record {
     empty = empty;
     is_of = of_;
     idle = ap (λ (y : PassView S C). y.known.own) same;
@@ -127,5 +140,42 @@ module _ {S C Q L : Type 0} (t : Terms S C Q L) (l : LockView S C) where
     numbers = ap (λ (y : PassView S C). names y.ended) (sym same);
     noted = All-nil (IsNoted t p);
     total = refl;
-    places = λ place. none_below place;
+    places = λ place. (let z = none place in let a : ◌≡◌ {A = ℕ} (0 + held place) 0 = omega (arith, z) in a) ∙ none_below place;
+  }
+
+  -- the same sessions run, counted in another way
+  pub moved : (p : PassView S C) (ended : List (Ended L)) (held held' : ℕ → ℕ) (running running' spare n : ℕ) → ((k : ℕ) → held' k ≡ held k) → running' ≡ running → Keeps t l p ended held running spare n → Keeps t l p ended held' running' spare n
+  moved p ended held held' running running' spare n same count k = record {
+    empty = k.empty;
+    is_of = k.is_of;
+    idle = k.idle;
+    made = (let m = k.made in omega arith);
+    numbers = k.numbers;
+    noted = k.noted;
+    total = (let m = k.total in omega arith);
+    places = λ place. (let e = same place in let a : count_by (is_at place) ended + held' place ≡ count_by (is_at place) ended + held place = omega arith in a) ∙ k.places place;
+  }
+
+  -- what a thread gives back was held
+  pub held_of : (l' : LockView S C) (users' : List User) (pass : PassView S C) (from : L) (place before : ℕ) (r : PassView S C) (link : L) (outcome : End) → Runs t l l' users' pass from place before
+      → IsOver (record { kind = t.kind; source = t.source; sink = t.sink; users = users'; links = None }) l' pass from r link outcome → IsHeld t l place before r link outcome
+  held_of l' users' pass from place before r link outcome runs over = record {
+    pass = pass;
+    from = from;
+    over = subst (λ (m : LockView S C). IsOver (without_links t) m pass from r link outcome) runs.lock
+        (subst (λ (us : List User). IsOver (record { kind = t.kind; source = t.source; sink = t.sink; users = us; links = None }) l' pass from r link outcome) runs.users over);
+    given = runs.given;
+    was_new = runs.was_new;
+    before_is = runs.before_is;
+  }
+
+  -- what a thread's promise knows is what the session began with
+  pub runs_of : (l' : LockView S C) (users' : List User) (pass pass' : PassView S C) (from from' : L) (place before : ℕ) → l' ≡ l → users' ≡ t.users → pass' ≡ pass → from' ≡ from → IsGiven t.links place from → IsNew (t.source from) (t.sink from) → before ≡ length pass.known.seen
+      → Runs t l l' users' pass' from' place before
+  runs_of l' users' pass pass' from from' place before lock users passes froms given was_new before_is = record {
+    lock = lock;
+    users = users;
+    given = subst (λ (x : L). IsGiven t.links place x) (sym froms) given;
+    was_new = subst (λ (x : L). IsNew (t.source x) (t.sink x)) (sym froms) was_new;
+    before_is = before_is ∙ ap (λ (p : PassView S C). length p.known.seen) (sym passes);
   }

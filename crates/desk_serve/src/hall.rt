@@ -1,53 +1,63 @@
-//! The calling thread: it takes links, and keeps what is told of those that were served.
-ghost use Rattle.std.specs.Prelude.{◌≡◌, ◌⊎◌, ◌+◌, ◌<◌, ℕ, List, [], ◌∷◌, ◌++◌, length, vec_len, vec_capacity, IfOk, OnErr, MatchOption, MatchResult, true};
-ghost use Rattle.outside.specs.Outside.{Rose};
-ghost use Rattle.outside.specs.Hosts.{IsNew, NoneLeft};
+//! What the calling thread keeps of the sessions that run and of the links that were served.
+ghost use Rattle.std.specs.Prelude.{◌≡◌, ◌⊎◌, ◌+◌, ◌<◌, ◌≤◌, ℕ, List, [], ◌∷◌, ◌++◌, length, vec_len, vec_capacity, IfOk, OnErr, MatchOption, true, All};
 ghost use Rattle.desk_lock.specs.Words.{IsOf};
-ghost use Rattle.desk_serve.specs.Sessions.{terms, most_links, IsGiven, Taken, EndsFor, Closed};
-ghost use Rattle.desk_serve.specs.Keeping.{IsFresh, IsOver, IsHeld, Keeps, KeepsWith, IsStopped, IsDone, IsOverAll};
+ghost use Rattle.desk_serve.specs.Sessions.{terms};
+ghost use Rattle.desk_serve.specs.Keeping.{IsFresh, IsHeld, Keeps, KeepsWith, IsStopped, IsOverAll, Runs, held_by, and_at, most_workers};
 
-use crate::ended::{Closing, Ended, HostEnd};
-use crate::session::hold;
-use cm_base::items::Items;
+use crate::ended::{Ended, HostEnd};
+use crate::marks::Marks;
+use crate::running::Running;
+use crate::session::Seat;
 use cm_base::user::Users;
 use desk_lock::{Lock, Pass};
-use desk_model::{Machine, Version};
-use outside::{Clock, Failed, Gate, Host};
-use std::alloc::{AllocError, Global};
+use desk_model::Machine;
+use outside::{Clock, Host, Link};
 use std::snapshot::Snapshot;
 use std::sync::Wait;
-use talk::{End, Served, session_stands};
+use std::thread::Threads;
+use talk::Served;
 
-/// How many links are taken at most.
-const MOST_LINKS: u64 = 1_048_576;
-
-/// What the calling thread keeps: its pass, and the links that were served.
+/// A session that runs: its thread, the row of its mark, the place of its link, and how much its pass had seen.
 #[derive(Drop)]
-pub(crate) struct Hall<M: Machine, L> {
+pub(crate) struct Row<M: Served, L: Link + Drop, C: Clock> {
+    pub(crate) handle: Running<M, L, C>,
+    pub(crate) row: usize,
+    pub(crate) place: u64,
+    pub(crate) before: u64,
+}
+
+/// What the calling thread keeps: its pass, the sessions that run, and the links that were served.
+#[derive(Drop)]
+pub(crate) struct Hall<M: Served, L: Link + Drop, C: Clock> {
     pub(crate) pass: Pass<M>,
+    pub(crate) running: Vec<Row<M, L, C>>,
     pub(crate) ended: Vec<Ended<L>>,
 }
 
-// Takes in the pass of a session that is over, and notes its link.
-fn note<M: Served, H: Host, C: Clock + Drop>(
+/// Takes in the pass of a session that is over, and notes its link.
+pub(crate) fn note<M: Served, H: Host, C: Clock + Drop>(
     lock: &Lock<M, C>,
     users: &Users,
     all: &Snapshot<H>,
-    hall: &mut Hall<M, H::Link>,
+    hall: &mut Hall<M, H::Link, C>,
     place: u64,
     before: u64,
-    pass: Pass<M>,
-    link: H::Link,
-    outcome: End,
+    seat: Seat<M, H::Link>,
 )
     requires is_of { IsOf M.next lock.now hall.old.pass }
-    requires held { IsHeld (terms M.next M.answer M.number M.call M.user M.least M.closes H.Link.Source.told H.Link.Sink.told users.now (H.left all.now.value)) lock.now place before pass link outcome }
+    requires held { IsHeld (terms M.next M.answer M.number M.call M.user M.least M.closes H.Link.Source.told H.Link.Sink.told users.now (H.left all.now.value)) lock.now place before seat.pass seat.link seat.outcome }
     requires room { vec_len hall.old.ended < vec_capacity hall.old.ended }
-    ensures keeps { (out : List ℕ) (spare n : ℕ) → Keeps (terms M.next M.answer M.number M.call M.user M.least M.closes H.Link.Source.told H.Link.Sink.told users.now (H.left all.now.value)) lock.now hall.old.pass hall.old.ended.items (place ∷ out) spare n → Keeps (terms M.next M.answer M.number M.call M.user M.least M.closes H.Link.Source.told H.Link.Sink.told users.now (H.left all.now.value)) lock.now hall.new.pass hall.new.ended.items out spare n }
+    ensures keeps { (held : ℕ → ℕ) (running spare n : ℕ) → Keeps (terms M.next M.answer M.number M.call M.user M.least M.closes H.Link.Source.told H.Link.Sink.told users.now (H.left all.now.value)) lock.now hall.old.pass hall.old.ended.items (and_at place held) (running + 1) spare n → Keeps (terms M.next M.answer M.number M.call M.user M.least M.closes H.Link.Source.told H.Link.Sink.told users.now (H.left all.now.value)) lock.now hall.new.pass hall.new.ended.items held running spare n }
+    ensures running { hall.new.running ≡ hall.old.running }
     ensures room { (vec_len hall.new.ended ≡ vec_len hall.old.ended + 1) × (vec_capacity hall.new.ended ≡ vec_capacity hall.old.ended) }
 {
     let _ = users;
     let _ = all;
+    let Seat {
+        pass,
+        link,
+        outcome,
+    } = seat;
     let tally = lock.retire(&mut hall.pass, pass);
     hall.ended.push_reserved(Ended {
         place,
@@ -59,117 +69,113 @@ fn note<M: Served, H: Host, C: Clock + Drop>(
     });
 }
 
-// A new pass, for the next link.
-fn new_pass<M: Served, H: Host, C: Clock + Drop>(
+// Joins a session that was taken off the list, and notes it.
+#[tactic(auto, using(crate::proofs::Noting::held_of))]
+fn settle<M: Served, H: Host, C: Clock + Drop, R: Threads>(
+    rt: &R,
     lock: &Lock<M, C>,
     users: &Users,
     all: &Snapshot<H>,
-    hall: &mut Hall<M, H::Link>,
-    place: u64,
-) -> Option<Pass<M>>
-    requires keeps { Keeps (terms M.next M.answer M.number M.call M.user M.least M.closes H.Link.Source.told H.Link.Sink.told users.now (H.left all.now.value)) lock.now hall.old.pass hall.old.ended.items [] 0 place }
-    ensures keeps { KeepsWith (terms M.next M.answer M.number M.call M.user M.least M.closes H.Link.Source.told H.Link.Sink.told users.now (H.left all.now.value)) lock.now hall.new.pass hall.new.ended.items [] place result }
-    ensures ended { hall.new.ended ≡ hall.old.ended }
-{
-    let _ = users;
-    let _ = all;
-    let _ = place;
-    match lock.split(&mut hall.pass) {
-        Ok(pass) => Some(pass),
-        Err(_) => None,
-    }
-}
-
-// The host's next link.
-fn next_link<H: Host>(
-    host: &mut H,
-    all: &Snapshot<H>,
-    place: u64,
-) -> Result<Option<H::Link>, Failed>
-    requires taken { Taken (H.told all.now.value) (H.left all.now.value) (H.told host.old) (H.left host.old) place }
-    ensures link { IfOk result (λ o. MatchOption o (Taken (H.told all.now.value) (H.left all.now.value) (H.told host.new) (H.left host.new) place × (((H.told host.new).given ≡ (H.told host.new).bound) ⊎ NoneLeft (H.left host.new)))
-        (λ l. Taken (H.told all.now.value) (H.left all.now.value) (H.told host.new) (H.left host.new) (place + 1) × IsGiven (H.left all.now.value) place l × IsNew (H.Link.Source.told l) (H.Link.Sink.told l))) }
-    ensures failed { OnErr result (Taken (H.told all.now.value) (H.left all.now.value) (H.told host.new) (H.left host.new) place × Rose (H.told all.now.value).faults (H.told host.new).faults) }
-{
-    let _ = all;
-    let _ = place;
-    match host.accept() {
-        Ok(Some(link)) => Ok(Some(link)),
-        Ok(None) => Ok(None),
-        Err(failed) => Err(failed),
-    }
-}
-
-// Serves a link, and notes it.
-fn serve_link<'a, M: Served, H: Host, C: Clock + Drop, G: Gate, R: Wait>(
-    rt: &'a R,
-    alloc: Global,
-    lock: &'a Lock<M, C>,
-    users: &Users,
-    gate: &G,
-    all: &Snapshot<H>,
-    hall: &mut Hall<M, H::Link>,
-    place: u64,
-    mut pass: Pass<M>,
-    mut link: H::Link,
+    hall: &mut Hall<M, H::Link, C>,
+    row: Row<M, H::Link, C>,
 )
-    requires keeps { Keeps (terms M.next M.answer M.number M.call M.user M.least M.closes H.Link.Source.told H.Link.Sink.told users.now (H.left all.now.value)) lock.now hall.old.pass hall.old.ended.items [] 1 place }
-    requires fresh { IsFresh (terms M.next M.answer M.number M.call M.user M.least M.closes H.Link.Source.told H.Link.Sink.told users.now (H.left all.now.value)) lock.now pass }
-    requires given { IsGiven (H.left all.now.value) place link }
-    requires was_new { IsNew (H.Link.Source.told link) (H.Link.Sink.told link) }
+    requires is_of { IsOf M.next lock.now hall.old.pass }
+    requires runs { Runs (terms M.next M.answer M.number M.call M.user M.least M.closes H.Link.Source.told H.Link.Sink.told users.now (H.left all.now.value)) lock.now row.handle.promise.lock.value row.handle.promise.users.value row.handle.promise.pass.value row.handle.promise.link.value row.place row.before }
     requires room { vec_len hall.old.ended < vec_capacity hall.old.ended }
-    ensures keeps { Keeps (terms M.next M.answer M.number M.call M.user M.least M.closes H.Link.Source.told H.Link.Sink.told users.now (H.left all.now.value)) lock.now hall.new.pass hall.new.ended.items [] 0 (place + 1) }
+    ensures keeps { (held : ℕ → ℕ) (running spare n : ℕ) → Keeps (terms M.next M.answer M.number M.call M.user M.least M.closes H.Link.Source.told H.Link.Sink.told users.now (H.left all.now.value)) lock.now hall.old.pass hall.old.ended.items (and_at row.place held) (running + 1) spare n → Keeps (terms M.next M.answer M.number M.call M.user M.least M.closes H.Link.Source.told H.Link.Sink.told users.now (H.left all.now.value)) lock.now hall.new.pass hall.new.ended.items held running spare n }
+    ensures running { hall.new.running ≡ hall.old.running }
+    ensures room { (vec_len hall.new.ended ≡ vec_len hall.old.ended + 1) × (vec_capacity hall.new.ended ≡ vec_capacity hall.old.ended) }
 {
-    let before = pass.seen();
-    let outcome = hold(rt, alloc, lock, users, gate, all, &mut pass, &mut link);
-    note(lock, users, all, hall, place, before, pass, link, outcome);
+    let Row {
+        handle,
+        row: _,
+        place,
+        before,
+    } = row;
+    let seat = handle.join(rt);
+    note(lock, users, all, hall, place, before, seat);
 }
 
-// Takes one link after the other.
-#[tactic(auto, unfolding(crate::specs::Sessions::most_links))]
-fn take_links<'a, M: Served, H: Host, C: Clock + Drop, G: Gate, R: Wait>(
-    rt: &'a R,
-    alloc: Global,
-    lock: &'a Lock<M, C>,
-    users: &Users,
-    gate: &G,
-    host: &mut H,
-    all: &Snapshot<H>,
-    hall: &mut Hall<M, H::Link>,
-) -> (HostEnd, Option<Pass<M>>)
-    requires keeps { Keeps (terms M.next M.answer M.number M.call M.user M.least M.closes H.Link.Source.told H.Link.Sink.told users.now (H.left all.now.value)) lock.now hall.old.pass hall.old.ended.items [] 0 0 }
-    requires taken { Taken (H.told all.now.value) (H.left all.now.value) (H.told host.old) (H.left host.old) 0 }
-    ensures { IsStopped (terms M.next M.answer M.number M.call M.user M.least M.closes H.Link.Source.told H.Link.Sink.told users.now (H.left all.now.value)) lock.now hall.new.pass hall.new.ended.items [] (H.told all.now.value) (H.told host.new) (H.left host.new) result.1 result.0 }
+// Waits for the mark of a session that runs, and answers where it stands in the list.
+fn find<M: Served, L: Link + Drop, C: Clock, R: Wait>(
+    rt: &R,
+    marks: &Marks,
+    running: &Vec<Row<M, L, C>>,
+) -> usize
+    ensures { result < vec_len running.now }
 {
-    for place in 0..MOST_LINKS {
-        if hall.ended.reserve(1).is_err() {
-            return (HostEnd::Memory, None);
-        }
-        let Some(pass) = new_pass(lock, users, all, hall, place) else {
-            return (HostEnd::Memory, None);
-        };
-        match next_link(host, all, place) {
-            Ok(Some(link)) => {
-                serve_link(rt, alloc, lock, users, gate, all, hall, place, pass, link)
+    for _ in rt.forever() {
+        let row = marks.take(rt);
+        for at in 0..running.len() {
+            if running[at].row == row {
+                return at;
             }
-            Ok(None) => return (HostEnd::Empty, Some(pass)),
-            Err(_) => return (HostEnd::Fault, Some(pass)),
         }
     }
-    (HostEnd::Many, None)
+    unreachable!()
 }
 
-// Takes in a pass that got no link.
-fn take_in_spare<M: Served, H: Host, C: Clock + Drop>(
+/// Waits for a session to be over, and notes it.
+pub(crate) fn join_one<M: Served, H: Host, C: Clock + Drop, R: Threads + Wait>(
+    rt: &R,
+    lock: &Lock<M, C>,
+    users: &Users,
+    all: &Snapshot<H>,
+    marks: &Marks,
+    hall: &mut Hall<M, H::Link, C>,
+    place: u64,
+)
+    requires keeps { Keeps (terms M.next M.answer M.number M.call M.user M.least M.closes H.Link.Source.told H.Link.Sink.told users.now (H.left all.now.value)) lock.now hall.old.pass hall.old.ended.items (held_by (λ r. r.place) hall.old.running.items) (vec_len hall.old.running) 0 place }
+    requires rows { All (λ r. Runs (terms M.next M.answer M.number M.call M.user M.least M.closes H.Link.Source.told H.Link.Sink.told users.now (H.left all.now.value)) lock.now r.handle.promise.lock.value r.handle.promise.users.value r.handle.promise.pass.value r.handle.promise.link.value r.place r.before) hall.old.running.items }
+    requires room { vec_len hall.old.ended + vec_len hall.old.running ≤ vec_capacity hall.old.ended }
+    ensures keeps { Keeps (terms M.next M.answer M.number M.call M.user M.least M.closes H.Link.Source.told H.Link.Sink.told users.now (H.left all.now.value)) lock.now hall.new.pass hall.new.ended.items (held_by (λ r. r.place) hall.new.running.items) (vec_len hall.new.running) 0 place }
+    ensures rows { All (λ r. Runs (terms M.next M.answer M.number M.call M.user M.least M.closes H.Link.Source.told H.Link.Sink.told users.now (H.left all.now.value)) lock.now r.handle.promise.lock.value r.handle.promise.users.value r.handle.promise.pass.value r.handle.promise.link.value r.place r.before) hall.new.running.items }
+    ensures room { vec_len hall.new.ended + vec_len hall.new.running ≤ vec_capacity hall.new.ended }
+    ensures fewer { vec_len hall.new.running + 1 ≡ vec_len hall.old.running }
+{
+    let _ = place;
+    let at = find(rt, marks, &hall.running);
+    let row = hall.running.swap_remove(at);
+    settle(rt, lock, users, all, hall, row);
+}
+
+/// Joins all that run.
+pub(crate) fn join_all<M: Served, H: Host, C: Clock + Drop, R: Threads>(
+    rt: &R,
     lock: &Lock<M, C>,
     users: &Users,
     all: &Snapshot<H>,
     host: &H,
-    hall: &mut Hall<M, H::Link>,
+    hall: &mut Hall<M, H::Link, C>,
+    spare: &Option<Pass<M>>,
+    end: &HostEnd,
+)
+    requires stopped { IsStopped (terms M.next M.answer M.number M.call M.user M.least M.closes H.Link.Source.told H.Link.Sink.told users.now (H.left all.now.value)) lock.now hall.old.pass hall.old.ended.items (held_by (λ r. r.place) hall.old.running.items) (vec_len hall.old.running) (H.told all.now.value) (H.told host.now) (H.left host.now) spare.now end.now }
+    requires rows { All (λ r. Runs (terms M.next M.answer M.number M.call M.user M.least M.closes H.Link.Source.told H.Link.Sink.told users.now (H.left all.now.value)) lock.now r.handle.promise.lock.value r.handle.promise.users.value r.handle.promise.pass.value r.handle.promise.link.value r.place r.before) hall.old.running.items }
+    requires room { vec_len hall.old.ended + vec_len hall.old.running ≤ vec_capacity hall.old.ended }
+    ensures stopped { IsStopped (terms M.next M.answer M.number M.call M.user M.least M.closes H.Link.Source.told H.Link.Sink.told users.now (H.left all.now.value)) lock.now hall.new.pass hall.new.ended.items (held_by (λ r. r.place) hall.new.running.items) (vec_len hall.new.running) (H.told all.now.value) (H.told host.now) (H.left host.now) spare.now end.now }
+    ensures none_run { vec_len hall.new.running ≡ 0 }
+{
+    let _ = host;
+    let _ = spare;
+    let _ = end;
+    while let Some(row) = hall.running.pop() {
+        settle(rt, lock, users, all, hall, row);
+    }
+}
+
+/// Takes in a pass that got no link.
+pub(crate) fn take_in_spare<M: Served, H: Host, C: Clock + Drop>(
+    lock: &Lock<M, C>,
+    users: &Users,
+    all: &Snapshot<H>,
+    host: &H,
+    hall: &mut Hall<M, H::Link, C>,
     spare: Option<Pass<M>>,
     end: HostEnd,
 )
-    requires { IsStopped (terms M.next M.answer M.number M.call M.user M.least M.closes H.Link.Source.told H.Link.Sink.told users.now (H.left all.now.value)) lock.now hall.old.pass hall.old.ended.items [] (H.told all.now.value) (H.told host.now) (H.left host.now) spare end }
+    requires stopped { IsStopped (terms M.next M.answer M.number M.call M.user M.least M.closes H.Link.Source.told H.Link.Sink.told users.now (H.left all.now.value)) lock.now hall.old.pass hall.old.ended.items (held_by (λ r. r.place) hall.old.running.items) (vec_len hall.old.running) (H.told all.now.value) (H.told host.now) (H.left host.now) spare end }
+    requires none_run { vec_len hall.old.running ≡ 0 }
     ensures { IsOverAll (terms M.next M.answer M.number M.call M.user M.least M.closes H.Link.Source.told H.Link.Sink.told users.now (H.left all.now.value)) lock.now hall.new.pass hall.new.ended.items (H.told all.now.value) (H.told host.now) (H.left host.now) end }
 {
     let _ = users;
@@ -184,55 +190,30 @@ fn take_in_spare<M: Served, H: Host, C: Clock + Drop>(
     }
 }
 
-// Closes the lock.
-fn close<M: Served, H: Host, C: Clock + Drop>(
-    lock: Lock<M, C>,
-    users: &Users,
-    all: &Snapshot<H>,
-    hall: Hall<M, H::Link>,
-    end: HostEnd,
-) -> Closing<M, H::Link>
-    requires { IsDone (terms M.next M.answer M.number M.call M.user M.least M.closes H.Link.Source.told H.Link.Sink.told users.now (H.left all.now.value)) lock hall.pass hall.ended.items }
-    ensures closed { Closed (terms M.next M.answer M.number M.call M.user M.least M.closes H.Link.Source.told H.Link.Sink.told users.now (H.left all.now.value)) lock.version.opening result.last result.ended }
-    ensures ended { result.ended ≡ hall.ended.items }
-    ensures end { result.end ≡ end }
-{
-    let _ = users;
-    let _ = all;
-    session_stands::<M>();
-    let Hall { pass, ended } = hall;
-    let (last, _clock) = lock.close(pass);
-    last.version.lawful();
-    Closing {
-        last,
-        ended: Items::from_vec(ended),
-        end,
+/// A row whose mark no session has that runs.
+pub(crate) fn free_row<M: Served, L: Link + Drop, C: Clock>(running: &Vec<Row<M, L, C>>) -> usize {
+    for row in 0..64 {
+        if !running.iter().any(|r| r.row == row) {
+            return row;
+        }
     }
+    64
 }
 
-/// Serves the host's links over an opening, each by a session of its own, one after the other. Where memory is wanted before the first one, the host isn't asked.
-pub fn serve<M: Served, H: Host, C: Clock + Drop, G: Gate, R: Wait>(
-    rt: &R,
-    alloc: Global,
-    opening: M::State,
-    clock: C,
-    users: &Users,
-    host: &mut H,
-    gate: &G,
-) -> Result<Closing<M, H::Link>, AllocError>
-    ensures closed { IfOk result (λ c. Closed (terms M.next M.answer M.number M.call M.user M.least M.closes H.Link.Source.told H.Link.Sink.told users.now (H.left host.old)) opening c.last c.ended) }
-    ensures taken { IfOk result (λ c. Taken (H.told host.old) (H.left host.old) (H.told host.new) (H.left host.new) (length c.ended)) }
-    ensures end { IfOk result (λ c. EndsFor (H.told host.old) (H.told host.new) (H.left host.new) (length c.ended) c.end) }
-    ensures unasked { OnErr result (host.new ≡ host.old) }
+/// Makes room for one session more. False: memory was wanted.
+#[tactic(auto, unfolding(crate::specs::Keeping::most_workers))]
+pub(crate) fn reserve<M: Served, L: Link + Drop, C: Clock>(hall: &mut Hall<M, L, C>) -> bool
+    requires room { vec_len hall.old.ended + vec_len hall.old.running ≤ vec_capacity hall.old.ended }
+    requires few { vec_len hall.old.running < most_workers }
+    ensures pass { hall.new.pass ≡ hall.old.pass }
+    ensures ended { hall.new.ended.items ≡ hall.old.ended.items }
+    ensures running { hall.new.running.items ≡ hall.old.running.items }
+    ensures room { vec_len hall.new.ended + vec_len hall.new.running ≤ vec_capacity hall.new.ended }
+    ensures more { result ≡ true → (vec_len hall.new.ended + vec_len hall.new.running + 1 ≤ vec_capacity hall.new.ended) × (vec_len hall.new.running < vec_capacity hall.new.running) }
 {
-    let all = Snapshot::of(&*host);
-    let version: Version<M> = Version::opening(alloc, opening)?;
-    let (lock, pass) = Lock::begin(alloc, version, clock)?;
-    let mut hall = Hall {
-        pass,
-        ended: Vec::new(alloc),
-    };
-    let (end, spare) = take_links(rt, alloc, &lock, users, gate, host, &all, &mut hall);
-    take_in_spare(&lock, users, &all, host, &mut hall, spare, end);
-    Ok(close(lock, users, &all, hall, end))
+    let count = hall.running.len();
+    if hall.ended.reserve(count + 1).is_err() {
+        return false;
+    }
+    hall.running.reserve(1).is_ok()
 }

@@ -1,9 +1,13 @@
-//! Many links, served over one journal: the calling thread takes them from a host, and keeps what is told of each.
+//! Many links, served over one journal, each by a session on a thread of its own: the calling thread takes them from a host,
+//! and keeps what is told of each.
 #![tactic(auto)]
 
 mod ended;
 mod hall;
+mod marks;
+mod running;
+mod serving;
 mod session;
 
 pub use ended::{Closing, Ended, HostEnd};
-pub use hall::serve;
+pub use serving::serve;

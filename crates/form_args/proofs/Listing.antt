@@ -4,7 +4,7 @@ use Rattle.std.specs.Prelude.{Some, None}
 use Rattle.cm_base.specs.declared.argument.Argument.{Argument}
 use Rattle.std.proofs.lemmas.List.{take_more, length-take}
 use Rattle.cm_types.specs.declared.given.Given.{Given}
-use Rattle.cm_call.specs.declared.write.AceRequest.{AceRequest}
+use Rattle.call_parts.specs.declared.writes.AceRequest.{AceRequest}
 use Rattle.form_args.specs.declared.pairs.Pair.{Pair}
 use Rattle.form_args.specs.Pairs.{first_of, indexed, texts_from}
 use Rattle.form_args.specs.Properties.{given_at, givens_from}

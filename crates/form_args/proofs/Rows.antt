@@ -4,7 +4,7 @@ use Rattle.std.specs.Prelude.{codes, Ok, Err, Some}
 use Rattle.std.specs.Fmt.{digits}
 use Rattle.cm_base.specs.declared.argument.Argument.TheVariants as args
 use Rattle.cm_base.specs.declared.cause.Cause.TheVariants as causes
-use Rattle.cm_call.specs.declared.question.PropertyFilter.TheVariants as filters
+use Rattle.call_parts.specs.declared.readings.PropertyFilter.TheVariants as filters
 use Rattle.form_args.specs.declared.pairs.Pair.{Pair}
 use Rattle.form_args.specs.Pairs.{texts_of}
 use Rattle.form_args.specs.Properties.{properties_of, typed, most_properties, most_values}

@@ -5,7 +5,7 @@ use Rattle.cm_base.specs.declared.argument.Argument.{Argument}
 use Rattle.cm_base.specs.declared.cause.Cause.TheVariants as causes
 use Rattle.cm_base.specs.Judged.{Judged, ◌>>◌, refuse}
 use Rattle.cm_base.specs.Arguments.{word_of}
-use Rattle.cm_call.specs.declared.write.AceRequest.{AceRequest}
+use Rattle.call_parts.specs.declared.writes.AceRequest.{AceRequest}
 use Rattle.form_args.specs.declared.pairs.Pair.{Pair}
 use Rattle.form_args.specs.Pairs.{indexed, texts_of}
 

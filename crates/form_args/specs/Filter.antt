@@ -4,8 +4,8 @@ use Rattle.std.specs.List.{slice_split, flat_map}
 use Rattle.cm_base.specs.declared.argument.Argument.TheVariants as args
 use Rattle.cm_base.specs.declared.cause.Cause.TheVariants as causes
 use Rattle.cm_base.specs.Judged.{Judged, ◌>>=◌}
-use Rattle.cm_call.specs.declared.question.PropertyFilter.{PropertyFilter}
-use Rattle.cm_call.specs.declared.question.PropertyFilter.TheVariants as filters
+use Rattle.call_parts.specs.declared.readings.PropertyFilter.{PropertyFilter}
+use Rattle.call_parts.specs.declared.readings.PropertyFilter.TheVariants as filters
 use Rattle.form_args.specs.declared.pairs.Pair.{Pair}
 use Rattle.form_args.specs.Pairs.{value_of}
 

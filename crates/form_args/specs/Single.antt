@@ -1,5 +1,6 @@
 -- One value of an argument: a flag, a number, a word of a list of choices.
 use Rattle.std.specs.Prelude.{ℕ, List, codes, bytes_eq, Bool, true, false, if◌then◌else◌, Option, Some, None, Ok}
+use Rattle.cm_types.specs.Properties.{flag_of_text}
 use Rattle.cm_base.specs.declared.argument.Argument.{Argument}
 use Rattle.cm_base.specs.declared.cause.Cause.TheVariants as causes
 use Rattle.cm_base.specs.Judged.{Judged, find_or}
@@ -16,13 +17,9 @@ read_or name default read (Some w) = find_or (causes.BadArgument name) (read w)
 abbrev pub chosen : {A : Type 0} → (List ℕ → Option A) → List Pair → Argument → A → Judged A
 chosen read pairs name default = read_or name default read (value_of pairs name)
 
--- true or false
-abbrev pub read_flag : List ℕ → Option Bool
-read_flag w = if bytes_eq w (codes "true") then Some true else if bytes_eq w (codes "false") then Some false else None
-
 -- a flag, or its default
 abbrev pub flag_of : List Pair → Argument → Bool → Judged Bool
-flag_of pairs name default = chosen read_flag pairs name default
+flag_of pairs name default = chosen flag_of_text pairs name default
 
 -- decimal digits without a sign or a leading zero, below 2^64; or the default
 abbrev pub number_of : List Pair → Argument → ℕ → Judged ℕ

@@ -18,9 +18,9 @@ pub trait Choice: Copy {
 }
 
 impl Choice for bool {
-    ghost use Rattle.form_args.specs.Single.{read_flag};
+    ghost use Rattle.cm_types.specs.Properties.{flag_of_text};
 
-    ghost meaning = { read_flag };
+    ghost meaning = { flag_of_text };
 
     fn read(word: &str) -> Option<bool> {
         if word == "true" {

@@ -12,7 +12,7 @@ use cm_base::copies::Copies;
 use cm_base::fail::Fail;
 use cm_base::items::Items;
 use cm_base::text::Text;
-use cm_call::write::{AceRequest, AceRequests};
+use call_parts::writes::{AceRequest, AceRequests};
 use std::alloc::{AllocError, Global};
 
 fn ace_at(

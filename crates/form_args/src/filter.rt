@@ -11,8 +11,8 @@ use cm_base::cause::Cause;
 use cm_base::fail::Fail;
 use cm_base::items::Items;
 use cm_base::text::{Text, Texts};
-use cm_call::names::Names;
-use cm_call::question::PropertyFilter;
+use call_parts::names::Names;
+use call_parts::readings::PropertyFilter;
 use std::alloc::{AllocError, Global};
 
 fn commas<'a>(alloc: Global, text: &'a str) -> Result<Vec<&'a str>, AllocError>

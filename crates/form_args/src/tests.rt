@@ -10,7 +10,7 @@ use crate::read::{form_pairs, with_query};
 use cm_base::argument::Argument;
 use cm_base::cause::Cause;
 use cm_base::text::Texts;
-use cm_call::question::PropertyFilter;
+use call_parts::readings::PropertyFilter;
 use std::alloc::{AllocError, Global};
 
 fn form(alloc: Global) -> Result<Pairs, AllocError> {

@@ -1,7 +1,7 @@
 -- One more part of a form.
 use Rattle.std.proofs.Common.{◌≡◌, List, [], ◌∷◌, ◌++◌, refl, sym, ap, ◌∙◌, append_assoc}
 use Rattle.std.specs.Prelude.{Some, unwrap_or}
-use Rattle.cm_call.specs.declared.stream.GivenStream.{GivenStream}
+use Rattle.call_parts.specs.declared.stream.GivenStream.{GivenStream}
 use Rattle.form_args.specs.declared.pairs.Pair.{Pair}
 use Rattle.form_parts.specs.declared.part.Part.{Part}
 use Rattle.form_parts.specs.declared.part.Part.TheVariants.{Argument, Content}

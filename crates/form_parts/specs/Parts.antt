@@ -4,7 +4,7 @@ use Rattle.std.specs.List.{list_all}
 use Rattle.std.specs.Str.{is_utf8}
 use Rattle.cm_base.specs.declared.cause.Cause.TheVariants as causes
 use Rattle.cm_base.specs.Judged.{Judged, ◌>>=◌, ◌>>◌, find_or, refuse}
-use Rattle.cm_call.specs.declared.stream.GivenStream.{GivenStream}
+use Rattle.call_parts.specs.declared.stream.GivenStream.{GivenStream}
 use Rattle.http_grammar.specs.Request.{FieldParts}
 use Rattle.http_grammar.specs.Fields.{same_word, values_named}
 use Rattle.field_params.specs.declared.one.Param.{Param}

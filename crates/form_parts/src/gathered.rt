@@ -4,7 +4,7 @@ ghost use Rattle.form_parts.specs.Parts.{gathered};
 
 use crate::part::Part;
 use cm_base::items::Items;
-use cm_call::stream::GivenStream;
+use call_parts::stream::GivenStream;
 use form_args::pairs::Pair;
 use std::alloc::{AllocError, Global};
 

@@ -15,7 +15,7 @@ use cm_base::cause::Cause;
 use cm_base::fail::Fail;
 use cm_base::pieces::Pieces;
 use cm_base::text::Text;
-use cm_call::stream::GivenStream;
+use call_parts::stream::GivenStream;
 use form_args::pairs::Pair;
 use std::alloc::Global;
 

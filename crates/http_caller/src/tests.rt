@@ -1,10 +1,10 @@
-//! Callers and steps, from RFC 7617 and this project's profile.
+//! Callers and steps, from RFC 7617 and this project's profile, and the parts of a request from RFC 9112.
 use crate::{caller_of, least_of};
 use cm_base::cause::Cause;
 use cm_base::fail::Fail as Refusal;
 use cm_base::user::Users;
 use cm_base::users::read_users;
-use http_wire::{Buffer, Incoming, Request, read_request};
+use http_wire::{Buffer, Incoming, Named, Request, WireStop, read_request};
 use outside::MemSource;
 use std::alloc::{AllocError, Global};
 use std::test::Fail;
@@ -81,5 +81,48 @@ fn steps(rt: HostRuntime) -> Result<(), Fail> {
     for (fields, want) in cases {
         assert_eq!(rt; step(alloc, fields)?, want);
     }
+    Ok(())
+}
+
+// A body in the chunked form, with an extension and trailers.
+const CHUNKS: &[u8] =
+    b"POST /cmis/main HTTP/1.1\r\nHost: x\r\nTransfer-Encoding: Chunked\r\n\r\n5;name=\"v\"\r\nhello\r\n1 \r\n!\r\n00\r\nTrailer: one\r\nOther:two\n\r\n";
+
+fn has_its_line(request: &Request) -> bool {
+    let head = request.head();
+    head.method() == b"POST".as_slice()
+        && head.target() == b"/cmis/main".as_slice()
+        && head.minor() == 1
+        && !head.closes()
+}
+
+fn has_its_fields(request: &Request) -> bool {
+    let head = request.head();
+    head.count() == 2
+        && head.name(1) == b"Transfer-Encoding".as_slice()
+        && head.value(1) == b"Chunked".as_slice()
+        && matches!(head.named(b"HOST"), Named::One(b"x"))
+}
+
+// The second read fails, when the request is whole.
+#[test]
+fn parts_of_a_request(rt: HostRuntime) -> Result<(), Fail> {
+    let alloc = rt.alloc();
+    let mut source = MemSource::new(alloc, CHUNKS, &[1])?;
+    let mut buffer = Buffer::new(alloc)?;
+    assert!(rt;
+        match read_request(alloc, &mut source, &mut buffer) {
+            Ok(Incoming::Body(request)) => has_its_line(&request)
+                && has_its_fields(&request)
+                && request.body().as_slice() == b"hello!".as_slice(),
+            _ => false,
+        }
+    );
+    assert!(rt;
+        matches!(
+            read_request(alloc, &mut source, &mut buffer),
+            Err(WireStop::ReadFault)
+        )
+    );
     Ok(())
 }

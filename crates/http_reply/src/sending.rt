@@ -1,7 +1,7 @@
 //! Sending whole pieces.
 ghost use Rattle.std.specs.Prelude.{◌≡◌, ◌≤◌, length, drop, OnOk, OnErr};
 ghost use Rattle.outside.specs.Outside.{Took, HasCause};
-ghost use Rattle.http_reply.specs.Sent.{TookFront};
+ghost use Rattle.http_reply.specs.Sent.{TookFront, Offers};
 ghost use Rattle.http_reply.specs.Replies.{interim_text, runtime_text};
 
 use outside::{Failed, Sink};
@@ -14,10 +14,11 @@ fn tail(piece: &[u8], done: usize) -> &[u8]
     &piece[done..]
 }
 
-/// Writes the whole piece: a write that takes a part goes on with the rest.
+/// Writes the whole piece: each write is given all that is left of it.
 pub fn send<K: Sink>(sink: &mut K, piece: &[u8]) -> Result<(), Failed>
     ensures ok { OnOk result (Took (K.told sink.old) (K.told sink.new) piece.now) }
     ensures front { OnErr result (TookFront (K.told sink.old) (K.told sink.new) piece.now) }
+    ensures pieces { Offers (K.offered sink.old) (K.offered sink.new) piece.now }
     ensures aside { K.aside sink.new ≡ K.aside sink.old }
     ensures cause { HasCause (K.told sink.old).faults (K.told sink.new).faults result }
 {
@@ -36,6 +37,7 @@ pub fn send<K: Sink>(sink: &mut K, piece: &[u8]) -> Result<(), Failed>
 pub fn send_interim<K: Sink>(sink: &mut K) -> Result<(), Failed>
     ensures ok { OnOk result (Took (K.told sink.old) (K.told sink.new) interim_text) }
     ensures front { OnErr result (TookFront (K.told sink.old) (K.told sink.new) interim_text) }
+    ensures pieces { Offers (K.offered sink.old) (K.offered sink.new) interim_text }
     ensures aside { K.aside sink.new ≡ K.aside sink.old }
     ensures cause { HasCause (K.told sink.old).faults (K.told sink.new).faults result }
 {
@@ -47,6 +49,7 @@ pub fn send_interim<K: Sink>(sink: &mut K) -> Result<(), Failed>
 pub fn send_memory<K: Sink>(sink: &mut K) -> Result<(), Failed>
     ensures ok { OnOk result (Took (K.told sink.old) (K.told sink.new) runtime_text) }
     ensures front { OnErr result (TookFront (K.told sink.old) (K.told sink.new) runtime_text) }
+    ensures pieces { Offers (K.offered sink.old) (K.offered sink.new) runtime_text }
     ensures aside { K.aside sink.new ≡ K.aside sink.old }
     ensures cause { HasCause (K.told sink.old).faults (K.told sink.new).faults result }
 {

@@ -1,6 +1,6 @@
 -- The turns of the loop that reads a head.
 use Rattle.std.proofs.Common.{◌≡◌, ◌++◌, ◌∙◌, ◌≤◌, ◌<◌, ◌+◌, ◌-◌, ℕ, List, [], ◌∷◌, length, true, false, Ok, Err, Result, Option, Some, None, inl, inr, refl, ap, subst, append_assoc, append-nil, length-append, arith}
-use Rattle.std.specs.Prelude.{⊤}
+use Rattle.std.specs.Prelude.{⊤, IfOk}
 use Rattle.httparse.specs.declared.spans.HeaderSpan.{HeaderSpan}
 use Rattle.outside.specs.Outside.{SourceTold, Gave}
 use Rattle.outside.proofs.Known.{Gave-then}
@@ -31,6 +31,10 @@ pub looks_of : (bytes : List ℕ) (spans : List HeaderSpan) (s : HeadSeen) → S
 looks_of bytes spans seen.Open x = subst (λ (n : ℕ). length bytes < n) head_limit_is x.0
 looks_of bytes spans (seen.Bad f) x = x
 looks_of bytes spans (seen.Whole r framing expects) x = x
+
+pub looks_of_ok : {E : Type 0} (bytes : List ℕ) (spans : List HeaderSpan) (r : Result HeadSeen E) → IfOk r (λ s. SeesHead bytes spans s) → IfOk r (λ s. Looks bytes spans s)
+looks_of_ok bytes spans (Ok s) x = looks_of bytes spans s x
+looks_of_ok bytes spans (Err e) x = x
 
 pub cut_answer : (bytes : List ℕ) (spans : List HeaderSpan) → SeesHead bytes spans seen.Open → (bytes ≡ [] → ⊥) → BadHeadAnswer ⊤ bytes Cut
 cut_answer [] spans x some = absurd (some refl)

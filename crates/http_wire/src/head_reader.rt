@@ -1,5 +1,5 @@
 //! Reading until a head is whole, or none can come.
-ghost use Rattle.std.specs.Prelude.{◌≡◌, ⊤, length};
+ghost use Rattle.std.specs.Prelude.{◌≡◌, ⊤, IfOk};
 ghost use Rattle.http_wire.specs.Windows.{held};
 ghost use Rattle.http_wire.specs.HeadAnswers.{Looks, HeadAnswer, ReadsHead};
 
@@ -10,48 +10,48 @@ use crate::window::Window;
 use http_grammar::HttpFault;
 use httparse::spans::HeaderSpan;
 use outside::Source;
+use std::alloc::AllocError;
 
 // A look at the bytes, where it is worth it.
-fn look(bytes: &[u8], spans: &mut [HeaderSpan], pace: &mut Pace) -> HeadSeen
-    requires { length spans.old ≡ 21846 }
-    ensures { Looks bytes.now spans.new result }
+fn look(bytes: &[u8], spans: &mut Vec<HeaderSpan>, pace: &mut Pace) -> Result<HeadSeen, AllocError>
+    ensures { IfOk result (λ seen. Looks bytes.now spans.new.items seen) }
 {
     if !pace.is_worth(bytes, HEAD_LIMIT) {
-        return HeadSeen::Open;
+        return Ok(HeadSeen::Open);
     }
     examine_head(bytes, spans)
 }
 
 // The answer where the source has ended.
-fn at_end(bytes: &[u8], spans: &mut [HeaderSpan]) -> Result<Option<Framed>, WireStop>
-    requires { length spans.old ≡ 21846 }
-    ensures { HeadAnswer ⊤ ⊥ bytes.now spans.new result }
+fn at_end(bytes: &[u8], spans: &mut Vec<HeaderSpan>) -> Result<Option<Framed>, WireStop>
+    ensures { HeadAnswer ⊤ ⊥ bytes.now spans.new.items result }
 {
     match examine_head(bytes, spans) {
-        HeadSeen::Open if bytes.is_empty() => Ok(None),
-        HeadSeen::Open => Err(WireStop::Bad(HttpFault::Cut)),
-        HeadSeen::Bad(fault) => Err(WireStop::Bad(fault)),
-        HeadSeen::Whole(head, framing, expects) => Ok(Some(Framed {
+        Ok(HeadSeen::Open) if bytes.is_empty() => Ok(None),
+        Ok(HeadSeen::Open) => Err(WireStop::Bad(HttpFault::Cut)),
+        Ok(HeadSeen::Bad(fault)) => Err(WireStop::Bad(fault)),
+        Ok(HeadSeen::Whole(head, framing, expects)) => Ok(Some(Framed {
             head,
             framing,
             expects,
         })),
+        Err(_) => Err(WireStop::Memory),
     }
 }
 
 // The answer where a read has failed.
-fn at_fault(bytes: &[u8], spans: &mut [HeaderSpan]) -> Result<Option<Framed>, WireStop>
-    requires { length spans.old ≡ 21846 }
-    ensures { HeadAnswer ⊥ ⊤ bytes.now spans.new result }
+fn at_fault(bytes: &[u8], spans: &mut Vec<HeaderSpan>) -> Result<Option<Framed>, WireStop>
+    ensures { HeadAnswer ⊥ ⊤ bytes.now spans.new.items result }
 {
     match examine_head(bytes, spans) {
-        HeadSeen::Open => Err(WireStop::ReadFault),
-        HeadSeen::Bad(fault) => Err(WireStop::Bad(fault)),
-        HeadSeen::Whole(head, framing, expects) => Ok(Some(Framed {
+        Ok(HeadSeen::Open) => Err(WireStop::ReadFault),
+        Ok(HeadSeen::Bad(fault)) => Err(WireStop::Bad(fault)),
+        Ok(HeadSeen::Whole(head, framing, expects)) => Ok(Some(Framed {
             head,
             framing,
             expects,
         })),
+        Err(_) => Err(WireStop::Memory),
     }
 }
 
@@ -59,24 +59,24 @@ fn at_fault(bytes: &[u8], spans: &mut [HeaderSpan]) -> Result<Option<Framed>, Wi
 pub fn read_head<S: Source>(
     source: &mut S,
     window: &mut Window,
-    spans: &mut [HeaderSpan],
+    spans: &mut Vec<HeaderSpan>,
 ) -> Result<Option<Framed>, WireStop>
-    requires { length spans.old ≡ 21846 }
-    ensures reads { ReadsHead (held window.old) (held window.new) spans.new (S.told source.old) (S.told source.new) result }
+    ensures reads { ReadsHead (held window.old) (held window.new) spans.new.items (S.told source.old) (S.told source.new) result }
     ensures aside { S.aside source.new ≡ S.aside source.old }
 {
     let mut pace = Pace::for_head();
     'more: loop {
         match look(window.as_slice(), spans, &mut pace) {
-            HeadSeen::Open => {}
-            HeadSeen::Bad(fault) => return Err(WireStop::Bad(fault)),
-            HeadSeen::Whole(head, framing, expects) => {
+            Ok(HeadSeen::Open) => {}
+            Ok(HeadSeen::Bad(fault)) => return Err(WireStop::Bad(fault)),
+            Ok(HeadSeen::Whole(head, framing, expects)) => {
                 return Ok(Some(Framed {
                     head,
                     framing,
                     expects,
                 }));
             }
+            Err(_) => return Err(WireStop::Memory),
         }
         match window.read_more(source) {
             Ok(true) => {}

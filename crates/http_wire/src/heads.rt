@@ -1,19 +1,23 @@
 //! What the bytes say of the head at their front.
-ghost use Rattle.std.specs.Prelude.{◌≡◌, ◌≤◌, ◌<◌, ℕ, length};
+ghost use Rattle.std.specs.Prelude.{◌≡◌, ◌≤◌, ◌<◌, ℕ, true, length, IfOk, OnOk};
 ghost use Rattle.http_grammar.specs.Limits.{head_limit};
 ghost use Rattle.http_grammar.specs.Judged.{is_judged, has_line_feed};
 ghost use Rattle.http_wire.specs.Seen.{SeesPart, SeesHead, WholeHeadAt};
 
 use crate::fields::{expects_continue, framing_of};
 use http_grammar::{Framing, HttpFault, front};
-use httparse::Status;
-use httparse::spans::{HeaderSpan, RequestSpans, parse_request};
+use httparse::spans::{EMPTY_HEADER_SPAN, HeaderSpan, RequestSpans, parse_request};
+use httparse::{Error, Status};
+use std::alloc::AllocError;
 
 /// The most bytes of a head.
 pub const HEAD_LIMIT: usize = 65_536;
 
 /// So many fields never stand in a head, since a field line has three bytes at least.
 pub const ROOM: usize = 21_846;
+
+/// Room for so many fields is kept between requests. Few heads have more.
+pub const FEW: usize = 64;
 
 /// What the bytes within the limit of a head say.
 #[derive(Clone, Copy)]
@@ -73,20 +77,61 @@ fn judged(bytes: &[u8]) -> bool
     false
 }
 
-// What the bytes within the limit say.
-fn examine_part(part: &[u8], spans: &mut [HeaderSpan]) -> PartSeen
-    requires room { length spans.old ≡ 21846 }
-    requires short { length part.now ≤ 65536 }
-    ensures { SeesPart part.now spans.new result }
+/// Makes room for as many fields as a head can have.
+pub fn widen(spans: &mut Vec<HeaderSpan>) -> Result<(), AllocError>
+    ensures { OnOk result (length spans.new.items ≡ 21846) }
 {
-    if !judged(part) {
-        return PartSeen::Open;
+    spans.resize(ROOM, EMPTY_HEADER_SPAN)
+}
+
+/// Gives back the room that few heads need.
+pub fn narrow(spans: &mut Vec<HeaderSpan>) {
+    if spans.len() > FEW {
+        spans.truncate(FEW);
+        spans.shrink_to_fit();
     }
+}
+
+// What the judged bytes within the limit say, with room for all fields.
+fn examine_wide(part: &[u8], spans: &mut Vec<HeaderSpan>) -> PartSeen
+    requires judged { is_judged part.now ≡ true }
+    requires room { length spans.old.items ≡ 21846 }
+    requires short { length part.now ≤ 65536 }
+    ensures { SeesPart part.now spans.new.items result }
+{
     match parse_request(part, spans) {
         Ok(Status::Complete(head)) => PartSeen::Head(head),
         Ok(Status::Partial) => PartSeen::Open,
         Err(_) => PartSeen::Hopeless,
     }
+}
+
+// What the judged bytes within the limit say. Where there are more fields than room, it makes room for all.
+fn examine_fields(part: &[u8], spans: &mut Vec<HeaderSpan>) -> Result<PartSeen, AllocError>
+    requires judged { is_judged part.now ≡ true }
+    requires short { length part.now ≤ 65536 }
+    ensures { IfOk result (λ seen. SeesPart part.now spans.new.items seen) }
+{
+    match parse_request(part, spans) {
+        Ok(Status::Complete(head)) => Ok(PartSeen::Head(head)),
+        Ok(Status::Partial) => Ok(PartSeen::Open),
+        Err(Error::TooManyHeaders) => match widen(spans) {
+            Ok(()) => Ok(examine_wide(part, spans)),
+            Err(failed) => Err(failed),
+        },
+        Err(_) => Ok(PartSeen::Hopeless),
+    }
+}
+
+// What the bytes within the limit say.
+fn examine_part(part: &[u8], spans: &mut Vec<HeaderSpan>) -> Result<PartSeen, AllocError>
+    requires { length part.now ≤ 65536 }
+    ensures { IfOk result (λ seen. SeesPart part.now spans.new.items seen) }
+{
+    if !judged(part) {
+        return Ok(PartSeen::Open);
+    }
+    examine_fields(part, spans)
 }
 
 // The fault of a whole head, or its framing.
@@ -106,14 +151,19 @@ fn judge(bytes: &[u8], spans: &[HeaderSpan], head: RequestSpans) -> HeadSeen
 }
 
 /// What the bytes say of the head at their front. The spans are written where it is whole.
-pub fn examine_head(bytes: &[u8], spans: &mut [HeaderSpan]) -> HeadSeen
-    requires { length spans.old ≡ 21846 }
-    ensures { SeesHead bytes.now spans.new result }
+pub fn examine_head(bytes: &[u8], spans: &mut Vec<HeaderSpan>) -> Result<HeadSeen, AllocError>
+    ensures { IfOk result (λ seen. SeesHead bytes.now spans.new.items seen) }
 {
     match examine_part(front(bytes, HEAD_LIMIT), spans) {
-        PartSeen::Head(head) => judge(bytes, spans, head),
-        PartSeen::Hopeless => HeadSeen::Bad(HttpFault::BadHead),
-        PartSeen::Open if bytes.len() < HEAD_LIMIT => HeadSeen::Open,
-        PartSeen::Open => HeadSeen::Bad(HttpFault::LongHead),
+        Ok(PartSeen::Head(head)) => Ok(judge(bytes, spans, head)),
+        Ok(PartSeen::Hopeless) => Ok(HeadSeen::Bad(HttpFault::BadHead)),
+        Ok(PartSeen::Open) => {
+            if bytes.len() < HEAD_LIMIT {
+                Ok(HeadSeen::Open)
+            } else {
+                Ok(HeadSeen::Bad(HttpFault::LongHead))
+            }
+        }
+        Err(failed) => Err(failed),
     }
 }

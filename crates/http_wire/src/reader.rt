@@ -10,7 +10,7 @@ use crate::chunks::read_chunks;
 use crate::fault::WireStop;
 use crate::head::{Head, Request, copy_head};
 use crate::head_reader::read_head;
-use crate::heads::{Framed, ROOM};
+use crate::heads::{FEW, Framed, narrow, widen};
 use crate::incoming::Incoming;
 use crate::window::Window;
 use bytes::Bytes;
@@ -20,7 +20,7 @@ use outside::Source;
 use std::alloc::{AllocError, Global};
 use std::marker::Model;
 
-/// The bytes that were read and not used yet, with room for the places of the fields of a head.
+/// The bytes that were read and not used yet, with room for the places of the fields of a head. It begins small, and grows with what comes.
 #[derive(Drop)]
 pub struct Buffer {
     window: Window,
@@ -29,15 +29,12 @@ pub struct Buffer {
 }
 
 impl Model for Buffer {
-    ghost use Rattle.std.specs.Prelude.{◌≡◌, length};
     ghost use Rattle.http_wire.specs.Windows.{held};
     ghost use Rattle.http_wire.specs.Buffers.{BufferTold};
 
     ghost Value = { BufferTold };
 
     ghost view = { λ b. record { bytes = held b.window; answered = b.answered } };
-
-    ghost invariant = { λ b. length b.spans.items ≡ 21846 };
 }
 
 impl Buffer {
@@ -45,7 +42,7 @@ impl Buffer {
     pub fn new(alloc: Global) -> Result<Buffer, AllocError>
         ensures { IfOk result (λ buffer. buffer ≡ record { bytes = []; answered = false }) }
     {
-        let spans = vec![in alloc; EMPTY_HEADER_SPAN; ROOM]?;
+        let spans = vec![in alloc; EMPTY_HEADER_SPAN; FEW]?;
         Ok(Buffer {
             window: Window::new(alloc),
             spans,
@@ -54,15 +51,31 @@ impl Buffer {
     }
 }
 
+// Reads a body in the chunked form, whose trailers may have as many fields as a head.
+fn read_chunked<S: Source>(
+    source: &mut S,
+    window: &mut Window,
+    spans: &mut Vec<HeaderSpan>,
+    body: &mut Vec<u8>,
+) -> Result<(), WireStop>
+    requires { body.old.items ≡ [] }
+    ensures reads { ReadsBody Framing.Chunked (held window.old) (held window.new) body.new.items (S.told source.old) (S.told source.new) result }
+    ensures aside { S.aside source.new ≡ S.aside source.old }
+{
+    match widen(spans) {
+        Ok(()) => read_chunks(source, window, spans, body),
+        Err(_) => Err(WireStop::Memory),
+    }
+}
+
 // Reads the body with this framing.
 fn read_body<S: Source>(
     source: &mut S,
     window: &mut Window,
-    spans: &mut [HeaderSpan],
+    spans: &mut Vec<HeaderSpan>,
     framing: Framing,
     body: &mut Vec<u8>,
 ) -> Result<(), WireStop>
-    requires room { length spans.old ≡ 21846 }
     requires short { (n : ℕ) → framing ≡ Framing.Sized n → n ≤ 16777216 }
     requires empty { body.old.items ≡ [] }
     ensures reads { ReadsBody framing (held window.old) (held window.new) body.new.items (S.told source.old) (S.told source.new) result }
@@ -70,7 +83,7 @@ fn read_body<S: Source>(
 {
     match framing {
         Framing::Sized(count) => fill(source, window, body, count as usize),
-        Framing::Chunked => read_chunks(source, window, spans, body),
+        Framing::Chunked => read_chunked(source, window, spans, body),
     }
 }
 
@@ -104,13 +117,13 @@ fn read_into<S: Source>(
     alloc: Global,
     source: &mut S,
     window: &mut Window,
-    spans: &mut [HeaderSpan],
+    spans: &mut Vec<HeaderSpan>,
     answered: &mut bool,
 ) -> Result<Incoming, WireStop>
-    requires { length spans.old ≡ 21846 }
     ensures reads { ReadsRequest (record { bytes = held window.old; answered = answered.old }) (record { bytes = held window.new; answered = answered.new }) (S.told source.old) (S.told source.new) result }
     ensures aside { S.aside source.new ≡ S.aside source.old }
 {
+    narrow(spans);
     let framed = match read_head(source, window, spans) {
         Ok(Some(framed)) => framed,
         Ok(None) => return Ok(Incoming::Over),

@@ -9,7 +9,7 @@ use outside::{Failed, Source};
 use std::alloc::{AllocError, Global};
 
 /// The least room that a read has.
-const LEAST_ROOM: usize = 8192;
+const LEAST_ROOM: usize = 4096;
 
 /// Reads once into the bytes from end on.
 pub fn read_at<S: Source>(source: &mut S, bytes: &mut Vec<u8>, end: usize) -> Result<usize, Failed>

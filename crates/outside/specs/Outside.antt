@@ -1,5 +1,5 @@
 -- What a source has left and has given, and what a sink holds, where those are told; the counts of faults; and what a call leaves alone.
-use Rattle.std.specs.Prelude.{◌≡◌, ℕ, ◌+◌, ◌-◌, ◌^◌, ◌<◌, ◌≤◌, min, Bool, true, false, List, [], length, take, Some, Ok, Err, Result, OnErr}
+use Rattle.std.specs.Prelude.{◌≡◌, ℕ, ◌+◌, ◌-◌, ◌^◌, ◌<◌, ◌≤◌, min, Bool, true, false, List, [], ◌++◌, length, take, Some, None, Ok, Err, Result, OnErr}
 use Rattle.std.specs.Io.KnownBytes.{prepend_known, append_known, IsAtEnd}
 use Rattle.std.specs.declared.option.Option.{Option}
 
@@ -70,3 +70,8 @@ pub record Gave (old new : SourceTold) (bytes : List ℕ) : Type 0 where
 pub record Took (old new : SinkTold) (bytes : List ℕ) : Type 0 where
   pub held : new.held ≡ append_known old.held bytes
   pub later : old.faults ≤ new.faults
+
+-- the pieces that a sink's writes were given, and these behind them, where the sink tells them
+abbrev pub with_pieces : Option (List (List ℕ)) → List (List ℕ) → Option (List (List ℕ))
+with_pieces None more = None
+with_pieces (Some pieces) more = Some (pieces ++ more)

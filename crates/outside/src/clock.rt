@@ -1,5 +1,5 @@
 //! Clocks, and the two that tell their words.
-ghost use Rattle.std.specs.Prelude.{◌≡◌, [], ℕ, List, Some, IfSome, IfOk, drop};
+ghost use Rattle.std.specs.Prelude.{◌≡◌, [], ◌∷◌, ℕ, List, Some, IfSome, IfOk, drop};
 ghost use Rattle.std.specs.declared.option.Option.{Option};
 ghost use Rattle.outside.specs.Clocks.{Words, first_word, rest_words, words_of};
 
@@ -11,13 +11,19 @@ pub trait Clock {
     /// The words that are still to come, where the clock tells them.
     ghost words: { Self → Option Words };
 
+    /// The references that it holds, by their ghost names. They stay the same ones.
+    ghost stands_for: { Self → List ℕ } = { λ _. [] };
+
     /// The moment now: the next word.
     fn now(&mut self) -> u64
-        ensures { IfSome (words self.old) (λ w. (result ≡ first_word w) × (words self.new ≡ Some (rest_words w))) };
+        ensures word { IfSome (words self.old) (λ w. (result ≡ first_word w) × (words self.new ≡ Some (rest_words w))) }
+        ensures stands_for { stands_for self.new ≡ stands_for self.old };
 }
 
 impl<C: Clock> Clock for &mut C {
     ghost words = { λ c. C.words c.now };
+
+    ghost stands_for = { λ c. c.ghost_name ∷ C.stands_for c.now };
 
     fn now(&mut self) -> u64 {
         Clock::now(&mut **self)

@@ -1,8 +1,8 @@
 //! Sources, sinks, and links of both.
-ghost use Rattle.std.specs.Prelude.{◌≡◌, ◌<◌, ◌≤◌, ℕ, List, ◌∷◌, Bool, true, length, IfOk};
+ghost use Rattle.std.specs.Prelude.{◌≡◌, ◌<◌, ◌≤◌, ℕ, List, [], ◌∷◌, Bool, true, length, IfOk, None};
 ghost use Rattle.std.specs.declared.option.Option.{Option};
 ghost use Rattle.std.specs.Io.KnownBytes.{IsAtEnd};
-ghost use Rattle.outside.specs.Outside.{HasCause, KeptByReads, KeptByWrites, Reads, Writes, SinkTold, SourceTold};
+ghost use Rattle.outside.specs.Outside.{HasCause, KeptByReads, KeptByWrites, Reads, Writes, SinkTold, SourceTold, with_pieces};
 
 /// The outside failed, and has counted it.
 #[derive(Clone, Copy, Debug, PartialEq, Eq)]
@@ -36,10 +36,14 @@ pub trait Sink {
     /// What no write changes: at a link, what its source tells; and the references that the sink holds, which stay the same ones.
     ghost aside: { Self → KeptByWrites };
 
+    /// The pieces that its writes were given, in their order, where the sink tells them.
+    ghost offered: { Self → Option (List (List ℕ)) } = { λ _. None };
+
     /// Writes the front of the piece, and answers how many bytes of it were taken: at least one. A write that fails takes nothing.
     fn write(&mut self, piece: &[u8]) -> Result<usize, Failed>
         requires { 0 < length piece.now }
         ensures bytes { Writes (told self.old) (told self.new) result piece.now }
+        ensures offered { offered self.new ≡ with_pieces (offered self.old) (piece.now ∷ []) }
         ensures aside { aside self.new ≡ aside self.old }
         ensures cause { HasCause (told self.old).faults (told self.new).faults result };
 }
@@ -79,6 +83,8 @@ impl<K: Sink> Sink for &mut K {
     ghost told = { λ s. K.told s.now };
 
     ghost aside = { λ s. record { source = (K.aside s.now).source; stands_for = s.ghost_name ∷ (K.aside s.now).stands_for } };
+
+    ghost offered = { λ s. K.offered s.now };
 
     fn write(&mut self, piece: &[u8]) -> Result<usize, Failed> {
         Sink::write(&mut **self, piece)

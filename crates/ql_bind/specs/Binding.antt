@@ -1,10 +1,9 @@
 -- A parsed query bound to the types, or the first cause that refuses it: the table, then what is shown, the condition and the order, each in the order
 -- of the text (CMIS 1.1, section 2.1.14.2).
-use Rattle.std.specs.Prelude.{ℕ, Bool, true, false, not, ◌&&◌, if◌then◌else◌, List, [], ◌∷◌, ◌++◌, map, Option, Some, None, Ok, is_some, unwrap_or, option_map}
+use Rattle.std.specs.Prelude.{ℕ, Bool, true, false, not, ◌&&◌, if◌then◌else◌, List, [], ◌∷◌, ◌++◌, map, Option, Some, None, Ok, unwrap_or, option_map}
 use Rattle.cm_base.specs.declared.value.Scalar.{Scalar}
 use Rattle.cm_base.specs.declared.value.Scalar.TheVariants as scalars
 use Rattle.cm_base.specs.declared.cause.Cause.TheVariants.{QueryText, QueryName, QueryUse}
-use Rattle.cm_base.specs.Decimals.{decimal_i64}
 use Rattle.cm_base.specs.Judged.{Judged, ◌>>=◌, ◌>>◌, refuse, find_or}
 use Rattle.cm_types.specs.declared.definition.TypeDef.{TypeDef}
 use Rattle.cm_types.specs.declared.property.PropDef.{PropDef}
@@ -16,6 +15,7 @@ use Rattle.cmis_spec.specs.Access.{oid_named}
 use Rattle.ql_tree.specs.declared.tree.Column.{Column}
 use Rattle.ql_tree.specs.declared.tree.Literal.{Literal}
 use Rattle.ql_tree.specs.declared.tree.Literal.TheVariants as literals
+use Rattle.ql_tree.specs.declared.tree.Timestamp.{Timestamp}
 use Rattle.ql_tree.specs.declared.tree.Comparison.{Comparison}
 use Rattle.ql_tree.specs.declared.tree.Comparison.TheVariants as comparisons
 use Rattle.ql_tree.specs.declared.tree.Cond.{Cond}
@@ -33,6 +33,7 @@ use Rattle.ql_bind.specs.declared.bound.ShownColumn.{ShownColumn}
 use Rattle.ql_bind.specs.declared.bound.OrderKey.{OrderKey}
 use Rattle.ql_bind.specs.declared.bound.Bound.{Bound}
 use Rattle.ql_bind.specs.Moments.{moment_of}
+use Rattle.ql_bind.specs.Numbers.{whole_number}
 use Rattle.ql_bind.specs.Patterns.{pieces_of}
 use Rattle.ql_bind.specs.Tables.{Scope, table_named, scope_of, judge_qualifier, judge_qualified, column_in, row_kinds}
 
@@ -91,36 +92,42 @@ judge_like c d = refuse (QueryUse c.name) (not (is_text_kind d.kind))
 
 -- ---- constants
 
--- a timestamp has its form, and is one
-abbrev pub judge_moment : Literal → Judged (Unit {0})
-judge_moment (literals.Time t) = refuse (QueryText t.at) (not (is_some (moment_of t.text)))
-judge_moment _ = Ok tt
+abbrev pub is_integer : PropertyKind → Bool
+is_integer kinds.Integer = true
+is_integer _ = false
 
--- the scalar that a constant states for a column of this kind: texts for string, id, uri and html, digits for integer, flags for boolean, timestamps for datetime
-abbrev pub stated_text : PropertyKind → List ℕ → Option Scalar
-stated_text kind text = if is_text_kind kind then Some (scalars.Words text) else None
+abbrev pub is_datetime : PropertyKind → Bool
+is_datetime kinds.Datetime = true
+is_datetime _ = false
 
-abbrev pub stated_whole : PropertyKind → List ℕ → Option Scalar
-stated_whole kinds.Integer text = option_map scalars.Whole (decimal_i64 text)
-stated_whole _ text = None
+-- texts for string, id, uri and html, digits for integer, flags for boolean, timestamps for datetime
+abbrev pub is_of_kind : PropertyKind → Literal → Bool
+is_of_kind kind (literals.Words text) = is_text_kind kind
+is_of_kind kind (literals.Whole text) = is_integer kind
+is_of_kind kind (literals.Flag flag) = is_boolean kind
+is_of_kind kind (literals.Time t) = is_datetime kind
 
-abbrev pub stated_flag : PropertyKind → Bool → Option Scalar
-stated_flag kinds.Boolean flag = Some (scalars.Flag flag)
-stated_flag _ flag = None
+abbrev pub judge_kind : Column → PropDef → Literal → Judged (Unit {0})
+judge_kind c d x = refuse (QueryUse c.name) (not (is_of_kind d.kind x))
 
-abbrev pub stated_moment : PropertyKind → List ℕ → Option Scalar
-stated_moment kinds.Datetime text = option_map scalars.Time (moment_of text)
-stated_moment _ text = None
+-- a number past 64 bits is no value of the column
+abbrev pub stated_whole : Column → List ℕ → Judged Scalar
+stated_whole c text = find_or (QueryUse c.name) (option_map scalars.Whole (whole_number text))
 
-abbrev pub stated : PropertyKind → Literal → Option Scalar
-stated kind (literals.Words text) = stated_text kind text
-stated kind (literals.Whole text) = stated_whole kind text
-stated kind (literals.Flag flag) = stated_flag kind flag
-stated kind (literals.Time t) = stated_moment kind t.text
+-- what is no timestamp is refused at its text
+abbrev pub stated_time : Timestamp → Judged Scalar
+stated_time t = find_or (QueryText t.at) (option_map scalars.Time (moment_of t.text))
 
--- the constant is of the column's kind
+-- the scalar that a constant states
+abbrev pub stated : Column → Literal → Judged Scalar
+stated c (literals.Words text) = Ok (scalars.Words text)
+stated c (literals.Whole text) = stated_whole c text
+stated c (literals.Flag flag) = Ok (scalars.Flag flag)
+stated c (literals.Time t) = stated_time t
+
+-- the constant is of the column's kind, and then has its form
 abbrev pub literal_for : Column → PropDef → Literal → Judged Scalar
-literal_for c d x = judge_moment x >> find_or (QueryUse c.name) (stated d.kind x)
+literal_for c d x = judge_kind c d x >> stated c x
 
 -- ---- conditions
 
@@ -131,10 +138,9 @@ bind_compare scope c by x = do
   s ← literal_for c d x
   Ok (tests.Compare d.id by s)
 
--- the constant stands before the column
+-- x = ANY c is ANY c IN (x)
 abbrev pub bind_equal_any : Scope → Literal → Column → Judged Condition
 bind_equal_any scope x c = do
-  judge_moment x
   d ← several_in scope c
   s ← literal_for c d x
   Ok (tests.AnyIn d.id false (s ∷ []))
@@ -195,11 +201,15 @@ bind_filter scope (Some x) = bind_condition scope x >>= λ y. Ok (Some y)
 abbrev pub whole_column : PropDef → ShownColumn
 whole_column d = record { key = d.query_name; property = d }
 
+-- under its alias, or else its query name
+abbrev pub named_column : Option (List ℕ) → PropDef → ShownColumn
+named_column alias d = record { key = unwrap_or alias d.query_name; property = d }
+
 abbrev pub bind_item : Scope → Item → Judged (List ShownColumn)
 bind_item scope (items.AllOf table) = judge_qualifier scope table >> Ok (map whole_column scope.columns)
 bind_item scope (items.One c alias) = do
   d ← column_in scope c
-  Ok (record { key = unwrap_or alias d.query_name; property = d } ∷ [])
+  Ok (named_column alias d ∷ [])
 
 abbrev pub bind_selection : Scope → Selection → Judged (List ShownColumn)
 bind_selection scope selections.All = Ok (map whole_column scope.columns)

@@ -1,4 +1,5 @@
 pub mod Moments
+pub mod Numbers
 pub mod Patterns
 pub mod Tables
 pub mod Binding

@@ -1,6 +1,6 @@
 -- What the names of a query stand for: its table, the columns, and the types whose objects are rows (CMIS 1.1, sections 2.1.14.1 and 2.1.14.2.2).
 use Rattle.std.specs.Prelude.{ℕ, Bool, true, false, ◌&&◌, ◌||◌, not, List, [], ◌∷◌, map, filter, find, Option, Some, None, Ok, bytes_eq, codes, if◌then◌else◌}
-use Rattle.std.specs.List.{list_any}
+use Rattle.std.specs.List.{list_any, flat_map}
 use Rattle.cm_base.specs.declared.cause.Cause.TheVariants.{QueryName}
 use Rattle.cm_base.specs.Judged.{Judged, ◌>>◌, refuse, find_or}
 use Rattle.cm_types.specs.declared.definition.TypeDef.{TypeDef}
@@ -8,6 +8,10 @@ use Rattle.cm_types.specs.declared.definition.BaseType.TheVariants as bases
 use Rattle.cm_types.specs.declared.property.PropDef.{PropDef}
 use Rattle.cm_types.specs.Types.{same_base, chain, props_of}
 use Rattle.ql_tree.specs.declared.tree.Column.{Column}
+
+-- the properties of some types
+abbrev pub properties_in : List TypeDef → List PropDef
+properties_in ts = flat_map (λ t. t.properties) ts
 
 -- the type that the table is: a queryable one, by its query name
 abbrev pub table_named : List TypeDef → List ℕ → Option TypeDef
@@ -19,8 +23,12 @@ properties_of types t =
     if same_base bases.Secondary t.base then props_of types (codes "cmis:item") (t.id ∷ [])
     else props_of types t.id []
 
+-- what may be tested, shown and ordered by
+abbrev pub columns_among : List PropDef → List PropDef
+columns_among ds = filter (λ d. d.queryable) ds
+
 abbrev pub columns_of : List TypeDef → TypeDef → List PropDef
-columns_of types t = filter (λ d. d.queryable) (properties_of types t)
+columns_of types t = columns_among (properties_of types t)
 
 -- the names that may stand before a point, and the columns
 pub record Scope : Type 0 where
@@ -53,5 +61,9 @@ abbrev pub counts_up : List ℕ → List TypeDef → Bool
 counts_up id [] = false
 counts_up id (t ∷ above) = bytes_eq t.id id || t.included_in_supertype_query && counts_up id above
 
+-- of some types, those whose objects are rows of the table
+abbrev pub kinds_among : List TypeDef → List ℕ → List TypeDef → List (List ℕ)
+kinds_among types table ts = map (λ t. t.id) (filter (λ t. counts_up table (chain types t.id)) ts)
+
 abbrev pub row_kinds : List TypeDef → TypeDef → List (List ℕ)
-row_kinds types table = map (λ t. t.id) (filter (λ t. counts_up table.id (chain types t.id)) types)
+row_kinds types table = kinds_among types table.id types

@@ -161,7 +161,7 @@ pub(crate) fn is_text_kind(kind: PropertyKind) -> bool
     }
 }
 
-fn is_boolean(kind: PropertyKind) -> bool
+pub(crate) fn is_boolean(kind: PropertyKind) -> bool
     ensures { result ≡ is_boolean kind }
 {
     match kind {

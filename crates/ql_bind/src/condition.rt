@@ -7,7 +7,7 @@ ghost use Rattle.ql_bind.specs.Binding.{bind_any_in, bind_compare, bind_conditio
 
 use crate::bound::Condition;
 use crate::column::{Scope, judge_comparison, judge_like};
-use crate::literal::{judge_moment, literal_for, literals_for};
+use crate::literal::{literal_for, literals_for};
 use crate::pattern::pieces_of;
 use cm_base::copies::Copies;
 use cm_base::decimal::read_u64;
@@ -54,7 +54,6 @@ fn equal_any(
 ) -> Result<Condition, Fail>
     ensures { Meets (λ x. x) result (bind_equal_any scope.now literal.now column.now) }
 {
-    judge_moment(literal)?;
     let def = scope.several(alloc, column)?;
     let scalar = literal_for(alloc, column, def, literal)?;
     let id = def.id.copied(alloc)?;

@@ -9,6 +9,7 @@ mod column;
 mod condition;
 mod literal;
 mod moment;
+mod number;
 mod pattern;
 mod select;
-mod table;
+pub mod table;

@@ -1,89 +1,104 @@
 //! Constants as scalars of a column's kind.
 ghost use Rattle.std.specs.Prelude.{◌≡◌, [], IfOk};
+ghost use Rattle.cm_base.specs.declared.value.Scalar.TheVariants as scalars;
 ghost use Rattle.cm_base.specs.Judged.{Meets};
-ghost use Rattle.ql_bind.specs.Binding.{each_onto, judge_moment, literal_for, stated, stated_flag, stated_moment, stated_text, stated_whole};
+ghost use Rattle.ql_bind.specs.Binding.{each_onto, is_datetime, is_integer, is_of_kind, judge_kind, literal_for, stated, stated_time, stated_whole};
 
-use crate::column::{is_text_kind, misused};
+use crate::column::{is_boolean, is_text_kind, misused};
 use crate::moment::moment_of;
+use crate::number::whole_number;
 use cm_base::cause::Cause;
 use cm_base::copies::Copies;
-use cm_base::decimal::read_i64;
 use cm_base::fail::Fail;
 use cm_base::items::Items;
 use cm_base::text::Text;
 use cm_base::value::{Scalar, Scalars};
 use cm_types::property::{PropDef, PropertyKind};
-use ql_tree::tree::{Column, Literal};
+use ql_tree::tree::{Column, Literal, Timestamp};
 use std::alloc::{AllocError, Global};
 
-/// A timestamp has its form, and is one.
-pub(crate) fn judge_moment(literal: &Literal) -> Result<(), Fail>
-    ensures { Meets (λ x. x) result (judge_moment literal.now) }
+fn is_integer(kind: PropertyKind) -> bool
+    ensures { result ≡ is_integer kind }
+{
+    match kind {
+        PropertyKind::Integer => true,
+        _ => false,
+    }
+}
+
+fn is_datetime(kind: PropertyKind) -> bool
+    ensures { result ≡ is_datetime kind }
+{
+    match kind {
+        PropertyKind::Datetime => true,
+        _ => false,
+    }
+}
+
+fn is_of_kind(kind: PropertyKind, literal: &Literal) -> bool
+    ensures { result ≡ is_of_kind kind literal.now }
 {
     match literal {
-        Literal::Time(time) => match moment_of(time.text.as_str()) {
-            Some(_) => Ok(()),
-            None => Err(Fail::Refused(Cause::QueryText(time.at))),
-        },
-        _ => Ok(()),
+        Literal::Words(_) => is_text_kind(kind),
+        Literal::Whole(_) => is_integer(kind),
+        Literal::Flag(_) => is_boolean(kind),
+        Literal::Time(_) => is_datetime(kind),
     }
 }
 
-fn stated_text(alloc: Global, kind: PropertyKind, text: &Text) -> Result<Option<Scalar>, AllocError>
-    ensures { IfOk result (λ s. s ≡ stated_text kind text.now) }
-{
-    if is_text_kind(kind) {
-        Ok(Some(Scalar::Words(text.copied(alloc)?)))
-    } else {
-        Ok(None)
-    }
-}
-
-fn stated_whole(kind: PropertyKind, text: &Text) -> Option<Scalar>
-    ensures { result ≡ stated_whole kind text.now }
-{
-    match kind {
-        PropertyKind::Integer => match read_i64(text.bytes()) {
-            Some(number) => Some(Scalar::Whole(number)),
-            None => None,
-        },
-        _ => None,
-    }
-}
-
-fn stated_flag(kind: PropertyKind, flag: bool) -> Option<Scalar>
-    ensures { result ≡ stated_flag kind flag }
-{
-    match kind {
-        PropertyKind::Boolean => Some(Scalar::Flag(flag)),
-        _ => None,
-    }
-}
-
-fn stated_moment(kind: PropertyKind, text: &Text) -> Option<Scalar>
-    ensures { result ≡ stated_moment kind text.now }
-{
-    match kind {
-        PropertyKind::Datetime => match moment_of(text.as_str()) {
-            Some(moment) => Some(Scalar::Time(moment)),
-            None => None,
-        },
-        _ => None,
-    }
-}
-
-fn stated(
+fn judge_kind(
     alloc: Global,
-    kind: PropertyKind,
+    column: &Column,
+    def: &PropDef,
     literal: &Literal,
-) -> Result<Option<Scalar>, AllocError>
-    ensures { IfOk result (λ s. s ≡ stated kind literal.now) }
+) -> Result<(), Fail>
+    ensures { Meets (λ x. x) result (judge_kind column.now def.now literal.now) }
+{
+    if is_of_kind(def.kind, literal) {
+        return Ok(());
+    }
+    let cause = misused(alloc, column)?;
+    Err(Fail::Refused(cause))
+}
+
+fn stated_words(alloc: Global, text: &Text) -> Result<Scalar, AllocError>
+    ensures { IfOk result (λ s. s ≡ scalars.Words text.now) }
+{
+    Ok(Scalar::Words(text.copied(alloc)?))
+}
+
+fn stated_whole(alloc: Global, column: &Column, text: &Text) -> Result<Scalar, Fail>
+    ensures { Meets (λ x. x) result (stated_whole column.now text.now) }
+{
+    match whole_number(text.bytes()) {
+        Some(number) => Ok(Scalar::Whole(number)),
+        None => {
+            let cause = misused(alloc, column)?;
+            Err(Fail::Refused(cause))
+        }
+    }
+}
+
+fn stated_time(time: &Timestamp) -> Result<Scalar, Fail>
+    ensures { Meets (λ x. x) result (stated_time time.now) }
+{
+    match moment_of(time.text.as_str()) {
+        Some(moment) => Ok(Scalar::Time(moment)),
+        None => Err(Fail::Refused(Cause::QueryText(time.at))),
+    }
+}
+
+fn stated(alloc: Global, column: &Column, literal: &Literal) -> Result<Scalar, Fail>
+    ensures { Meets (λ x. x) result (stated column.now literal.now) }
 {
     match literal {
-        Literal::Words(text) => stated_text(alloc, kind, text),
-        Literal::Whole(text) => Ok(stated_whole(kind, text)),
-        Literal::Flag(flag) => Ok(stated_flag(kind, *flag)),
-        Literal::Time(time) => Ok(stated_moment(kind, &time.text)),
+        Literal::Words(text) => {
+            let words = stated_words(alloc, text)?;
+            Ok(words)
+        }
+        Literal::Whole(text) => stated_whole(alloc, column, text),
+        Literal::Flag(flag) => Ok(Scalar::Flag(*flag)),
+        Literal::Time(time) => stated_time(time),
     }
 }
 
@@ -97,14 +112,8 @@ pub(crate) fn literal_for(
 ) -> Result<Scalar, Fail>
     ensures { Meets (λ x. x) result (literal_for column.now def.now literal.now) }
 {
-    judge_moment(literal)?;
-    match stated(alloc, def.kind, literal)? {
-        Some(scalar) => Ok(scalar),
-        None => {
-            let cause = misused(alloc, column)?;
-            Err(Fail::Refused(cause))
-        }
-    }
+    judge_kind(alloc, column, def, literal)?;
+    stated(alloc, column, literal)
 }
 
 /// The same of each constant of a list.

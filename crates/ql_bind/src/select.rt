@@ -2,7 +2,7 @@
 ghost use Rattle.std.specs.Prelude.{◌≡◌, [], ◌∷◌, ◌++◌, map, IfOk, OnOk, unwrap_or};
 ghost use Rattle.map_keys.specs.Parts.{pointee};
 ghost use Rattle.cm_base.specs.Judged.{Meets};
-ghost use Rattle.ql_bind.specs.Binding.{all_onto, bind_item, bind_key, bind_selection, each_onto, whole_column};
+ghost use Rattle.ql_bind.specs.Binding.{all_onto, bind_item, bind_key, bind_selection, each_onto, named_column, whole_column};
 
 use crate::bound::{OrderKey, OrderKeys, ShownColumn, ShownColumns};
 use crate::column::{Scope, misused};
@@ -47,7 +47,7 @@ fn one_column(
     alias: &Option<Text>,
     def: &PropDef,
 ) -> Result<ShownColumns, AllocError>
-    ensures { IfOk result (λ all. all ≡ record { key = unwrap_or alias.now def.now.query_name; property = def.now } ∷ []) }
+    ensures { IfOk result (λ all. all ≡ named_column alias.now def.now ∷ []) }
 {
     let key = key_of(alloc, alias, def)?;
     let property = def.copied(alloc)?;

@@ -1,10 +1,9 @@
 //! Tables: the type that one is, its columns, and the types whose objects are its rows.
-ghost use Rattle.std.specs.Prelude.{◌≡◌, ◌∷◌, ◌++◌, [], ◌&&◌, IfOk, OnOk, bytes_eq, filter, map};
+ghost use Rattle.std.specs.Prelude.{◌≡◌, ◌∷◌, ◌++◌, [], ◌&&◌, IfOk, OnOk, bytes_eq, map};
 ghost use Rattle.std.specs.Option.{option_copied};
-ghost use Rattle.std.specs.List.{flat_map};
 ghost use Rattle.map_keys.specs.Parts.{pointee};
 ghost use Rattle.cm_types.specs.Types.{chain, chain_of, longest_chain, types_of};
-ghost use Rattle.ql_bind.specs.Tables.{columns_of, counts_up, properties_of, row_kinds, table_named};
+ghost use Rattle.ql_bind.specs.Tables.{columns_among, columns_of, counts_up, kinds_among, properties_in, properties_of, row_kinds, table_named};
 
 use cm_base::copies::Copies;
 use cm_base::items::Items;
@@ -42,7 +41,7 @@ fn lines<'a>(
     types: &'a Types,
     table: &TypeDef,
 ) -> Result<Vec<&'a TypeDef>, AllocError>
-    ensures { IfOk result (λ all. flat_map (λ t. t.properties) (map pointee all.items) ≡ properties_of types.now table.now) }
+    ensures { IfOk result (λ all. properties_in (map pointee all.items) ≡ properties_of types.now table.now) }
 {
     match table.base {
         BaseType::Secondary => {
@@ -59,7 +58,7 @@ fn lines<'a>(
 }
 
 fn add_queryable<'a>(all: &mut Vec<&'a PropDef>, def: &'a PropDef) -> Result<(), AllocError>
-    ensures { OnOk result (map pointee all.new.items ≡ map pointee all.old.items ++ filter (λ d. d.queryable) (def.now ∷ [])) }
+    ensures { OnOk result (map pointee all.new.items ≡ map pointee all.old.items ++ columns_among (def.now ∷ [])) }
 {
     if def.queryable {
         all.push(def)?;
@@ -68,7 +67,7 @@ fn add_queryable<'a>(all: &mut Vec<&'a PropDef>, def: &'a PropDef) -> Result<(),
 }
 
 fn add_columns<'a>(all: &mut Vec<&'a PropDef>, defs: &'a [PropDef]) -> Result<(), AllocError>
-    ensures { OnOk result (map pointee all.new.items ≡ map pointee all.old.items ++ filter (λ d. d.queryable) defs.now) }
+    ensures { OnOk result (map pointee all.new.items ≡ map pointee all.old.items ++ columns_among defs.now) }
 {
     for def in defs {
         add_queryable(all, def)?;
@@ -76,8 +75,9 @@ fn add_columns<'a>(all: &mut Vec<&'a PropDef>, defs: &'a [PropDef]) -> Result<()
     Ok(())
 }
 
-fn columns_in<'a>(alloc: Global, types: &[&'a TypeDef]) -> Result<Vec<&'a PropDef>, AllocError>
-    ensures { IfOk result (λ all. map pointee all.items ≡ filter (λ d. d.queryable) (flat_map (λ t. t.properties) (map pointee types.now))) }
+/// The queryable properties of some types, in their order.
+pub fn columns_in<'a>(alloc: Global, types: &[&'a TypeDef]) -> Result<Vec<&'a PropDef>, AllocError>
+    ensures { IfOk result (λ all. map pointee all.items ≡ columns_among (properties_in (map pointee types.now))) }
 {
     let mut all = Vec::new(alloc);
     for def in types {
@@ -142,7 +142,7 @@ fn add_kind(
     def: &TypeDef,
     table: &Text,
 ) -> Result<(), AllocError>
-    ensures { OnOk result (all.new ≡ all.old ++ map (λ t. t.id) (filter (λ t. counts_up table.now (chain types.now t.id)) (def.now ∷ []))) }
+    ensures { OnOk result (all.new ≡ all.old ++ kinds_among types.now table.now (def.now ∷ [])) }
 {
     if counts(types, &def.id, table) {
         all.push(def.id.copied(alloc)?)?;
@@ -156,7 +156,7 @@ fn kinds_among(
     among: &[&TypeDef],
     table: &Text,
 ) -> Result<Texts, AllocError>
-    ensures { IfOk result (λ all. all ≡ map (λ t. t.id) (filter (λ t. counts_up table.now (chain types.now t.id)) (map pointee among.now))) }
+    ensures { IfOk result (λ all. all ≡ kinds_among types.now table.now (map pointee among.now)) }
 {
     let mut all = Items::new(alloc);
     for def in among {

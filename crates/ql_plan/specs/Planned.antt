@@ -1,6 +1,7 @@
 -- What the planner's steps tell of the rows that are found among what they chose.
 use Rattle.std.specs.Prelude.{◌≡◌, ℕ, nat_lt, Bool, true, List, [], ◌∷◌, filter, fold, length, Option, Some, None, codes, if◌then◌else◌}
 use Rattle.std.specs.List.{list_any, filter_map}
+use Rattle.std.specs.Option.{option_to_list}
 use Rattle.cm_base.specs.declared.number.Oid.{Oid}
 use Rattle.cm_base.specs.declared.value.Value.TheVariants.{One}
 use Rattle.cm_base.specs.declared.value.Scalar.TheVariants.{Words}
@@ -36,6 +37,22 @@ IsKeyBy filter k = (row : Row) → keeps_by filter row ≡ true → Fits k row
 abbrev pub HasAll : Repository → Bound → List Oid → Type 0
 HasAll r bound ns = (u : List ℕ) (versions : Bool) → filter (keeps bound) (filter_map (row_at r u versions) ns) ≡ filter (keeps bound) (rows_of r u bound.kinds versions)
 
+-- ---- what is kept
+
+-- who asks, for what, and whether each version is a row
+pub record Search : Type 0 where
+  pub user : List ℕ
+  pub bound : Bound
+  pub versions : Bool
+
+-- the row of a number, where there is one that the query keeps
+abbrev pub kept_at : Repository → Search → Oid → List Row
+kept_at r s n = filter (keeps s.bound) (option_to_list (row_at r s.user s.versions n))
+
+-- of the rows of these numbers, those that the query keeps
+abbrev pub kept : Repository → Search → List Oid → List Row
+kept r s ns = filter (keeps s.bound) (filter_map (row_at r s.user s.versions) ns)
+
 -- ---- what is fetched
 
 -- the numbers that a key names
@@ -52,10 +69,14 @@ members_of r kinds k = filter (has_types r kinds) (numbers_of r k)
 abbrev pub shorter : List Oid → List Oid → List Oid
 shorter best other = if nat_lt (length other) (length best) then other else best
 
--- all objects of the row types where the condition has no key; else the fewest members of a key
+-- the fewest members of a key
+abbrev pub fewest : Repository → List (List ℕ) → Key → List Key → List Oid
+fewest r kinds k ks = fold (λ best other. shorter best (members_of r kinds other)) (members_of r kinds k) ks
+
+-- all objects of the row types where the condition has no key
 abbrev pub planned_by : Repository → List (List ℕ) → List Key → List Oid
 planned_by r kinds [] = of_types r kinds
-planned_by r kinds (k ∷ ks) = fold (λ best other. shorter best (members_of r kinds other)) (members_of r kinds k) ks
+planned_by r kinds (k ∷ ks) = fewest r kinds k ks
 
 abbrev pub planned : Repository → Bound → List Oid
 planned r bound = planned_by r bound.kinds (keys_by bound.filter)

@@ -1,6 +1,6 @@
 //! Which objects are fetched: the members of the smallest set.
-ghost use Rattle.std.specs.Prelude.{◌≡◌, [], ◌∷◌, ◌++◌, IfOk, OnOk, filter, fold};
-ghost use Rattle.ql_plan.specs.Planned.{members_of, numbers_of, planned_by, shorter};
+ghost use Rattle.std.specs.Prelude.{◌≡◌, [], ◌∷◌, ◌++◌, IfOk, OnOk, filter};
+ghost use Rattle.ql_plan.specs.Planned.{fewest, members_of, numbers_of, planned_by, shorter};
 ghost use Rattle.row_store.specs.Rows.{has_types};
 
 use crate::key::Key;
@@ -90,7 +90,7 @@ fn fewest<S: RowStore>(
     first: Key,
     others: &[Key],
 ) -> Result<Oids, AllocError>
-    ensures { IfOk result (λ all. all ≡ fold (λ best other. shorter best (members_of (S.means store.now) kinds.now other)) (members_of (S.means store.now) kinds.now first) others.now) }
+    ensures { IfOk result (λ all. all ≡ fewest (S.means store.now) kinds.now first others.now) }
 {
     let mut best = members_of(alloc, store, kinds, first)?;
     for key in others {

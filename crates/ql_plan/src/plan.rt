@@ -1,12 +1,8 @@
 //! The rows of a query.
-ghost use Rattle.std.specs.Prelude.{◌≡◌, ◌+◌, ◌≤◌, ◌++◌, IfOk, OnOk, filter, length};
-ghost use Rattle.std.specs.List.{filter_map};
-ghost use Rattle.std.specs.Option.{option_to_list};
-ghost use Rattle.ql_eval.specs.Conditions.{keeps};
-ghost use Rattle.row_store.specs.Rows.{row_at};
+ghost use Rattle.std.specs.Prelude.{◌≡◌, ◌+◌, ◌≤◌, ◌++◌, IfOk, OnOk, length};
 ghost use Rattle.ql_plan.specs.Candidates.{fetch_bound};
 ghost use Rattle.ql_plan.specs.Found.{found};
-ghost use Rattle.ql_plan.specs.Planned.{HasAll};
+ghost use Rattle.ql_plan.specs.Planned.{HasAll, kept, kept_at};
 
 use crate::candidate::planned_by;
 use crate::key::keys_by;
@@ -20,26 +16,41 @@ use ql_eval::order::ordered;
 use ql_eval::row::Rows;
 use row_store::store::RowStore;
 use std::alloc::{AllocError, Global};
+use std::marker::Model;
 use std::sync::ledger::Ledger;
+
+/// A search: who asks, for what, and whether each version is a row.
+#[derive(Drop)]
+struct Search<'a> {
+    user: &'a Text,
+    bound: &'a Bound,
+    versions: bool,
+}
+
+impl<'a> Model for Search<'a> {
+    ghost use Rattle.ql_plan.specs.Planned.{Search as Sought};
+
+    ghost Value = { Sought };
+
+    ghost view = { λ s. record { user = s.user.now; bound = s.bound.now; versions = s.versions } };
+}
 
 // Fetches an object, and adds its row where it has one that the query keeps.
 fn keep<S: RowStore, L: Ledger>(
     rows: &mut Rows,
     alloc: Global,
     store: &S,
-    user: &Text,
-    bound: &Bound,
-    versions: bool,
+    search: &Search<'_>,
     n: Oid,
     steps: &mut Steps<L>,
 ) -> Result<(), AllocError>
-    ensures kept { OnOk result (rows.new ≡ rows.old ++ filter (keeps bound.now) (option_to_list (row_at (S.means store.now) user.now versions n))) }
+    ensures kept { OnOk result (rows.new ≡ rows.old ++ kept_at (S.means store.now) search.now n) }
     ensures ticked { steps.new ≡ steps.old + 1 }
 {
-    match store.row(alloc, user, n, versions, steps) {
+    match store.row(alloc, search.user, n, search.versions, steps) {
         Ok(row) => match row {
             Some(row) => {
-                if keeps(&row, bound) {
+                if keeps(&row, search.bound) {
                     rows.push(row)?;
                 }
                 Ok(())
@@ -53,18 +64,16 @@ fn keep<S: RowStore, L: Ledger>(
 fn kept<S: RowStore, L: Ledger>(
     alloc: Global,
     store: &S,
-    user: &Text,
-    bound: &Bound,
-    versions: bool,
+    search: &Search<'_>,
     numbers: &[Oid],
     steps: &mut Steps<L>,
 ) -> Result<Rows, AllocError>
-    ensures kept { IfOk result (λ rows. rows ≡ filter (keeps bound.now) (filter_map (row_at (S.means store.now) user.now versions) numbers.now)) }
+    ensures kept { IfOk result (λ rows. rows ≡ kept (S.means store.now) search.now numbers.now) }
     ensures fetched { steps.new ≤ steps.old + length numbers.now }
 {
     let mut rows = Items::new(alloc);
     for n in numbers {
-        keep(&mut rows, alloc, store, user, bound, versions, *n, steps)?;
+        keep(&mut rows, alloc, store, search, *n, steps)?;
     }
     Ok(rows)
 }
@@ -80,8 +89,9 @@ fn plan<S: RowStore>(alloc: Global, store: &S, bound: &Bound) -> Result<Oids, Al
     Ok(numbers)
 }
 
-/// The rows that the query finds for the user, in its order. It fetches no more objects than the smallest set has that the condition
-/// names: all objects of the row types, the object of an id, or what is filed in a folder. `bound` is the query at the types of the store.
+/// The rows that the query finds for the user, in its order. It fetches no more objects than the smallest set has that
+/// the condition names: all objects of the row types, the object of an id, or what is filed in a folder. `bound` is the
+/// query at the types of the store.
 pub fn run_plan<S: RowStore, L: Ledger>(
     alloc: Global,
     store: &S,
@@ -95,14 +105,11 @@ pub fn run_plan<S: RowStore, L: Ledger>(
 {
     store.lawful();
     let numbers = plan(alloc, store, bound)?;
-    let rows = kept(
-        alloc,
-        store,
+    let search = Search {
         user,
         bound,
         versions,
-        numbers.as_slice(),
-        steps,
-    )?;
+    };
+    let rows = kept(alloc, store, &search, numbers.as_slice(), steps)?;
     Ok(ordered(rows, bound.keys.as_slice()))
 }

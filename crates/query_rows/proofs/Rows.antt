@@ -1,5 +1,5 @@
 -- A small repository: in the root the documents `5%0` (2), without a description, and `5x` (3), with the description k.
-use Rattle.std.specs.Prelude.{◌≡◌, ℕ, pos, true, false, Bool, List, [], ◌∷◌, map, Ok, Some, None, codes}
+use Rattle.std.specs.Prelude.{◌≡◌, ℕ, pos, neg_ℤ, true, false, Bool, List, [], ◌∷◌, map, Ok, Some, None, codes}
 use Rattle.std.proofs.Common.{refl}
 use Rattle.cm_base.specs.declared.number.Oid.{Oid}
 use Rattle.cm_base.specs.declared.number.Moment.{Moment}
@@ -21,6 +21,7 @@ use Rattle.ql_tree.specs.declared.tree.Selection.TheVariants as selections
 use Rattle.ql_tree.specs.declared.tree.Table.{Table}
 use Rattle.ql_tree.specs.declared.tree.Key.{Key}
 use Rattle.ql_tree.specs.declared.tree.Query.{Query}
+use Rattle.ql_bind.specs.Numbers.{whole_number}
 use Rattle.ql_bind.specs.Patterns.{pieces_of}
 use Rattle.ql_bind.specs.Binding.{bound_query}
 use Rattle.cm_types.specs.Types.{longest_chain}
@@ -103,6 +104,11 @@ an_escaped_percent_is_itself = refl
 
 one_character : map (likes (pieces_of (codes "a_b"))) (codes "axb" ∷ codes "ab" ∷ codes "axxb" ∷ codes "aéb" ∷ []) ≡ true ∷ false ∷ false ∷ true ∷ []
 one_character = refl
+
+-- ---- numbers
+
+digits_by_the_grammar : map whole_number (codes "007" ∷ codes "-0" ∷ codes "-12" ∷ codes "-" ∷ codes "9223372036854775808" ∷ []) ≡ Some (pos 7) ∷ Some (pos 0) ∷ Some (neg_ℤ (pos 12)) ∷ None ∷ None ∷ []
+digits_by_the_grammar = refl
 
 -- ---- rows
 

@@ -3,8 +3,8 @@ use Rattle.std.specs.Prelude.{◌≡◌, ℕ, List, map, take, drop, All}
 use Rattle.std.proofs.Common.{refl, sym, ap, ◌∙◌}
 use Rattle.std.proofs.lemmas.List.{take-map, drop-map}
 use Rattle.cm_base.specs.declared.object.Object.{Object}
-use Rattle.cm_call.specs.declared.question.ReadChildren.{ReadChildren}
-use Rattle.cm_call.specs.declared.reply.ShownObject.{ShownObject}
+use Rattle.call_parts.specs.declared.readings.ReadChildren.{ReadChildren}
+use Rattle.call_parts.specs.declared.replies.ShownObject.{ShownObject}
 use Rattle.cmis_spec.specs.Repository.{Repository}
 use Rattle.cm_show.specs.Shown.{shown_object}
 use Rattle.seen_laws.proofs.Lists.{map_same}

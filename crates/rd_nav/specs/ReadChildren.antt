@@ -4,9 +4,8 @@ use Rattle.cm_base.specs.declared.object.Object.{Object}
 use Rattle.cm_base.specs.declared.cause.Cause.TheVariants as causes
 use Rattle.cm_base.specs.Judged.{Judged, ◌>>=◌, ◌>>◌, find_or, refuse}
 use Rattle.cm_types.specs.declared.definition.BaseType.TheVariants as bases
-use Rattle.cm_call.specs.declared.question.ReadChildren.{ReadChildren}
-use Rattle.cm_call.specs.declared.reply.Reply.{Reply}
-use Rattle.cm_call.specs.declared.reply.Reply.TheVariants as replies
+use Rattle.call_parts.specs.declared.readings.ReadChildren.{ReadChildren}
+use Rattle.call_parts.specs.declared.replies.ChildrenReply.{ChildrenReply}
 use Rattle.cm_show.specs.Addressed.{addressed}
 use Rattle.cm_show.specs.Shown.{shown_object}
 use Rattle.cmis_spec.specs.Repository.{Repository, is_a}
@@ -28,20 +27,20 @@ page skip asked xs = take (page_size asked) (drop skip xs)
 abbrev pub has_more : {A : Type 0} → ℕ → ℕ → List A → Bool
 has_more skip asked xs = nat_lt (skip + page_size asked) (length xs)
 
-abbrev pub children_reply : Repository → List ℕ → ReadChildren → List Object → Reply
-children_reply r u q children = replies.Children (record {
+abbrev pub children_reply : Repository → List ℕ → ReadChildren → List Object → ChildrenReply
+children_reply r u q children = record {
   objects = map (shown_object r u q.filter q.succinct) (page q.skip_count q.max_items children);
   has_more_items = has_more q.skip_count q.max_items children;
   num_items = length children;
-})
+}
 
 -- all that the caller reads is counted before the cut
-abbrev pub answer_children_in : Repository → List ℕ → ReadChildren → Object → Judged Reply
+abbrev pub answer_children_in : Repository → List ℕ → ReadChildren → Object → Judged ChildrenReply
 answer_children_in r u q x = do
   refuse causes.WrongKind (not (is_a r bases.Folder x))
   Ok (children_reply r u q (children_of r u x.id))
 
-abbrev pub answer_children : Repository → List ℕ → ReadChildren → Judged Reply
+abbrev pub answer_children : Repository → List ℕ → ReadChildren → Judged ChildrenReply
 answer_children r u q = do
   x ← find_or causes.NotFound (addressed r u q.place)
   answer_children_in r u q x

@@ -7,14 +7,14 @@ ghost use Rattle.cm_show.specs.Shown.{shown_object};
 ghost use Rattle.rd_nav.specs.ReadChildren.{answer_children, answer_children_in, children_reply};
 
 use crate::page::{has_more, page};
+use call_parts::readings::{PropertyFilter, ReadChildren};
+use call_parts::replies::{ChildrenReply, ShownObjects};
 use cm_base::cause::Cause;
 use cm_base::fail::Fail;
 use cm_base::items::Items;
 use cm_base::number::Oid;
 use cm_base::object::Object;
 use cm_base::text::Text;
-use cm_call::question::{PropertyFilter, ReadChildren};
-use cm_call::reply::{ChildrenReply, Reply, ShownObjects};
 use cm_see::child::children_of;
 use cm_show::address::addressed;
 use cm_show::shown::shown_object;
@@ -46,16 +46,16 @@ fn children_reply(
     user: &Text,
     q: &ReadChildren,
     children: &[&Object],
-) -> Result<Reply, AllocError>
+) -> Result<ChildrenReply, AllocError>
     ensures { IfOk result (λ reply. reply ≡ children_reply state.now user.now q.now (map pointee children.now)) }
 {
     let shown = page(q.skip_count, q.max_items, children);
     let objects = shown_objects(alloc, state, user, &q.filter, q.succinct, shown)?;
-    Ok(Reply::Children(ChildrenReply {
+    Ok(ChildrenReply {
         objects,
         has_more_items: has_more(q.skip_count, q.max_items, children),
         num_items: children.len() as u64,
-    }))
+    })
 }
 
 fn children_in(
@@ -64,7 +64,7 @@ fn children_in(
     user: &Text,
     q: &ReadChildren,
     folder: Oid,
-) -> Result<Reply, AllocError>
+) -> Result<ChildrenReply, AllocError>
     ensures { IfOk result (λ reply. reply ≡ children_reply state.now user.now q.now (children_of state.now user.now folder)) }
 {
     let children = children_of(alloc, state, user, folder)?;
@@ -78,7 +78,7 @@ fn children_of_folder(
     user: &Text,
     q: &ReadChildren,
     x: &Object,
-) -> Result<Reply, Fail>
+) -> Result<ChildrenReply, Fail>
     ensures { Meets (λ y. y) result (answer_children_in state.now user.now q.now x.now) }
 {
     if !state.is_a(BaseType::Folder, x) {
@@ -90,7 +90,12 @@ fn children_of_folder(
 
 /// A page of the children that the caller reads, in the order of their numbers, and how many he reads in all. What is outside the
 /// page is counted and not shown. A folder that he doesn't read is not found.
-pub fn children(alloc: Global, state: &State, user: &Text, q: &ReadChildren) -> Result<Reply, Fail>
+pub fn children(
+    alloc: Global,
+    state: &State,
+    user: &Text,
+    q: &ReadChildren,
+) -> Result<ChildrenReply, Fail>
     ensures { Meets (λ x. x) result (answer_children state.now user.now q.now) }
 {
     match addressed(state, user, &q.place) {

@@ -1,6 +1,6 @@
 //! The answer follows from what the caller sees: a law, as a function that does nothing.
 ghost use Rattle.std.specs.Prelude.{ℕ, List};
-ghost use Rattle.cm_call.specs.declared.question.ReadChildren.{ReadChildren};
+ghost use Rattle.call_parts.specs.declared.readings.ReadChildren.{ReadChildren};
 ghost use Rattle.cmis_spec.specs.Repository.{Repository};
 ghost use Rattle.cmis_spec.specs.Seen.{OfSeen};
 ghost use Rattle.cmis_spec.specs.Well.{IsWellFormed};

@@ -1,7 +1,7 @@
 //! The answers follow from what the caller sees: a law for each, as a function that does nothing.
 ghost use Rattle.std.specs.Prelude.{ℕ, List};
-ghost use Rattle.cm_call.specs.declared.question.ReadObject.{ReadObject};
-ghost use Rattle.cm_call.specs.declared.question.ReadProperties.{ReadProperties};
+ghost use Rattle.call_parts.specs.declared.readings.ReadObject.{ReadObject};
+ghost use Rattle.call_parts.specs.declared.readings.ReadProperties.{ReadProperties};
 ghost use Rattle.cmis_spec.specs.Repository.{Repository};
 ghost use Rattle.cmis_spec.specs.Seen.{OfSeen};
 ghost use Rattle.cmis_spec.specs.Well.{IsWellFormed};

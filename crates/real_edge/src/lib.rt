@@ -12,4 +12,4 @@ mod tests;
 pub use clock::{LATEST_MS, SystemClock};
 pub use sink::StdSink;
 pub use source::StdSource;
-pub use tcp::{TcpHost, TcpLink};
+pub use tcp::{LONGEST_WAIT_S, TcpHost, TcpLink};

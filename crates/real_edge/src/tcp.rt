@@ -4,25 +4,32 @@ ghost use Rattle.std.specs.Prelude.{◌≡◌, ◌≤◌, [], None, false, refl}
 use outside::{Failed, Host, Link, Sink, Source};
 use std::io::{Read, Write};
 use std::net::{IpAddr, Ipv4Addr, Net, OpenListener, OpenStream, Shutdown, SocketAddr};
+use std::time::Duration;
 
-/// A connection. A write that takes nothing is a fault. Once it has ended it reads no more.
+/// How many seconds a connection may keep its session waiting: a read or a write that waits longer is a fault, which ends the session.
+pub const LONGEST_WAIT_S: u64 = 60;
+
+/// A connection. A write that takes nothing is a fault. Once it has ended it reads no more, and once it is finished it keeps nothing of the
+/// system's open, and each further read and write is a fault.
 #[derive(Drop)]
 pub struct TcpLink<S: Read + Write + OpenStream + Drop> {
-    stream: S,
+    stream: Option<S>,
     ended: bool,
     read_faults: u64,
     write_faults: u64,
 }
 
 impl<S: Read + Write + OpenStream + Drop> TcpLink<S> {
-    /// A connection that has just come. A reply goes out as soon as it is written.
+    /// A connection that has just come. A reply goes out as soon as it is written, and no wait is longer than `LONGEST_WAIT_S`.
     pub fn new(stream: S) -> TcpLink<S>
         ensures source { ⟦<TcpLink<S> as Source>⟧.told result ≡ record { left = None; given = None; ended = false; faults = 0 } }
         ensures sink { ⟦<TcpLink<S> as Sink>⟧.told result ≡ record { held = None; faults = 0 } }
     {
         let _ = stream.set_nodelay(true);
+        let _ = stream.set_read_timeout(Some(Duration::from_secs(LONGEST_WAIT_S)));
+        let _ = stream.set_write_timeout(Some(Duration::from_secs(LONGEST_WAIT_S)));
         TcpLink {
-            stream,
+            stream: Some(stream),
             ended: false,
             read_faults: 0,
             write_faults: 0,
@@ -41,12 +48,16 @@ impl<S: Read + Write + OpenStream + Drop> Source for TcpLink<S> {
         if self.ended {
             return Ok(0);
         }
-        match self.stream.read(room) {
-            Ok(count) => {
+        let count = match &mut self.stream {
+            Some(stream) => stream.read(room).ok(),
+            None => None,
+        };
+        match count {
+            Some(count) => {
                 self.ended = count == 0;
                 Ok(count)
             }
-            Err(_) => {
+            None => {
                 self.read_faults = self.read_faults.saturating_add(1);
                 Err(Failed)
             }
@@ -60,8 +71,12 @@ impl<S: Read + Write + OpenStream + Drop> Sink for TcpLink<S> {
     ghost aside = { λ l. record { source = record { left = None; given = None; ended = l.ended; faults = l.read_faults }; stands_for = [] } };
 
     fn write(&mut self, piece: &[u8]) -> Result<usize, Failed> {
-        match self.stream.write(piece) {
-            Ok(count) if count > 0 => Ok(count),
+        let count = match &mut self.stream {
+            Some(stream) => stream.write(piece).ok(),
+            None => None,
+        };
+        match count {
+            Some(count) if count > 0 => Ok(count),
             _ => {
                 self.write_faults = self.write_faults.saturating_add(1);
                 Err(Failed)
@@ -78,7 +93,10 @@ impl<S: Read + Write + OpenStream + Drop> Link for TcpLink<S> {
     ghost writes_keep = { λ _. refl };
 
     fn finish(&mut self) {
-        let _ = self.stream.shutdown(Shutdown::Both);
+        if let Some(stream) = &self.stream {
+            let _ = stream.shutdown(Shutdown::Both);
+        }
+        self.stream = None;
     }
 }
 

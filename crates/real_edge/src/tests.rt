@@ -1,7 +1,9 @@
 //! One test for each: what a reader, a writer and a clock do, seen through the traits; and the system's own once.
-use crate::{LATEST_MS, StdSink, StdSource, SystemClock};
-use outside::{Clock, Failed, Sink, Source};
-use std::io::{self, Error, ErrorKind, Read};
+use crate::{LATEST_MS, StdSink, StdSource, SystemClock, TcpHost, TcpLink};
+use outside::{Clock, Failed, Host, Link, Sink, Source};
+use std::os::fd::{AsRawFd, RawFd};
+use std::io::{self, Error, ErrorKind, Read, Write};
+use std::net::{IpAddr, Ipv4Addr, Net, OpenListener, OpenStream, SocketAddr};
 use std::rt::Clock as System;
 use std::test::Fail;
 use std::time::Duration;
@@ -31,6 +33,105 @@ impl System for Still {
             None => Err(Error::from(ErrorKind::Unsupported)),
         }
     }
+}
+
+// A stream that ends at once, takes three bytes at most of a piece, and can't be set or shut.
+#[derive(Drop)]
+struct Short;
+
+impl Read for Short {
+    fn read(&mut self, _room: &mut [u8]) -> io::Result<usize> {
+        Ok(0)
+    }
+}
+
+impl Write for Short {
+    fn write(&mut self, piece: &[u8]) -> io::Result<usize> {
+        if piece.len() < 3 {
+            return Ok(0);
+        }
+        Ok(3)
+    }
+
+    fn flush(&mut self) -> io::Result<()> {
+        Ok(())
+    }
+}
+
+impl AsRawFd for Short {
+    fn as_raw_fd(&self) -> RawFd {
+        0
+    }
+}
+
+impl OpenStream for Short {}
+
+// A listener to which such streams come.
+#[derive(Drop)]
+struct Shorts;
+
+impl AsRawFd for Shorts {
+    fn as_raw_fd(&self) -> RawFd {
+        0
+    }
+}
+
+impl OpenListener for Shorts {
+    type Stream = Short;
+
+    fn accept(&self) -> io::Result<(Short, SocketAddr)> {
+        Ok((Short, SocketAddr::new(IpAddr::V4(Ipv4Addr::LOCALHOST), 1)))
+    }
+}
+
+// A network in which only this port is free.
+#[derive(Drop)]
+struct Free(u16);
+
+impl Net for Free {
+    type Stream = Short;
+
+    type Listener = Shorts;
+
+    fn bind(&self, address: SocketAddr) -> io::Result<Shorts> {
+        if address.port() == self.0 {
+            Ok(Shorts)
+        } else {
+            Err(Error::from(ErrorKind::AddrInUse))
+        }
+    }
+
+    fn connect(&self, _address: SocketAddr) -> io::Result<Short> {
+        Err(Error::from(ErrorKind::ConnectionRefused))
+    }
+}
+
+#[test]
+fn link_ends_and_counts(rt: HostRuntime) {
+    let mut room = [0; 4];
+    let mut link = TcpLink::new(Short);
+    assert_eq!(rt; link.read(&mut room), Ok(0));
+    assert_eq!(rt; link.write(b"abcd"), Ok(3));
+    assert_eq!(rt; link.write(b"d"), Err(Failed));
+    link.finish();
+    assert_eq!(rt; link.write(b"abcd"), Err(Failed));
+}
+
+#[test]
+fn host_gives_its_bound(rt: HostRuntime) {
+    let net = Free(80);
+    let mut host = TcpHost::new(&net);
+    assert_eq!(rt; host.begin(80, Some(1)), Ok(()));
+    assert!(rt; matches!(host.accept(), Ok(Some(_))));
+    assert!(rt; matches!(host.accept(), Ok(None)));
+}
+
+#[test]
+fn host_fails_where_its_port_is_taken(rt: HostRuntime) {
+    let net = Free(80);
+    let mut host = TcpHost::new(&net);
+    assert_eq!(rt; host.begin(81, None), Err(Failed));
+    assert!(rt; host.accept().is_err());
 }
 
 #[test]

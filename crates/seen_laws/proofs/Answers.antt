@@ -4,8 +4,8 @@ use Rattle.std.proofs.Common.{refl, ap, ◌∙◌}
 use Rattle.cm_base.specs.declared.object.Object.{Object}
 use Rattle.cm_base.specs.declared.cause.Cause.{Cause}
 use Rattle.cm_base.specs.Judged.{Judged, ◌>>=◌, find_or}
-use Rattle.cm_call.specs.declared.place.Place.{Place}
-use Rattle.cm_call.specs.declared.place.Place.TheVariants.{Id, Path}
+use Rattle.call_parts.specs.declared.place.Place.{Place}
+use Rattle.call_parts.specs.declared.place.Place.TheVariants.{Id, Path}
 use Rattle.cmis_spec.specs.Repository.{Repository}
 use Rattle.cm_show.specs.Addressed.{addressed}
 use Rattle.seen_laws.proofs.Worlds.{AreAlike, IsAlike, IsFound, read_named_alike, at_path_alike}

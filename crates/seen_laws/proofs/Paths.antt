@@ -20,7 +20,7 @@ use Rattle.seen_laws.proofs.Objects.{IsHere, here_read, sees_at, sees_name}
 
 -- ---- reading upwards
 
-reads_most : (n m : ℕ) (r : Repository) (u : List ℕ) (f : Oid) → n ≤ m → reads_up n r u f ≡ true → reads_up m r u f ≡ true
+pub reads_most : (n m : ℕ) (r : Repository) (u : List ℕ) (f : Oid) → n ≤ m → reads_up n r u f ≡ true → reads_up m r u f ≡ true
 reads_most zero m r u f l h = absurd (both_ways false refl h)
 reads_most (suc n) zero r u f l h = absurd (omega (arith, l))
 reads_most (suc n) (suc m) r u f l h = more (is_at_least levels.Read (level_by_list r u f)) (same f root) (parent_in r.filed f) (λ g. reads_most n m r u g (omega (arith, l))) h
@@ -33,7 +33,7 @@ reads_most (suc n) (suc m) r u f l h = more (is_at_least levels.Read (level_by_l
     more false b o up h = absurd (both_ways false refl h)
 
 -- a folder below the root that is read has a parent, and that is read
-above_read : (n : ℕ) (r : Repository) (u : List ℕ) (f : Oid) → reads_up (suc n) r u f ≡ true → same f root ≡ false → (g : Oid) × (parent_in r.filed f ≡ Some g) × (reads_up n r u g ≡ true)
+pub above_read : (n : ℕ) (r : Repository) (u : List ℕ) (f : Oid) → reads_up (suc n) r u f ≡ true → same f root ≡ false → (g : Oid) × (parent_in r.filed f ≡ Some g) × (reads_up n r u g ≡ true)
 above_read n r u f h e = by (is_at_least levels.Read (level_by_list r u f)) (same f root) (parent_in r.filed f) e h
   where
     by : (a b : Bool) (o : Option Oid) → b ≡ false → a && (b || unwrap_or (option_map (reads_up n r u) o) false) ≡ true → (g : Oid) × (o ≡ Some g) × (reads_up n r u g ≡ true)
@@ -43,10 +43,10 @@ above_read n r u f h e = by (is_at_least levels.Read (level_by_list r u f)) (sam
     by false b o e h = absurd (both_ways false refl h)
 
 -- a folder is read where all folders above it are
-folder_reads : (r : Repository) (u : List ℕ) (x : Object) → is_a r bases.Folder x ≡ true → reads r u x ≡ reads_up levels_up r u x.id
+pub folder_reads : (r : Repository) (u : List ℕ) (x : Object) → is_a r bases.Folder x ≡ true → reads r u x ≡ reads_up levels_up r u x.id
 folder_reads r u x k = rw (not_both r x bases.Folder bases.Relationship refl k) (rw k refl)
 
-folder_read : (r : Repository) (u : List ℕ) (f : Oid) (k : IsBaseAt r bases.Folder f) → reads_up levels_up r u f ≡ true → (k.0.id ≡ f) × IsHere r u k.0
+pub folder_read : (r : Repository) (u : List ℕ) (f : Oid) (k : IsBaseAt r bases.Folder f) → reads_up levels_up r u f ≡ true → (k.0.id ≡ f) × IsHere r u k.0
 folder_read r u f k h =
     let id : k.0.id ≡ f = number_found r f k.0 k.1 in
     (id, (subst (λ m. object_at r m ≡ Some k.0) (sym id) k.1, folder_reads r u k.0 k.2 ∙ subst (λ g. reads_up levels_up r u g ≡ true) (sym id) h))
@@ -67,7 +67,7 @@ is_parent r u f g y h there filed = by_test (same y.id g.id)
     some_same : {A : Type 0} {x z : A} → Some x ≡ Some z → x ≡ z
     some_same {A} {x} {z} e = ap (λ o. elim o [ None ↦ x | Some v ↦ v ]) e
 
-sees_parent : (r : Repository) (u : List ℕ) (f g : Object) → IsWellFormed r → is_a r bases.Folder f ≡ true → IsHere r u f → IsHere r u g → parent_in r.filed f.id ≡ Some g.id
+pub sees_parent : (r : Repository) (u : List ℕ) (f g : Object) → IsWellFormed r → is_a r bases.Folder f ≡ true → IsHere r u f → IsHere r u g → parent_in r.filed f.id ≡ Some g.id
     → first_of (map (λ y. y.id) (parents_of r u f.id)) ≡ Some g.id
 sees_parent r u f g w k h j e =
     let once : count_by (λ p. same p.child f.id) r.filed ≤ 1 = found_holds (λ x. is_a r bases.Folder x ≡ true → count_by (λ p. same p.child x.id) r.filed ≤ 1) (λ x. same x.id f.id) r.objects f w.one_parent h.0 k in

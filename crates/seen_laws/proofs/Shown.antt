@@ -12,8 +12,8 @@ use Rattle.cm_types.specs.declared.property.PropDef.{PropDef}
 use Rattle.cm_types.specs.Changes.{base_id}
 use Rattle.cm_types.specs.Types.{base_of, is_of_base, props_of}
 use Rattle.cm_types.specs.Properties.{value_in}
-use Rattle.cm_call.specs.declared.question.PropertyFilter.{PropertyFilter}
-use Rattle.cm_call.specs.declared.reply.Properties.TheVariants as forms
+use Rattle.call_parts.specs.declared.readings.PropertyFilter.{PropertyFilter}
+use Rattle.call_parts.specs.declared.replies.Properties.TheVariants as forms
 use Rattle.cmis_spec.specs.Repository.{Repository, same, root, is_a, parent_in, path_of, name_of, owner_of, series_of, is_latest}
 use Rattle.cmis_spec.specs.Access.{read_at}
 use Rattle.cmis_spec.specs.Values.{words}
@@ -47,7 +47,7 @@ module _ (r other : Repository) (u : List ℕ) (x : Object) (h : IsAlike r other
       by q k c None = refl
       by q k c (Some t) = c t
 
-  map_alike : {A : Type 0} (f : Series → A) (s : SeenSeries → A) → ((q : Repository) (t : Series) → f t ≡ s (seen_series q u t)) → option_map f (series_of r x) ≡ option_map f (series_of other x)
+  pub map_alike : {A : Type 0} (f : Series → A) (s : SeenSeries → A) → ((q : Repository) (t : Series) → f t ≡ s (seen_series q u t)) → option_map f (series_of r x) ≡ option_map f (series_of other x)
   map_alike {A} f s e = by r (series_of r x) ∙ (ap (option_map s) series_alike ∙ sym (by other (series_of other x)))
     where
       by : (q : Repository) (o : Option Series) → option_map f o ≡ option_map s (option_map (seen_series q u) o)
@@ -106,7 +106,7 @@ module _ (r other : Repository) (u : List ℕ) (x : Object) (h : IsAlike r other
           rw (own, e) refl)
           (λ e. rw e (hidden w.copy (Some w.owner) (is_read q u w.copy) e))
 
-  owner_alike : owner_of r x ≡ owner_of other x
+  pub owner_alike : owner_of r x ≡ owner_of other x
   owner_alike = and_then_alike (λ s. option_and_then (λ w. if same w.copy x.id then Some w.owner else None) s.working) (λ s. option_and_then (λ w. if same w.copy x.id then Some w.owner else None) s.working)
       (λ s. option_and_then (λ n. if same n x.id then s.owner else None) s.copy) (owner_seen r h.here) (owner_seen other h.there)
 
@@ -118,7 +118,7 @@ module _ (r other : Repository) (u : List ℕ) (x : Object) (h : IsAlike r other
 -- ---- all that is shown
 
 module _ (r other : Repository) (u : List ℕ) (a : AreAlike r other u) (x : Object) (h : IsAlike r other u x) where
-  types_alike : r.types ≡ other.types
+  pub types_alike : r.types ≡ other.types
   types_alike = ap (λ s. s.types) (sym a.alike)
 
   name_alike : name_of r x ≡ name_of other x
@@ -171,7 +171,7 @@ module _ (r other : Repository) (u : List ℕ) (a : AreAlike r other u) (x : Obj
   system_alike properties.ContentStreamFileName = ap (λ o. words_or_unset (option_map (λ c. c.stream.file) o)) (content_alike r other u x h)
   system_alike properties.ContentStreamId = ap (λ o. words_or_unset (option_map (λ c. decimal c.step) o)) (content_alike r other u x h)
 
-  property_alike : (id : List ℕ) → property_value r u x id ≡ property_value other u x id
+  pub property_alike : (id : List ℕ) → property_value r u x id ≡ property_value other u x id
   property_alike id = by (system_named id)
     where
       by : (o : Option SystemProperty) → unwrap_or (option_map (system_value r u x) o) (value_in x.values id) ≡ unwrap_or (option_map (system_value other u x) o) (value_in x.values id)
@@ -181,7 +181,7 @@ module _ (r other : Repository) (u : List ℕ) (a : AreAlike r other u) (x : Obj
   defs_alike : (f : PropertyFilter) → shown_defs r f x ≡ shown_defs other f x
   defs_alike f = ap (λ ts. filter (passes f) (props_of ts x.kind x.secondary)) types_alike
 
-  all_defs : {P : PropDef → Type 0} → ((d : PropDef) → P d) → (ds : List PropDef) → All P ds
+  pub all_defs : {P : PropDef → Type 0} → ((d : PropDef) → P d) → (ds : List PropDef) → All P ds
   all_defs {P} g [] = All-nil P
   all_defs {P} g (d ∷ ds) = All-cons P d ds (g d) (all_defs g ds)
 

@@ -70,7 +70,7 @@ child_is_here r u f w = all_zip (λ y. object_at r y.id ≡ Some y) (λ y. is_ch
     (All-filter (is_child r u f) (λ y. object_at r y.id ≡ Some y) r.objects (all_there r.objects w.numbers.0))
     (filter_passes (is_child r u f) r.objects)
 
-objects_of : (r : Repository) (u : List ℕ) (xs : List Object) → map (λ s. s.object) (map (seen_object r u) xs) ≡ xs
+pub objects_of : (r : Repository) (u : List ℕ) (xs : List Object) → map (λ s. s.object) (map (seen_object r u) xs) ≡ xs
 objects_of r u [] = refl
 objects_of r u (x ∷ xs) = ap (λ ys. x ∷ ys) (objects_of r u xs)
 

@@ -1,8 +1,8 @@
 //! What a caller finds by an id, by a path, and in a folder.
 ghost use Rattle.std.specs.Prelude.{ℕ, List};
 ghost use Rattle.cm_base.specs.declared.object.Object.{Object};
-ghost use Rattle.cm_call.specs.declared.place.Place.{Place};
-ghost use Rattle.cm_call.specs.declared.question.PropertyFilter.{PropertyFilter};
+ghost use Rattle.call_parts.specs.declared.place.Place.{Place};
+ghost use Rattle.call_parts.specs.declared.readings.PropertyFilter.{PropertyFilter};
 ghost use Rattle.std.specs.Prelude.{◌≡◌, Bool, Some};
 ghost use Rattle.cmis_spec.specs.Repository.{Repository};
 ghost use Rattle.cmis_spec.specs.Access.{at_path, children_of, read_named};

@@ -6,18 +6,18 @@ use Rattle.json_text.specs.Values.{value_data}
 use Rattle.cm_base.specs.declared.object.Object.{Object}
 use Rattle.cm_base.specs.declared.value.Value.{Value}
 use Rattle.cm_types.specs.declared.property.PropDef.{PropDef}
-use Rattle.cm_call.specs.declared.question.PropertyFilter.{PropertyFilter}
-use Rattle.cm_call.specs.declared.reply.ShownProperty.{ShownProperty}
+use Rattle.call_parts.specs.declared.readings.PropertyFilter.{PropertyFilter}
+use Rattle.call_parts.specs.declared.replies.ShownProperty.{ShownProperty}
 use Rattle.cmis_spec.specs.Repository.{Repository}
 use Rattle.cm_show.specs.declared.system.SystemProperty.{SystemProperty}
 use Rattle.cm_show.specs.System.{system_named}
 use Rattle.cm_show.specs.Shown.{property_value, shown_defs, shown_object}
-use Rattle.bind_json.specs.Objects.{property_data}
-use Rattle.bind_json.specs.Replies.{reply_data}
+use Rattle.object_json.specs.Objects.{property_data, shown_data}
+use Rattle.object_json.specs.Pages.{child_data, children_data}
 use Rattle.type_keys.specs.Words.{kind_word, cardinality_word}
-use Rattle.cm_call.specs.declared.question.ReadChildren.{ReadChildren}
-use Rattle.cm_call.specs.declared.reply.ChildrenReply.{ChildrenReply}
-use Rattle.cm_call.specs.declared.reply.Reply.{Reply}
+use Rattle.call_parts.specs.declared.readings.ReadChildren.{ReadChildren}
+use Rattle.call_parts.specs.declared.replies.ChildrenReply.{ChildrenReply}
+use Rattle.call_parts.specs.declared.replies.ObjectReply.{ObjectReply}
 use Rattle.cm_base.specs.Judged.{Judged, ◌>>=◌}
 use Rattle.serde_json.specs.Written.{compact_text}
 use Rattle.rd_nav.specs.ReadChildren.{has_more, page}
@@ -50,26 +50,35 @@ described d v = record {
   value = v;
 }
 
+-- an object that a caller looks at
+pub record Sight : Type 0 where
+  pub repository : Repository
+  pub user : List ℕ
+  pub object : Object
+
+abbrev pub sight : Repository → List ℕ → Object → Sight
+sight r u x = record { repository = r; user = u; object = x }
+
 -- a property and its value
-abbrev pub slot_field : Repository → List ℕ → Object → PropDef → List ℕ × Data
-slot_field r u x d = (d.id, value_data (value_shown r u x d.id))
+abbrev pub slot_field : Sight → PropDef → List ℕ × Data
+slot_field s d = (d.id, value_data (value_shown s.repository s.user s.object d.id))
 
 -- a property in full
-abbrev pub full_field : Repository → List ℕ → Object → PropDef → List ℕ × Data
-full_field r u x d = (d.id, property_data (described d (value_shown r u x d.id)))
+abbrev pub full_field : Sight → PropDef → List ℕ × Data
+full_field s d = (d.id, property_data (described d (value_shown s.repository s.user s.object d.id)))
 
 -- the properties of an object by columns, in full or in succinct form
-unfoldable pub properties_by : Repository → List ℕ → Bool → Object → List PropDef → List ℕ × Data
-properties_by r u true x ds = (codes "succinctProperties", object (listed_members (map (slot_field r u x) ds)))
-properties_by r u false x ds = (codes "properties", object (listed_members (map (full_field r u x) ds)))
+unfoldable pub properties_by : Sight → Bool → List PropDef → List ℕ × Data
+properties_by s true ds = (codes "succinctProperties", object (listed_members (map (slot_field s) ds)))
+properties_by s false ds = (codes "properties", object (listed_members (map (full_field s) ds)))
 
 -- an object by columns
-unfoldable pub object_by : Repository → List ℕ → Bool → Object → List PropDef → Data
-object_by r u succinct x ds = object (listed_members (properties_by r u succinct x ds ∷ []))
+unfoldable pub object_by : Sight → Bool → List PropDef → Data
+object_by s succinct ds = object (listed_members (properties_by s succinct ds ∷ []))
 
 -- a child by columns
-unfoldable pub child_by : Repository → List ℕ → Bool → Object → List PropDef → Data
-child_by r u succinct x ds = object (listed_members ((codes "object", object_by r u succinct x ds) ∷ []))
+unfoldable pub child_by : Sight → Bool → List PropDef → Data
+child_by s succinct ds = object (listed_members ((codes "object", object_by s succinct ds) ∷ []))
 
 -- the texts that stand before a property's value
 unfoldable pub texts_before : PropDef → List (List ℕ × Data)
@@ -94,6 +103,31 @@ page_reply r u q children = record {
   num_items = length children;
 }
 
--- the text of what is answered
-abbrev pub answer_text : Judged Reply → Judged (List ℕ)
-answer_text judged = judged >>= λ reply. Ok (compact_text (reply_data reply))
+-- a caller who asks for a page of children
+pub record Listing : Type 0 where
+  pub repository : Repository
+  pub user : List ℕ
+  pub question : ReadChildren
+
+abbrev pub listing : Repository → List ℕ → ReadChildren → Listing
+listing r u q = record { repository = r; user = u; question = q }
+
+-- the columns of a child
+abbrev pub columns_in : Listing → Object → List PropDef
+columns_in l x = columns_of l.repository l.question.filter x
+
+-- a child as it is shown
+abbrev pub child_in : Listing → Object → Data
+child_in l x = child_data (shown_object l.repository l.user l.question.filter l.question.succinct x)
+
+-- children as they are shown
+abbrev pub children_in : Listing → List Object → List Data
+children_in l xs = map child_data (map (shown_object l.repository l.user l.question.filter l.question.succinct) xs)
+
+-- the text of what is answered about an object
+abbrev pub object_answer_text : Judged ObjectReply → Judged (List ℕ)
+object_answer_text judged = judged >>= λ reply. Ok (compact_text (shown_data reply.object))
+
+-- the text of what is answered about children
+abbrev pub answer_text : Judged ChildrenReply → Judged (List ℕ)
+answer_text judged = judged >>= λ reply. Ok (compact_text (children_data reply))

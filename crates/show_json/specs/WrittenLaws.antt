@@ -10,18 +10,18 @@ use Rattle.json_text.specs.TokenLaws.{object_written}
 use Rattle.json_text.specs.Values.{value_data}
 use Rattle.cm_base.specs.declared.object.Object.{Object}
 use Rattle.cm_base.specs.declared.value.Value.{Value}
-use Rattle.cm_call.specs.declared.question.ReadChildren.{ReadChildren}
-use Rattle.cm_call.specs.declared.reply.ShownObject.{ShownObject}
+use Rattle.call_parts.specs.declared.readings.ReadChildren.{ReadChildren}
+use Rattle.call_parts.specs.declared.replies.ShownObject.{ShownObject}
 use Rattle.map_keys.specs.Parts.{pointee}
 use Rattle.type_keys.specs.Words.{kind_word, cardinality_word}
 use Rattle.cm_show.specs.Shown.{shown_object}
 use Rattle.rd_nav.specs.ReadChildren.{has_more, page, page_size}
-use Rattle.cm_call.specs.declared.reply.ChildrenReply.{ChildrenReply}
+use Rattle.call_parts.specs.declared.replies.ChildrenReply.{ChildrenReply}
 use Rattle.cm_types.specs.declared.property.PropDef.{PropDef}
 use Rattle.cmis_spec.specs.Repository.{Repository}
-use Rattle.bind_json.specs.Objects.{property_data}
-use Rattle.bind_json.specs.Replies.{child_data, children_data}
-use Rattle.show_json.specs.Columns.{child_by, counts_before, described, full_field, object_by, page_reply, properties_by, slot_field, texts_before}
+use Rattle.object_json.specs.Objects.{property_data}
+use Rattle.object_json.specs.Pages.{child_data, children_data}
+use Rattle.show_json.specs.Columns.{child_by, counts_before, described, full_field, object_by, page_reply, properties_by, Sight, slot_field, texts_before}
 
 -- members, and one more
 fields_more : (fs : List (List ℕ × Data)) (f : List ℕ × Data) → fields_tokens (fs ++ f ∷ []) ≡ fields_tokens fs ++ field_tokens f
@@ -113,28 +113,28 @@ one_written : (old begun middle new : List Token) (f : List ℕ × Data)
     → new ≡ old ++ tokens_of (object (listed_members (f ∷ [])))
 one_written old begun middle new f b m e = object_written old begun middle new (f ∷ []) b (m ∙ ap (λ ts. begun ++ ts) (sym (append-nil (field_tokens f)))) e
 
-pub object_by_written : (old begun middle new : List Token) (r : Repository) (u : List ℕ) (succinct : Bool) (x : Object) (ds : List PropDef)
-    → begun ≡ old ++ Token.begin_object ∷ [] → middle ≡ begun ++ field_tokens (properties_by r u succinct x ds) → new ≡ middle ++ Token.end_object ∷ []
-    → new ≡ old ++ tokens_of (object_by r u succinct x ds)
+pub object_by_written : (old begun middle new : List Token) (s : Sight) (succinct : Bool) (ds : List PropDef)
+    → begun ≡ old ++ Token.begin_object ∷ [] → middle ≡ begun ++ field_tokens (properties_by s succinct ds) → new ≡ middle ++ Token.end_object ∷ []
+    → new ≡ old ++ tokens_of (object_by s succinct ds)
 unfolding object_by
-object_by_written old begun middle new r u succinct x ds b m e = one_written old begun middle new (properties_by r u succinct x ds) b m e
+object_by_written old begun middle new s succinct ds b m e = one_written old begun middle new (properties_by s succinct ds) b m e
 
-pub child_by_written : (old begun middle new : List Token) (r : Repository) (u : List ℕ) (succinct : Bool) (x : Object) (ds : List PropDef)
-    → begun ≡ old ++ Token.begin_object ∷ [] → middle ≡ begun ++ field_tokens (codes "object", object_by r u succinct x ds) → new ≡ middle ++ Token.end_object ∷ []
-    → new ≡ old ++ tokens_of (child_by r u succinct x ds)
+pub child_by_written : (old begun middle new : List Token) (s : Sight) (succinct : Bool) (ds : List PropDef)
+    → begun ≡ old ++ Token.begin_object ∷ [] → middle ≡ begun ++ field_tokens (codes "object", object_by s succinct ds) → new ≡ middle ++ Token.end_object ∷ []
+    → new ≡ old ++ tokens_of (child_by s succinct ds)
 unfolding child_by
-child_by_written old begun middle new r u succinct x ds b m e = one_written old begun middle new (codes "object", object_by r u succinct x ds) b m e
+child_by_written old begun middle new s succinct ds b m e = one_written old begun middle new (codes "object", object_by s succinct ds) b m e
 
 -- properties in succinct form
-pub succinct_written : (old keyed new : List Token) (r : Repository) (u : List ℕ) (x : Object) (ds : List PropDef)
-    → keyed ≡ old ++ Token.key (codes "succinctProperties") ∷ [] → new ≡ keyed ++ tokens_of (object (listed_members (map (slot_field r u x) ds)))
-    → new ≡ old ++ field_tokens (properties_by r u true x ds)
+pub succinct_written : (old keyed new : List Token) (s : Sight) (ds : List PropDef)
+    → keyed ≡ old ++ Token.key (codes "succinctProperties") ∷ [] → new ≡ keyed ++ tokens_of (object (listed_members (map (slot_field s) ds)))
+    → new ≡ old ++ field_tokens (properties_by s true ds)
 unfolding properties_by
-succinct_written old keyed new r u x ds k n = n ∙ ap (λ ts. ts ++ tokens_of (object (listed_members (map (slot_field r u x) ds)))) k ∙ append_assoc old (Token.key (codes "succinctProperties") ∷ []) (tokens_of (object (listed_members (map (slot_field r u x) ds))))
+succinct_written old keyed new s ds k n = n ∙ ap (λ ts. ts ++ tokens_of (object (listed_members (map (slot_field s) ds)))) k ∙ append_assoc old (Token.key (codes "succinctProperties") ∷ []) (tokens_of (object (listed_members (map (slot_field s) ds))))
 
 -- properties in full
-pub full_written : (old keyed new : List Token) (r : Repository) (u : List ℕ) (x : Object) (ds : List PropDef)
-    → keyed ≡ old ++ Token.key (codes "properties") ∷ [] → new ≡ keyed ++ tokens_of (object (listed_members (map (full_field r u x) ds)))
-    → new ≡ old ++ field_tokens (properties_by r u false x ds)
+pub full_written : (old keyed new : List Token) (s : Sight) (ds : List PropDef)
+    → keyed ≡ old ++ Token.key (codes "properties") ∷ [] → new ≡ keyed ++ tokens_of (object (listed_members (map (full_field s) ds)))
+    → new ≡ old ++ field_tokens (properties_by s false ds)
 unfolding properties_by
-full_written old keyed new r u x ds k n = n ∙ ap (λ ts. ts ++ tokens_of (object (listed_members (map (full_field r u x) ds)))) k ∙ append_assoc old (Token.key (codes "properties") ∷ []) (tokens_of (object (listed_members (map (full_field r u x) ds))))
+full_written old keyed new s ds k n = n ∙ ap (λ ts. ts ++ tokens_of (object (listed_members (map (full_field s) ds)))) k ∙ append_assoc old (Token.key (codes "properties") ∷ []) (tokens_of (object (listed_members (map (full_field s) ds))))

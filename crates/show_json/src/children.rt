@@ -8,23 +8,24 @@ ghost use Rattle.json_text.specs.Tokens.{each_tokens, field_tokens, fields_token
 ghost use Rattle.map_keys.specs.Parts.{pointee};
 ghost use Rattle.cm_base.specs.Judged.{Meets};
 ghost use Rattle.cmis_spec.specs.Access.{children_of};
-ghost use Rattle.cm_show.specs.Shown.{shown_object};
-ghost use Rattle.bind_json.specs.Replies.{child_data, children_data};
+ghost use Rattle.cm_types.specs.Types.{base_of};
+ghost use Rattle.object_json.specs.Pages.{children_data};
 ghost use Rattle.rd_nav.specs.ReadChildren.{answer_children, answer_children_in, page};
-ghost use Rattle.show_json.specs.Columns.{answer_text, columns_of, counts_before, page_reply};
+ghost use Rattle.show_json.specs.Columns.{answer_text, child_in, children_in, columns_in, counts_before, page_reply};
 
-use crate::column::{Column, columns};
+use crate::column::{Column, columns_of};
+use crate::listing::Listing;
 use crate::object::write_child;
+use crate::sight::base_of;
 use bytes::Bytes;
+use call_parts::readings::ReadChildren;
 use cm_base::cause::Cause;
 use cm_base::fail::Fail;
 use cm_base::number::Oid;
 use cm_base::object::Object;
 use cm_base::text::Text;
-use cm_call::question::{PropertyFilter, ReadChildren};
 use cm_see::child::children_of;
 use cm_show::address::addressed;
-use cm_show::shown::shown_defs;
 use cm_state::state::State;
 use cm_types::definition::BaseType;
 use json_text::write::Writer;
@@ -35,20 +36,8 @@ use std::alloc::{AllocError, Global};
 #[derive(Drop)]
 struct Laid<'a> {
     of: &'a Object,
+    base: Option<BaseType>,
     columns: Vec<Column<'a>>,
-}
-
-fn columns_of<'a>(
-    alloc: Global,
-    state: &'a State,
-    filter: &PropertyFilter,
-    x: &Object,
-) -> Result<Vec<Column<'a>>, AllocError>
-    ensures { IfOk result (λ all. all.items ≡ columns_of state.now filter.now x.now) }
-{
-    let defs = shown_defs(alloc, state, filter, x)?;
-    let all = columns(alloc, &defs)?;
-    Ok(all)
 }
 
 #[tactic(auto, using(cmis_laws::proofs::Kept::bytes_true))]
@@ -66,126 +55,120 @@ fn are_alike(x: &Object, y: &Object) -> bool
     has_kind_of(x, y) && x.secondary.len() == 0 && y.secondary.len() == 0
 }
 
-fn lay_out<'a>(
-    alloc: Global,
-    state: &'a State,
-    filter: &PropertyFilter,
-    x: &'a Object,
-) -> Result<Laid<'a>, AllocError>
-    ensures own { IfOk result (λ l. l.columns.items ≡ columns_of state.now filter.now l.of.now) }
-    ensures of { IfOk result (λ l. l.columns.items ≡ columns_of state.now filter.now x.now) }
+fn lay_out<'a>(ask: &Listing<'a>, x: &'a Object) -> Result<Laid<'a>, AllocError>
+    ensures own { IfOk result (λ l. l.columns.items ≡ columns_in ask.now l.of.now) }
+    ensures of { IfOk result (λ l. l.columns.items ≡ columns_in ask.now x.now) }
+    ensures own_base { IfOk result (λ l. l.base ≡ base_of ask.now.repository.types l.of.now.kind) }
+    ensures of_base { IfOk result (λ l. l.base ≡ base_of ask.now.repository.types x.now.kind) }
 {
-    let columns = columns_of(alloc, state, filter, x)?;
-    Ok(Laid { of: x, columns })
+    let columns = columns_of(ask.alloc(), ask.state(), &ask.question().filter, x)?;
+    let base = base_of(ask.state(), x);
+    Ok(Laid {
+        of: x,
+        base,
+        columns,
+    })
 }
 
 // The columns of x, taken from the object before where they are the same.
 fn next_laid<'a>(
-    alloc: Global,
-    state: &'a State,
-    filter: &PropertyFilter,
+    ask: &Listing<'a>,
     before: Laid<'a>,
     x: &'a Object,
 ) -> Result<Laid<'a>, AllocError>
-    requires { before.columns.items ≡ columns_of state.now filter.now before.of.now }
-    ensures own { IfOk result (λ l. l.columns.items ≡ columns_of state.now filter.now l.of.now) }
-    ensures of { IfOk result (λ l. l.columns.items ≡ columns_of state.now filter.now x.now) }
+    requires own { before.columns.items ≡ columns_in ask.now before.of.now }
+    requires own_base { before.base ≡ base_of ask.now.repository.types before.of.now.kind }
+    ensures own { IfOk result (λ l. l.columns.items ≡ columns_in ask.now l.of.now) }
+    ensures of { IfOk result (λ l. l.columns.items ≡ columns_in ask.now x.now) }
+    ensures own_base { IfOk result (λ l. l.base ≡ base_of ask.now.repository.types l.of.now.kind) }
+    ensures of_base { IfOk result (λ l. l.base ≡ base_of ask.now.repository.types x.now.kind) }
 {
     if are_alike(before.of, x) {
         Ok(before)
     } else {
-        let next = lay_out(alloc, state, filter, x)?;
+        let next = lay_out(ask, x)?;
         Ok(next)
     }
 }
 
-#[tactic(auto, using(crate::specs::ColumnLaws::child_shown))]
-fn write_shown(
+#[tactic(auto, using(crate::specs::ColumnLaws::child_seen))]
+fn write_shown<'a>(
     out: &mut Writer,
-    alloc: Global,
-    state: &State,
-    user: &Text,
-    q: &ReadChildren,
-    x: &Object,
+    ask: &Listing<'a>,
+    x: &'a Object,
+    base: Option<BaseType>,
     columns: &[Column],
 ) -> Result<(), AllocError>
-    requires { columns.now ≡ columns_of state.now q.now.filter x.now }
-    ensures { OnOk result (out.new ≡ out.old ++ tokens_of (child_data (shown_object state.now user.now q.now.filter q.now.succinct x.now))) }
+    requires columns { columns.now ≡ columns_in ask.now x.now }
+    requires base { base ≡ base_of ask.now.repository.types x.now.kind }
+    ensures { OnOk result (out.new ≡ out.old ++ tokens_of (child_in ask.now x.now)) }
 {
-    write_child(out, alloc, state, user, q.succinct, x, columns)?;
+    let sight = ask.sight(x, base);
+    write_child(out, &sight, ask.question().succinct, columns)?;
     Ok(())
 }
 
 fn write_next<'a>(
     out: &mut Writer,
-    alloc: Global,
-    state: &'a State,
-    user: &Text,
-    q: &ReadChildren,
+    ask: &Listing<'a>,
     before: Laid<'a>,
     x: &'a Object,
 ) -> Result<Laid<'a>, AllocError>
-    requires { before.columns.items ≡ columns_of state.now q.now.filter before.of.now }
-    ensures own { IfOk result (λ l. l.columns.items ≡ columns_of state.now q.now.filter l.of.now) }
-    ensures written { OnOk result (out.new ≡ out.old ++ tokens_of (child_data (shown_object state.now user.now q.now.filter q.now.succinct x.now))) }
+    requires own { before.columns.items ≡ columns_in ask.now before.of.now }
+    requires own_base { before.base ≡ base_of ask.now.repository.types before.of.now.kind }
+    ensures own { IfOk result (λ l. l.columns.items ≡ columns_in ask.now l.of.now) }
+    ensures own_base { IfOk result (λ l. l.base ≡ base_of ask.now.repository.types l.of.now.kind) }
+    ensures written { OnOk result (out.new ≡ out.old ++ tokens_of (child_in ask.now x.now)) }
 {
-    let next = next_laid(alloc, state, &q.filter, before, x)?;
-    write_shown(out, alloc, state, user, q, x, &next.columns)?;
+    let next = next_laid(ask, before, x)?;
+    write_shown(out, ask, x, next.base, &next.columns)?;
     Ok(next)
 }
 
 fn write_behind<'a>(
     out: &mut Writer,
-    alloc: Global,
-    state: &'a State,
-    user: &Text,
-    q: &ReadChildren,
+    ask: &Listing<'a>,
     first: Laid<'a>,
     objects: &[&'a Object],
 ) -> Result<(), AllocError>
-    requires { first.columns.items ≡ columns_of state.now q.now.filter first.of.now }
-    ensures { OnOk result (out.new ≡ out.old ++ each_tokens (map child_data (map (shown_object state.now user.now q.now.filter q.now.succinct) (map pointee objects.now)))) }
+    requires own { first.columns.items ≡ columns_in ask.now first.of.now }
+    requires own_base { first.base ≡ base_of ask.now.repository.types first.of.now.kind }
+    ensures { OnOk result (out.new ≡ out.old ++ each_tokens (children_in ask.now (map pointee objects.now))) }
 {
     let mut before = first;
     for x in objects {
-        before = write_next(out, alloc, state, user, q, before, x)?;
+        before = write_next(out, ask, before, x)?;
     }
     Ok(())
 }
 
 fn write_each<'a>(
     out: &mut Writer,
-    alloc: Global,
-    state: &'a State,
-    user: &Text,
-    q: &ReadChildren,
+    ask: &Listing<'a>,
     objects: &[&'a Object],
 ) -> Result<(), AllocError>
-    ensures { OnOk result (out.new ≡ out.old ++ each_tokens (map child_data (map (shown_object state.now user.now q.now.filter q.now.succinct) (map pointee objects.now)))) }
+    ensures { OnOk result (out.new ≡ out.old ++ each_tokens (children_in ask.now (map pointee objects.now))) }
 {
     match objects {
         [] => Ok(()),
         [x, ..] => {
-            let first = lay_out(alloc, state, &q.filter, x)?;
-            write_behind(out, alloc, state, user, q, first, objects)?;
+            let first = lay_out(ask, x)?;
+            write_behind(out, ask, first, objects)?;
             Ok(())
         }
     }
 }
 
 #[tactic(auto, using(json_text::specs::TokenLaws::array_written))]
-fn write_objects(
+fn write_objects<'a>(
     out: &mut Writer,
-    alloc: Global,
-    state: &State,
-    user: &Text,
-    q: &ReadChildren,
-    objects: &[&Object],
+    ask: &Listing<'a>,
+    objects: &[&'a Object],
 ) -> Result<(), AllocError>
-    ensures { OnOk result (out.new ≡ out.old ++ tokens_of (list_data (map child_data (map (shown_object state.now user.now q.now.filter q.now.succinct) (map pointee objects.now))))) }
+    ensures { OnOk result (out.new ≡ out.old ++ tokens_of (list_data (children_in ask.now (map pointee objects.now)))) }
 {
     out.begin_array()?;
-    write_each(out, alloc, state, user, q, objects)?;
+    write_each(out, ask, objects)?;
     out.end_array()?;
     Ok(())
 }
@@ -215,13 +198,13 @@ fn write_counts(out: &mut Writer, more: bool, count: u64) -> Result<(), AllocErr
     Ok(())
 }
 
-fn write_page(
+fn write_page<'a>(
     out: &mut Writer,
     alloc: Global,
-    state: &State,
-    user: &Text,
-    q: &ReadChildren,
-    children: &[&Object],
+    state: &'a State,
+    user: &'a Text,
+    q: &'a ReadChildren,
+    children: &[&'a Object],
 ) -> Result<(), AllocError>
     ensures { OnOk result (out.new ≡ out.old ++ tokens_of (children_data (page_reply state.now user.now q.now (map pointee children.now)))) }
 {
@@ -230,7 +213,8 @@ fn write_page(
     out.begin_object()?;
     write_counts(out, more, children.len() as u64)?;
     out.key("objects")?;
-    write_objects(out, alloc, state, user, q, shown)?;
+    let ask = Listing::new(alloc, state, user, q);
+    write_objects(out, &ask, shown)?;
     out.end_object()?;
     Ok(())
 }

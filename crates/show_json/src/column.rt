@@ -5,9 +5,13 @@ ghost use Rattle.core.specs.Cmp.Lexicographic.{slice_cmp};
 ghost use Rattle.cm_types.specs.declared.property.PropDef.{PropDef};
 ghost use Rattle.map_keys.specs.Parts.{pointee};
 ghost use Rattle.show_json.specs.Ordered.{in_key_order, placed};
-ghost use Rattle.show_json.specs.Columns.{id_of, setting_of};
+ghost use Rattle.show_json.specs.Columns.{columns_of, id_of, setting_of};
 
+use cm_base::object::Object;
+use call_parts::readings::PropertyFilter;
+use cm_show::shown::shown_defs;
 use cm_show::system::{SystemProperty, find_system};
+use cm_state::state::State;
 use cm_types::property::PropDef;
 use std::alloc::{AllocError, Global};
 use std::cmp::Ordering;
@@ -141,5 +145,19 @@ pub fn columns<'a>(alloc: Global, defs: &[&'a PropDef]) -> Result<Vec<Column<'a>
     for def in defs {
         all = with_placed(alloc, &all, Column::of(def))?;
     }
+    Ok(all)
+}
+
+/// The columns of an object: of the definitions that are shown.
+pub fn columns_of<'a>(
+    alloc: Global,
+    state: &'a State,
+    filter: &PropertyFilter,
+    x: &Object,
+) -> Result<Vec<Column<'a>>, AllocError>
+    ensures { IfOk result (λ all. all.items ≡ columns_of state.now filter.now x.now) }
+{
+    let defs = shown_defs(alloc, state, filter, x)?;
+    let all = columns(alloc, &defs)?;
     Ok(all)
 }

@@ -5,5 +5,8 @@ ghost use Rattle.std.specs.Prelude.{◌≡◌};
 
 pub mod children;
 pub mod column;
+pub mod listing;
 pub mod object;
+pub mod one;
+pub mod sight;
 mod value;

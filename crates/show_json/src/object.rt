@@ -5,41 +5,33 @@ ghost use Rattle.json_text.specs.Tokens.{field_tokens, fields_tokens, listed_mem
 ghost use Rattle.show_json.specs.Columns.{child_by, full_field, object_by, properties_by, slot_field};
 
 use crate::column::Column;
+use crate::sight::Sight;
 use crate::value::{write_full, write_slot};
-use cm_base::object::Object;
-use cm_base::text::Text;
-use cm_state::state::State;
 use json_text::write::Writer;
-use std::alloc::{AllocError, Global};
+use std::alloc::AllocError;
 
 fn write_slots(
     out: &mut Writer,
-    alloc: Global,
-    state: &State,
-    user: &Text,
-    x: &Object,
+    sight: &Sight,
     columns: &[Column],
 ) -> Result<(), AllocError>
-    ensures { OnOk result (out.new ≡ out.old ++ fields_tokens (map (slot_field state.now user.now x.now) columns.now)) }
+    ensures { OnOk result (out.new ≡ out.old ++ fields_tokens (map (slot_field sight.now) columns.now)) }
 {
     for column in columns {
-        write_slot(out, alloc, state, user, x, column)?;
+        write_slot(out, sight, column)?;
     }
     Ok(())
 }
 
 fn write_fulls(
     out: &mut Writer,
-    alloc: Global,
-    state: &State,
-    user: &Text,
-    x: &Object,
+    sight: &Sight,
     columns: &[Column],
 ) -> Result<(), AllocError>
-    ensures { OnOk result (out.new ≡ out.old ++ fields_tokens (map (full_field state.now user.now x.now) columns.now)) }
+    ensures { OnOk result (out.new ≡ out.old ++ fields_tokens (map (full_field sight.now) columns.now)) }
 {
     for column in columns {
-        write_full(out, alloc, state, user, x, column)?;
+        write_full(out, sight, column)?;
     }
     Ok(())
 }
@@ -47,16 +39,13 @@ fn write_fulls(
 #[tactic(auto, using(json_text::specs::TokenLaws::object_written))]
 fn write_succinct_object(
     out: &mut Writer,
-    alloc: Global,
-    state: &State,
-    user: &Text,
-    x: &Object,
+    sight: &Sight,
     columns: &[Column],
 ) -> Result<(), AllocError>
-    ensures { OnOk result (out.new ≡ out.old ++ tokens_of (object (listed_members (map (slot_field state.now user.now x.now) columns.now)))) }
+    ensures { OnOk result (out.new ≡ out.old ++ tokens_of (object (listed_members (map (slot_field sight.now) columns.now)))) }
 {
     out.begin_object()?;
-    write_slots(out, alloc, state, user, x, columns)?;
+    write_slots(out, sight, columns)?;
     out.end_object()?;
     Ok(())
 }
@@ -64,16 +53,13 @@ fn write_succinct_object(
 #[tactic(auto, using(json_text::specs::TokenLaws::object_written))]
 fn write_full_object(
     out: &mut Writer,
-    alloc: Global,
-    state: &State,
-    user: &Text,
-    x: &Object,
+    sight: &Sight,
     columns: &[Column],
 ) -> Result<(), AllocError>
-    ensures { OnOk result (out.new ≡ out.old ++ tokens_of (object (listed_members (map (full_field state.now user.now x.now) columns.now)))) }
+    ensures { OnOk result (out.new ≡ out.old ++ tokens_of (object (listed_members (map (full_field sight.now) columns.now)))) }
 {
     out.begin_object()?;
-    write_fulls(out, alloc, state, user, x, columns)?;
+    write_fulls(out, sight, columns)?;
     out.end_object()?;
     Ok(())
 }
@@ -81,51 +67,42 @@ fn write_full_object(
 #[tactic(auto, using(crate::specs::WrittenLaws::succinct_written))]
 fn write_succinct_member(
     out: &mut Writer,
-    alloc: Global,
-    state: &State,
-    user: &Text,
-    x: &Object,
+    sight: &Sight,
     columns: &[Column],
 ) -> Result<(), AllocError>
-    ensures { OnOk result (out.new ≡ out.old ++ field_tokens (properties_by state.now user.now true x.now columns.now)) }
+    ensures { OnOk result (out.new ≡ out.old ++ field_tokens (properties_by sight.now true columns.now)) }
 {
     out.key("succinctProperties")?;
-    write_succinct_object(out, alloc, state, user, x, columns)?;
+    write_succinct_object(out, sight, columns)?;
     Ok(())
 }
 
 #[tactic(auto, using(crate::specs::WrittenLaws::full_written))]
 fn write_full_member(
     out: &mut Writer,
-    alloc: Global,
-    state: &State,
-    user: &Text,
-    x: &Object,
+    sight: &Sight,
     columns: &[Column],
 ) -> Result<(), AllocError>
-    ensures { OnOk result (out.new ≡ out.old ++ field_tokens (properties_by state.now user.now false x.now columns.now)) }
+    ensures { OnOk result (out.new ≡ out.old ++ field_tokens (properties_by sight.now false columns.now)) }
 {
     out.key("properties")?;
-    write_full_object(out, alloc, state, user, x, columns)?;
+    write_full_object(out, sight, columns)?;
     Ok(())
 }
 
 fn write_properties(
     out: &mut Writer,
-    alloc: Global,
-    state: &State,
-    user: &Text,
+    sight: &Sight,
     succinct: bool,
-    x: &Object,
     columns: &[Column],
 ) -> Result<(), AllocError>
-    ensures { OnOk result (out.new ≡ out.old ++ field_tokens (properties_by state.now user.now succinct x.now columns.now)) }
+    ensures { OnOk result (out.new ≡ out.old ++ field_tokens (properties_by sight.now succinct columns.now)) }
 {
     if succinct {
-        write_succinct_member(out, alloc, state, user, x, columns)?;
+        write_succinct_member(out, sight, columns)?;
         Ok(())
     } else {
-        write_full_member(out, alloc, state, user, x, columns)?;
+        write_full_member(out, sight, columns)?;
         Ok(())
     }
 }
@@ -134,34 +111,28 @@ fn write_properties(
 #[tactic(auto, using(crate::specs::WrittenLaws::object_by_written))]
 pub fn write_object(
     out: &mut Writer,
-    alloc: Global,
-    state: &State,
-    user: &Text,
+    sight: &Sight,
     succinct: bool,
-    x: &Object,
     columns: &[Column],
 ) -> Result<(), AllocError>
-    ensures { OnOk result (out.new ≡ out.old ++ tokens_of (object_by state.now user.now succinct x.now columns.now)) }
+    ensures { OnOk result (out.new ≡ out.old ++ tokens_of (object_by sight.now succinct columns.now)) }
 {
     out.begin_object()?;
-    write_properties(out, alloc, state, user, succinct, x, columns)?;
+    write_properties(out, sight, succinct, columns)?;
     out.end_object()?;
     Ok(())
 }
 
 fn write_member(
     out: &mut Writer,
-    alloc: Global,
-    state: &State,
-    user: &Text,
+    sight: &Sight,
     succinct: bool,
-    x: &Object,
     columns: &[Column],
 ) -> Result<(), AllocError>
-    ensures { OnOk result (out.new ≡ out.old ++ field_tokens (codes "object", object_by state.now user.now succinct x.now columns.now)) }
+    ensures { OnOk result (out.new ≡ out.old ++ field_tokens (codes "object", object_by sight.now succinct columns.now)) }
 {
     out.key("object")?;
-    write_object(out, alloc, state, user, succinct, x, columns)?;
+    write_object(out, sight, succinct, columns)?;
     Ok(())
 }
 
@@ -169,17 +140,14 @@ fn write_member(
 #[tactic(auto, using(crate::specs::WrittenLaws::child_by_written))]
 pub fn write_child(
     out: &mut Writer,
-    alloc: Global,
-    state: &State,
-    user: &Text,
+    sight: &Sight,
     succinct: bool,
-    x: &Object,
     columns: &[Column],
 ) -> Result<(), AllocError>
-    ensures { OnOk result (out.new ≡ out.old ++ tokens_of (child_by state.now user.now succinct x.now columns.now)) }
+    ensures { OnOk result (out.new ≡ out.old ++ tokens_of (child_by sight.now succinct columns.now)) }
 {
     out.begin_object()?;
-    write_member(out, alloc, state, user, succinct, x, columns)?;
+    write_member(out, sight, succinct, columns)?;
     out.end_object()?;
     Ok(())
 }

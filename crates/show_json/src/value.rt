@@ -1,40 +1,103 @@
 //! The values of properties, written where they stand.
-ghost use Rattle.std.specs.Prelude.{◌≡◌, ◌++◌, IfOk, OnOk, codes};
+ghost use Rattle.std.specs.Prelude.{◌≡◌, ◌++◌, IfOk, OnOk, codes, option_map};
 ghost use Rattle.serde_json.specs.Data.{string};
 ghost use Rattle.json_text.specs.Tokens.{field_tokens, fields_tokens, tokens_of};
 ghost use Rattle.json_text.specs.Values.{value_data};
-ghost use Rattle.bind_json.specs.Objects.{property_data};
+ghost use Rattle.object_json.specs.Objects.{property_data};
 ghost use Rattle.type_keys.specs.Words.{cardinality_word, kind_word};
+ghost use Rattle.cm_types.specs.Changes.{base_id};
 ghost use Rattle.cm_show.specs.Seen.{value_seen};
+ghost use Rattle.cm_show.specs.Shown.{parent_value, path_value, system_value, words_or_unset};
 ghost use Rattle.show_json.specs.Columns.{described, full_field, slot_field, texts_before, value_shown};
 
 use crate::column::Column;
-use cm_base::object::Object;
-use cm_base::text::Text;
+use crate::sight::Sight;
+use cm_base::value::{Scalar, Value};
+use cm_see::path::path_of;
 use cm_show::seen::{PropertyValue, kept_seen, system_seen};
-use cm_state::state::State;
+use cm_show::system::SystemProperty;
+use cm_types::definition::BaseType;
 use cm_types::property::PropDef;
 use json_text::values::write_value;
 use json_text::write::Writer;
-use std::alloc::{AllocError, Global};
+use std::alloc::AllocError;
 use type_keys::word::Worded;
+
+fn base<'a>(found: Option<BaseType>) -> PropertyValue<'a>
+    ensures { value_seen result ≡ words_or_unset (option_map base_id found) }
+{
+    match found {
+        Some(base) => PropertyValue::Text(base.id()),
+        None => PropertyValue::Made(Value::Unset),
+    }
+}
+
+fn parent<'a>(sight: &Sight<'a>) -> PropertyValue<'a>
+    ensures { value_seen result ≡ parent_value sight.now.repository sight.now.object }
+{
+    if !sight.is_folder() {
+        return PropertyValue::Made(Value::Unset);
+    }
+    match sight.state().parent(sight.object().id) {
+        Some(above) => PropertyValue::Digits(above.0),
+        None => PropertyValue::Made(Value::Unset),
+    }
+}
+
+fn path<'a>(sight: &Sight<'a>) -> Result<PropertyValue<'a>, AllocError>
+    ensures { IfOk result (λ v. value_seen v ≡ path_value sight.now.repository sight.now.object) }
+{
+    if !sight.is_folder() {
+        return Ok(PropertyValue::Made(Value::Unset));
+    }
+    let path = path_of(sight.alloc(), sight.state(), sight.object().id)?;
+    Ok(PropertyValue::Made(Value::One(Scalar::Words(path))))
+}
+
+fn other<'a>(
+    sight: &Sight<'a>,
+    property: SystemProperty,
+) -> Result<PropertyValue<'a>, AllocError>
+    ensures { IfOk result (λ v. value_seen v ≡ system_value sight.now.repository sight.now.user sight.now.object property) }
+{
+    let value = system_seen(sight.alloc(), sight.state(), sight.user(), sight.object(), property)?;
+    Ok(value)
+}
+
+// The value of a property that the repository sets; the object's type is not looked up again.
+fn system_of<'a>(
+    sight: &Sight<'a>,
+    property: SystemProperty,
+) -> Result<PropertyValue<'a>, AllocError>
+    ensures { IfOk result (λ v. value_seen v ≡ system_value sight.now.repository sight.now.user sight.now.object property) }
+{
+    match property {
+        SystemProperty::BaseTypeId => Ok(base(sight.base())),
+        SystemProperty::ParentId => Ok(parent(sight)),
+        SystemProperty::Path => {
+            let value = path(sight)?;
+            Ok(value)
+        }
+        _ => {
+            let value = other(sight, property)?;
+            Ok(value)
+        }
+    }
+}
 
 #[tactic(auto, using(crate::specs::ColumnLaws::value_by_setting))]
 fn seen<'a>(
-    alloc: Global,
-    state: &'a State,
-    user: &Text,
-    x: &'a Object,
+    sight: &Sight<'a>,
     column: &Column,
 ) -> Result<PropertyValue<'a>, AllocError>
-    ensures { IfOk result (λ v. value_seen v ≡ value_shown state.now user.now x.now column.now.id) }
+    ensures { IfOk result (λ v. value_seen v ≡ value_shown sight.now.repository sight.now.user sight.now.object column.now.id) }
 {
     match column.property() {
         Some(property) => {
-            let value = system_seen(alloc, state, user, x, property)?;
+            let value = system_of(sight, property)?;
             Ok(value)
         }
-        None => Ok(kept_seen(x.values.as_slice(), &column.def().id)),
+        None => Ok(kept_seen(sight.object().values.as_slice(), &column.def().id)),
     }
 }
 
@@ -127,15 +190,12 @@ fn write_described(out: &mut Writer, def: &PropDef, value: &PropertyValue) -> Re
 /// Writes a property and its value.
 pub(crate) fn write_slot(
     out: &mut Writer,
-    alloc: Global,
-    state: &State,
-    user: &Text,
-    x: &Object,
+    sight: &Sight,
     column: &Column,
 ) -> Result<(), AllocError>
-    ensures { OnOk result (out.new ≡ out.old ++ field_tokens (slot_field state.now user.now x.now column.now)) }
+    ensures { OnOk result (out.new ≡ out.old ++ field_tokens (slot_field sight.now column.now)) }
 {
-    let value = seen(alloc, state, user, x, column)?;
+    let value = seen(sight, column)?;
     out.key(column.def().id.as_str())?;
     write_seen(out, &value)?;
     Ok(())
@@ -144,15 +204,12 @@ pub(crate) fn write_slot(
 /// Writes a property in full.
 pub(crate) fn write_full(
     out: &mut Writer,
-    alloc: Global,
-    state: &State,
-    user: &Text,
-    x: &Object,
+    sight: &Sight,
     column: &Column,
 ) -> Result<(), AllocError>
-    ensures { OnOk result (out.new ≡ out.old ++ field_tokens (full_field state.now user.now x.now column.now)) }
+    ensures { OnOk result (out.new ≡ out.old ++ field_tokens (full_field sight.now column.now)) }
 {
-    let value = seen(alloc, state, user, x, column)?;
+    let value = seen(sight, column)?;
     out.key(column.def().id.as_str())?;
     write_described(out, column.def(), &value)?;
     Ok(())

@@ -20,7 +20,7 @@ use Rattle.talk.specs.Alone.{Alone, IsFinal, alone_at, after_requests}
 use Rattle.talk.proofs.WireLaws.{GrammarLaws, rest_more, requests_more, due_more}
 use Rattle.talk.proofs.Alones.{turns-alone, progress}
 
-last-within : {S C Q : Type 0} (kind : Kind S C Q) (at : Setting S) (after : ℕ) (h : List (Entry C)) (ts : List (Turn C)) → at.before ≤ after → AreTurns kind at after h ts → last_place at.before ts ≤ after
+pub last-within : {S C Q : Type 0} (kind : Kind S C Q) (at : Setting S) (after : ℕ) (h : List (Entry C)) (ts : List (Turn C)) → at.before ≤ after → AreTurns kind at after h ts → last_place at.before ts ≤ after
 last-within kind at after h [] le q = le
 last-within kind at after h (t ∷ ts) le q = q.1.within
 

@@ -3,6 +3,7 @@ pub mod WireLaws
 pub mod Longer
 pub mod Alones
 pub mod FromSession
+pub mod Losing
 pub mod OneAlone
 pub mod SmallRuns
 pub mod Turns

@@ -1,5 +1,5 @@
 -- A session of the first pass of a desk that begins with an opening is the session alone.
-use Rattle.std.proofs.Common.{IfSome, ◌≡◌, ℕ, Bool, true, List, [], ◌∷◌, ◌++◌, Option, Some, None, length, drop, refl, sym, ◌∙◌, subst}
+use Rattle.std.proofs.Common.{IfSome, ◌≡◌, ℕ, Bool, true, List, [], ◌∷◌, ◌++◌, Option, Some, None, Result, length, drop, refl, sym, ◌∙◌, subst, inl, inr}
 use Rattle.std.specs.Io.KnownBytes.{prepend_known, IsAtEnd}
 use mathlib.Core.List.{IsPrefix}
 use Rattle.outside.specs.Clocks.{Words, rest_words}
@@ -9,11 +9,12 @@ use Rattle.cm_base.specs.declared.user.User.{User}
 use Rattle.desk_model.specs.declared.entry.Entry.{Entry}
 use Rattle.desk_model.specs.Histories.{own, CallersBelow}
 use Rattle.desk_model.specs.Desks.{Known}
+use Rattle.desk_model.specs.Single.{Single, IsOf}
 use Rattle.talk.specs.declared.end.End.{End}
 use Rattle.talk.specs.declared.end.End.TheVariants.{Ended, Bad, ReadFault, WriteFault, Starved}
 use Rattle.talk.specs.Served.{Kind}
 use Rattle.talk.specs.Session.{Session}
-use Rattle.talk.specs.Told.{Gives}
+use Rattle.talk.specs.Told.{Gives, ToldOrOneMore}
 use Rattle.talk.specs.Turned.{setting}
 use Rattle.talk.specs.Talked.{Talked, TakesWords, rose}
 use Rattle.talk.specs.Alone.{Alone, IsFinal, alone_at}
@@ -22,10 +23,17 @@ use Rattle.talk.proofs.ListFacts.{below-one}
 use Rattle.talk.proofs.WireLaws.{GrammarLaws, FrontLaws}
 use Rattle.talk.proofs.FromSession.{session-given, session-alone, session-cut-off}
 use Rattle.talk.proofs.Fronts.{lost-front}
+use Rattle.talk.proofs.Alones.{gives-split}
+use Rattle.talk.proofs.Losing.{lost-given, starved-given}
 
 gives-end : (u : Words) (xs : List Moment) (w : Option Words) → Gives u xs w → (v : Words) × Gives u xs (Some v)
 gives-end u [] w h = (u, refl)
 gives-end u (x ∷ xs) w h = (let r = gives-end (rest_words u) xs w h.1 in (r.0, (h.0, r.1)))
+
+-- the words that were taken, with one more or none
+gives-so-far : (u : Words) (xs : List Moment) (w : Option Words) → ToldOrOneMore (Some u) xs w → (v : Words) × Gives u xs (Some v)
+gives-so-far u xs w (inl h) = gives-end u xs w h
+gives-so-far u xs w (inr x) = (let split = gives-split u xs (x.0 ∷ []) w x.1 in (split.0, split.1))
 
 some-is : {A : Type 0} (o : Option A) (P : A → Type 0) → ((a : A) → o ≡ Some a → P a) → IfSome o P
 some-is None P f = tt
@@ -50,7 +58,7 @@ final-gives Starved words times after final told = absurd final
 
 on-given : {S C Q : Type 0} (kind : Kind S C Q) (opening : S) (users : List User) (words : Words) (after : Option Words) (h : List (Entry C)) (input output : List ℕ) (over : Bool) (times : List Moment) (read_failed write_failed : Bool) (end : End)
     → GrammarLaws → Session kind (alone_at opening users) (length h) h input over output times read_failed write_failed end → own 0 0 h ≡ h → TakesWords end (Some words) times after
-    → IsAloneOnGiven kind opening users words input output h end
+    → IsAloneOnGiven kind opening users words input output write_failed h end
 on-given kind opening users words after h input output over times read_failed write_failed Ended law s mine told =
     let v = gives-end words times after told in
     session-given kind opening users (length h) h input over output times read_failed write_failed Ended words v.0 s mine v.1 tt
@@ -60,8 +68,12 @@ on-given kind opening users words after h input output over times read_failed wr
 on-given kind opening users words after h input output over times read_failed write_failed ReadFault law s mine told =
     let v = gives-end words times after told in
     session-cut-off kind opening users (length h) h input over output times read_failed write_failed words v.0 law s mine v.1
-on-given kind opening users words after h input output over times read_failed write_failed WriteFault law s mine told = tt
-on-given kind opening users words after h input output over times read_failed write_failed Starved law s mine told = tt
+on-given kind opening users words after h input output over times read_failed write_failed WriteFault law s mine told =
+    let v = gives-end words times after told in
+    lost-given kind opening users (length h) h input over output times read_failed write_failed words v.0 s mine v.1
+on-given kind opening users words after h input output over times read_failed write_failed Starved law s mine told =
+    let v = gives-so-far words times after told in
+    starved-given kind opening users (length h) h input over output times read_failed write_failed words v.0 s mine v.1
 
 on-all : {S C Q : Type 0} (kind : Kind S C Q) (opening : S) (users : List User) (words : Words) (after : Option Words) (h : List (Entry C)) (input output left : List ℕ) (source source' : SourceTold) (times : List Moment) (read_failed write_failed : Bool) (end : End)
     → GrammarLaws → Session kind (alone_at opening users) (length h) h input source'.ended output times read_failed write_failed end → own 0 0 h ≡ h → TakesWords end (Some words) times after
@@ -92,13 +104,11 @@ pub run-alone : {S C Q : Type 0} (kind : Kind S C Q) (opening : S) (users : List
     → FrontLaws → GrammarLaws → (now : Option Words) → Talked kind users k now source sink l after source' sink' end → now ≡ words
     → k.opening ≡ opening → k.base ≡ 0 → k.caller ≡ 0 → k.seen ≡ [] → callers ≡ 1 → CallersBelow callers (drop l.base l.seen)
     → (source'.ended ≡ true → IsAtEnd source'.left)
-    → RunAlone kind opening users words source sink source' sink' end
+    → RunAlone kind opening users words source sink source' sink' end l.seen after
 run-alone {S} {C} {Q} kind opening users k l words after source source' sink sink' callers end front law now talked at o b c none one below empty = record {
-  journal = l.seen;
   input = t.input;
   output = t.output;
   times = t.times;
-  after = after;
   gave = t.gave;
   took = t.took;
   told = t.told;
@@ -120,3 +130,22 @@ run-alone {S} {C} {Q} kind opening users k l words after source source' sink sin
 
     told : (w : Words) → words ≡ Some w → TakesWords end (Some w) t.times after
     told w is = subst (λ o. TakesWords end o t.times after) is t.told
+
+-- where only one pass was made, it has seen the whole journal
+own-at : {C : Type 0} (b n : ℕ) (h : List (Entry C)) → b ≡ 0 → n ≡ 0 → own b n h ≡ own 0 0 h
+own-at b n h e f = λ i. own (e i) (f i) h
+
+pub whole-seen : {S C A X : Type 0} (next : S → Entry C → Result (S × A) X) (d : Single S C) (p : Known S C) → IsOf next d p → d.made ≡ 1 → p.base ≡ 0 → p.caller ≡ 0 → p.seen ≡ d.journal
+whole-seen next d p of one base caller =
+    sym (all-own p.base d.made p.seen base one of.below)
+    ∙ (sym (own-at p.base p.caller p.seen base caller)
+    ∙ (of.sound.mine
+    ∙ (sym of.all
+    ∙ (own-at p.base p.caller d.journal base caller
+    ∙ all-own d.base d.made d.journal (sym of.base ∙ base) one of.few))))
+
+-- the journal and the words by other names
+pub leaves : {S C Q : Type 0} (kind : Kind S C Q) (opening : S) (users : List User) (words : Option Words) (source source' : SourceTold) (sink sink' : SinkTold) (end : End) (j h : List (Entry C)) (a b : Option Words)
+    → j ≡ h → a ≡ b → RunAlone kind opening users words source sink source' sink' end j a → RunAlone kind opening users words source sink source' sink' end h b
+leaves kind opening users words source source' sink sink' end j h a b e f ran =
+    subst (λ j. RunAlone kind opening users words source sink source' sink' end j b) e (subst (λ a. RunAlone kind opening users words source sink source' sink' end j a) f ran)

@@ -1,5 +1,6 @@
 -- A session alone: its output, its end and its history, by its input and the words of a clock. Nobody else writes, and nothing is left open.
 use Rattle.std.specs.Prelude.{◌≡◌, ℕ, nat_lt, Bool, true, List, [], ◌∷◌, ◌++◌, Result, Ok, Err, length, if◌then◌else◌}
+use mathlib.Core.List.{IsPrefix}
 use Rattle.outside.specs.Clocks.{Words, first_word, rest_words}
 use Rattle.cm_base.specs.declared.cause.Cause.{Cause}
 use Rattle.cm_base.specs.declared.cause.Cause.TheVariants as causes
@@ -8,13 +9,16 @@ use Rattle.cm_base.specs.declared.user.User.{User}
 use Rattle.desk_model.specs.declared.entry.Entry.{Entry}
 use Rattle.desk_model.specs.Clocks.{moment_of}
 use Rattle.desk_model.specs.Histories.{replay, shown_by}
+use Rattle.http_grammar.specs.declared.fault.HttpFault.{HttpFault}
 use Rattle.http_grammar.specs.Request.{Head}
+use Rattle.http_grammar.specs.Fields.{expects_continue}
+use Rattle.http_grammar.specs.First.{First, Fault, HoldsHead}
 use Rattle.talk.specs.declared.end.End.{End}
 use Rattle.talk.specs.declared.end.End.TheVariants.{Ended, Bad, ReadFault, WriteFault, Starved}
 use Rattle.talk.specs.Wire.{Wire}
 use Rattle.talk.specs.Served.{Kind, Ask, faulty, writes, reads, ask_of}
-use Rattle.talk.specs.Requests.{Arrived, rest_after, is_last, AreRequests, interim_of, AtEnd, IsBad}
-use Rattle.talk.specs.Session.{Setting, plain_shown, with_number, refusal_text, number_at, entry_by, reading_text}
+use Rattle.talk.specs.Requests.{Arrived, rest_after, is_last, IsOpen, AreRequests, interim_of, Due, fault_text, AtEnd, IsBad}
+use Rattle.talk.specs.Session.{Setting, plain_shown, with_number, refusal_text, number_at, entry_by, reading_text, IsStarved}
 
 -- how far a session alone is: its history, what it has sent, and the words that its clock is still to give
 pub record Progress (C : Type 0) : Type 0 where
@@ -81,3 +85,27 @@ IsFinal (Bad fault) = Unit {0}
 IsFinal ReadFault = ⊥
 IsFinal WriteFault = ⊥
 IsFinal Starved = ⊥
+
+-- Of a session alone whose write failed, after these requests: the replies before were sent whole, and a front of the text that was due behind them,
+-- which is the reply to the last request, the text of a fault, or an interim reply.
+pub data LosesAlone {S C Q : Type 0} (kind : Kind S C Q) (at : Setting S) (words : Words) (rs : List Arrived) (rest output : List ℕ) : Type 0 where
+  in_reply : (r : Arrived) (earlier : List Arrived) (text part : List ℕ) → rs ≡ r ∷ earlier → (after_requests kind at words rs).output ≡ (after_requests kind at words earlier).output ++ text
+      → IsPrefix part text → output ≡ (after_requests kind at words earlier).output ++ part → LosesAlone kind at words rs rest output
+  in_fault : IsOpen kind.wire rs → (fault : HttpFault) → First rest (Fault fault) → (due part : List ℕ) → Due kind.wire rest due → IsPrefix part (due ++ fault_text kind.wire fault)
+      → output ≡ (after_requests kind at words rs).output ++ part → LosesAlone kind at words rs rest output
+  in_interim : IsOpen kind.wire rs → (head : Head) → HoldsHead rest head → expects_continue head ≡ true → (part : List ℕ) → IsPrefix part kind.wire.interim_text
+      → output ≡ (after_requests kind at words rs).output ++ part → LosesAlone kind at words rs rest output
+
+-- the session alone whose write failed, on the input that it was given: it has written what the requests ask, also that whose reply was lost
+pub record LostAlone {S C Q : Type 0} (kind : Kind S C Q) (opening : S) (users : List User) (words : Words) (input output : List ℕ) (h : List (Entry C)) : Type 0 where
+  pub arrived : List Arrived
+  pub are_requests : AreRequests kind.wire input arrived
+  pub history : h ≡ (after_requests kind (alone_at opening users) words arrived).journal
+  pub loses : LosesAlone kind (alone_at opening users) words arrived (rest_after input arrived) output
+
+-- the session alone that wanted memory, on the input that it was given: behind the replies to these requests stands the fixed reply, in place of the next one; the request whose reply it replaces has written nothing
+pub record StarvedAlone {S C Q : Type 0} (kind : Kind S C Q) (opening : S) (users : List User) (words : Words) (input output : List ℕ) (write_failed : Bool) (h : List (Entry C)) : Type 0 where
+  pub arrived : List Arrived
+  pub are_requests : AreRequests kind.wire input arrived
+  pub history : h ≡ (after_requests kind (alone_at opening users) words arrived).journal
+  pub starves : IsStarved kind.wire arrived (rest_after input arrived) (after_requests kind (alone_at opening users) words arrived).output output write_failed

@@ -15,7 +15,7 @@ mod step;
 mod tests;
 mod turn;
 
-pub use alone::run_alone;
+pub use alone::{AloneEnd, run_alone};
 pub use asked::Asked;
 pub use end::End;
 pub use laws::{alone_is_one, session_alone, session_stands};

@@ -63,7 +63,7 @@ where
     D::Kind: Served,
     requires { D.is_of desk.old pass.old }
     ensures is_of { D.is_of desk.new pass.new }
-    ensures callers { D.callers desk.new ≡ D.callers desk.old }
+    ensures aside { D.aside desk.new ≡ D.aside desk.old }
     ensures place { D.place pass.new ≡ D.place pass.old }
     ensures turned { IfOk result (λ shown. (users : List User) (head : HeadParts) (last : Bool)
         → Turned (record { next = D.Kind.next; answer = D.Kind.answer; number = D.Kind.number; call = D.Kind.call; wire = wire_of D.Kind.user D.Kind.least D.Kind.closes }) users head last (writes user.now least call) (D.known pass.old) (D.words desk.old) (reply_text shown last) (D.known pass.new) (D.words desk.new)) }
@@ -92,7 +92,7 @@ where
     D::Kind: Served,
     requires { D.is_of desk.old pass.old }
     ensures is_of { D.is_of desk.new pass.new }
-    ensures callers { D.callers desk.new ≡ D.callers desk.old }
+    ensures aside { D.aside desk.new ≡ D.aside desk.old }
     ensures place { D.place pass.new ≡ D.place pass.old }
     ensures turned { IfOk result (λ shown. (users : List User) (head : HeadParts) (last : Bool)
         → Turned (record { next = D.Kind.next; answer = D.Kind.answer; number = D.Kind.number; call = D.Kind.call; wire = wire_of D.Kind.user D.Kind.least D.Kind.closes }) users head last (reads user.now least question.now) (D.known pass.old) (D.words desk.old) (reply_text shown last) (D.known pass.new) (D.words desk.new)) }
@@ -122,7 +122,7 @@ where
     D::Kind: Served,
     requires { D.is_of desk.old pass.old }
     ensures is_of { D.is_of desk.new pass.new }
-    ensures callers { D.callers desk.new ≡ D.callers desk.old }
+    ensures aside { D.aside desk.new ≡ D.aside desk.old }
     ensures place { D.place pass.new ≡ D.place pass.old }
     ensures turned { IfOk result (λ shown. (last : Bool)
         → Turned (record { next = D.Kind.next; answer = D.Kind.answer; number = D.Kind.number; call = D.Kind.call; wire = wire_of D.Kind.user D.Kind.least D.Kind.closes }) users.now request.now.head last (ask_of (record { next = D.Kind.next; answer = D.Kind.answer; number = D.Kind.number; call = D.Kind.call; wire = wire_of D.Kind.user D.Kind.least D.Kind.closes }) users.now request.now) (D.known pass.old) (D.words desk.old) (reply_text shown last) (D.known pass.new) (D.words desk.new)) }

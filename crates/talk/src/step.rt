@@ -43,7 +43,7 @@ where
     requires is_of { D.is_of desk.old pass.old }
     requires few { count.old < 1000 }
     ensures is_of { D.is_of desk.new pass.new }
-    ensures callers { D.callers desk.new ≡ D.callers desk.old }
+    ensures aside { D.aside desk.new ≡ D.aside desk.old }
     ensures place { D.place pass.new ≡ D.place pass.old }
     ensures answers { AnswersRequest (record { next = D.Kind.next; answer = D.Kind.answer; number = D.Kind.number; call = D.Kind.call; wire = wire_of D.Kind.user D.Kind.least D.Kind.closes }) users.now request.now
         (record { known = D.known pass.old; words = D.words desk.old; count = count.old }) (L.Sink.told link.old) (record { known = D.known pass.new; words = D.words desk.new; count = count.new }) (L.Sink.told link.new) result }
@@ -95,7 +95,7 @@ where
     requires is_of { D.is_of desk.old pass.old }
     requires few { count.old < 1000 }
     ensures is_of { D.is_of desk.new pass.new }
-    ensures callers { D.callers desk.new ≡ D.callers desk.old }
+    ensures aside { D.aside desk.new ≡ D.aside desk.old }
     ensures place { D.place pass.new ≡ D.place pass.old }
     ensures steps { Steps (record { next = D.Kind.next; answer = D.Kind.answer; number = D.Kind.number; call = D.Kind.call; wire = wire_of D.Kind.user D.Kind.least D.Kind.closes }) users.now
         buffer.old (L.Source.told link.old) (record { known = D.known pass.old; words = D.words desk.old; count = count.old }) (L.Sink.told link.old)

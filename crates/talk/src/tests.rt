@@ -125,7 +125,7 @@ fn three_turns_with_a_refused_write(rt: HostRuntime) -> Result<(), Fail> {
     let end = run_alone::<Sums, ListClock, MemLink, OpenGate>(
         alloc, 1, clock, &users, &mut link, &OpenGate,
     )?;
-    assert_eq!(rt; end, End::Ended);
+    assert_eq!(rt; end.end, End::Ended);
     let want =
         b"HTTP/1.1 201 Created\r\nContent-Length: 0\r\nCMIS-Step: 41\r\n\r\nHTTP/1.1 404 Not Found\r\nContent-Type: application/json\r\nContent-Length: 62\r\nCMIS-Step: 41\r\n\r\n{\"exception\":\"objectNotFound\",\"message\":\"object is not found\"}HTTP/1.1 200 OK\r\nContent-Length: 0\r\nCMIS-Step: 41\r\n\r\n";
     assert_eq!(rt; link.sink().held(), want.as_slice());
@@ -141,7 +141,7 @@ fn a_session_that_is_cut_inside_a_head(rt: HostRuntime) -> Result<(), Fail> {
     let end = run_alone::<Sums, ListClock, MemLink, OpenGate>(
         alloc, 1, clock, &users, &mut link, &OpenGate,
     )?;
-    assert_eq!(rt; end, End::Bad(HttpFault::Cut));
+    assert_eq!(rt; end.end, End::Bad(HttpFault::Cut));
     assert!(rt; link.sink().held().is_empty());
     Ok(())
 }

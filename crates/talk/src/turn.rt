@@ -35,7 +35,7 @@ where
     D::Kind: Served,
     requires { D.is_of desk.old pass.old }
     ensures is_of { D.is_of desk.new pass.new }
-    ensures callers { D.callers desk.new ≡ D.callers desk.old }
+    ensures aside { D.aside desk.new ≡ D.aside desk.old }
     ensures place { D.place pass.new ≡ D.place pass.old }
     ensures turned { IfOk result (λ verdict. (users : List User) (head : Head) (last : Bool)
         → Turned (record { next = D.Kind.next; answer = D.Kind.answer; number = D.Kind.number; call = D.Kind.call; wire = wire_of D.Kind.user D.Kind.least D.Kind.closes }) users head last (writes user.now least call) (D.known pass.old) (D.words desk.old) (reply_text (verdict_shown verdict) last) (D.known pass.new) (D.words desk.new)) }
@@ -67,7 +67,7 @@ where
     D::Kind: Served,
     requires { D.is_of desk.old pass.old }
     ensures is_of { D.is_of desk.new pass.new }
-    ensures callers { D.callers desk.new ≡ D.callers desk.old }
+    ensures aside { D.aside desk.new ≡ D.aside desk.old }
     ensures place { D.place pass.new ≡ D.place pass.old }
     ensures turned { IfOk result (λ verdict. (users : List User) (head : Head) (last : Bool)
         → Turned (record { next = D.Kind.next; answer = D.Kind.answer; number = D.Kind.number; call = D.Kind.call; wire = wire_of D.Kind.user D.Kind.least D.Kind.closes }) users head last (reads user.now least question.now) (D.known pass.old) (D.words desk.old) (reply_text (verdict_shown verdict) last) (D.known pass.new) (D.words desk.new)) }

@@ -22,7 +22,8 @@ use Rattle.type_keys.specs.Keys.{is_object, is_text, is_flag, is_item, is_choice
 use Rattle.type_json.specs.Reading.{text_in, id_in, flag_in, whole_in, scalar_of, scalars_in, choice_of, choices_in, prop_kind, prop_request, lacks, lacks_prop_key, has_wrong_name}
 use Rattle.json_text.specs.Values.{scalar_data}
 use Rattle.type_show.specs.Showing.{with_fields, prop_names, prop_words, prop_flags, prop_values, limit_fields, limit_data, choice_data, prop_data}
-use Rattle.type_show.specs.ReadBack.{asked_prop, IsSoundProp, is_no_empty_list, limit_fits, scalar_fits}
+use Rattle.cm_types.specs.Sound.{is_no_empty_list}
+use Rattle.type_show.specs.ReadBack.{asked_prop, IsSoundProp, limit_fits, scalar_fits}
 use Rattle.type_show.proofs.Putting.{both, first, second}
 use Rattle.type_show.proofs.ShownValues.{kind_again, cardinality_again, updatability_again, is_list_again, all_again, map_same, item_again, is_kept, scalar_again, choice_again, is_choice_again, limit_again, limit_kind}
 
@@ -113,7 +114,7 @@ right_false true b h = absurd cc
 right_false false b h = h
 
 default_faultless : (d : PropDef) → IsSoundProp d → not (is_none (value_fault d d.default)) ≡ false
-default_faultless d s = left_false _ _ s.has_no_fault
+default_faultless d s = left_false _ _ s.def.has_no_fault
 
 has_own_cardinality : (d : PropDef) → IsSoundProp d → has_other_cardinality d.cardinality d.default ≡ false
 has_own_cardinality d s = none_before _ _ _ (default_faultless d s)
@@ -143,7 +144,7 @@ choice_kinds d (c ∷ cs) h =
 kept_choices : (d : PropDef) → IsSoundProp d → list_all (λ c. is_kept d.kind c.value) d.choices ≡ true
 kept_choices d s =
     each_both (λ c. is_of_kind d.kind c.value) (λ c. scalar_fits c.value) d.choices
-    (choice_kinds d d.choices (right_false (not (is_none (value_fault d d.default))) _ s.has_no_fault))
+    (choice_kinds d d.choices (right_false (not (is_none (value_fault d d.default))) _ s.def.has_no_fault))
     s.choices_fit
 
 -- ---- the request
@@ -177,9 +178,9 @@ request_at d m at s = λ i. record {
   open_choice = flag_at (codes "openChoice") m d.open_choice at.open_choice i;
   choices = choices_at d m at s i;
   default = default_at d m at s i;
-  max_length = limit_at (codes "maxLength") m _ d.max_length at.max_length s.max_length_of_kind s.max_length_fits i;
-  min_value = limit_at (codes "minValue") m _ d.min_value at.min_value s.min_value_of_kind s.min_value_fits i;
-  max_value = limit_at (codes "maxValue") m _ d.max_value at.max_value s.max_value_of_kind s.max_value_fits i;
+  max_length = limit_at (codes "maxLength") m _ d.max_length at.max_length s.def.max_length_of_kind s.max_length_fits i;
+  min_value = limit_at (codes "minValue") m _ d.min_value at.min_value s.def.min_value_of_kind s.min_value_fits i;
+  max_value = limit_at (codes "maxValue") m _ d.max_value at.max_value s.def.max_value_of_kind s.max_value_fits i;
 }
 
 pub asked_again : (d : PropDef) → IsSoundProp d → prop_request (prop_data d) ≡ asked_prop d
@@ -235,9 +236,9 @@ keys_at d m at s =
     (either _ _ (right_flag (codes "openChoice") m _ at.open_choice)
     (either _ _ (right_list is_choice choice_data d.choices (codes "choice") m at.choices (each_from _ _ d.choices is_choice_again s.choices_fit))
     (either _ _ (right_list is_item scalar_data (scalars_of d.default) (codes "defaultValue") m at.default (each_from _ _ (scalars_of d.default) item_again s.default_fits))
-    (either _ _ (right_limit (codes "maxLength") m _ _ at.max_length s.max_length_of_kind s.max_length_fits)
-    (either _ _ (right_limit (codes "minValue") m _ _ at.min_value s.min_value_of_kind s.min_value_fits)
-    (either _ _ (right_limit (codes "maxValue") m _ _ at.max_value s.max_value_of_kind s.max_value_fits)
+    (either _ _ (right_limit (codes "maxLength") m _ _ at.max_length s.def.max_length_of_kind s.max_length_fits)
+    (either _ _ (right_limit (codes "minValue") m _ _ at.min_value s.def.min_value_of_kind s.min_value_fits)
+    (either _ _ (right_limit (codes "maxValue") m _ _ at.max_value s.def.max_value_of_kind s.max_value_fits)
     (either _ _ at.resolution refl)))))))))))))))))))
 
 pub keys_again : (d : PropDef) → IsSoundProp d → has_wrong_key prop_keys (prop_data d) ≡ false
@@ -284,10 +285,10 @@ again_of kind own limit e = ap (of_kind kind own) e ∙ e
 
 pub made_again : (d : PropDef) → IsSoundProp d → made_prop (asked_prop d) ≡ d
 made_again d s = λ i. record d {
-  default = default_again d.cardinality d.default (has_own_cardinality d s) s.default_is_no_empty_list i;
-  max_length = again_of kinds.String d.kind d.max_length s.max_length_of_kind i;
-  min_value = again_of kinds.Integer d.kind d.min_value s.min_value_of_kind i;
-  max_value = again_of kinds.Integer d.kind d.max_value s.max_value_of_kind i;
+  default = default_again d.cardinality d.default (has_own_cardinality d s) s.def.default_is_no_empty_list i;
+  max_length = again_of kinds.String d.kind d.max_length s.def.max_length_of_kind i;
+  min_value = again_of kinds.Integer d.kind d.min_value s.def.min_value_of_kind i;
+  max_value = again_of kinds.Integer d.kind d.max_value s.def.max_value_of_kind i;
 }
 
 -- a single property has no list of values
@@ -301,4 +302,4 @@ pub many_again : (d : PropDef) → IsSoundProp d → gives_many (asked_prop d) �
 many_again d s = many_for d.cardinality d.default (has_own_cardinality d s)
 
 pub faultless_again : (d : PropDef) → IsSoundProp d → has_wrong_value d ≡ false
-faultless_again d s = s.has_no_fault
+faultless_again d s = s.def.has_no_fault

@@ -4,15 +4,14 @@ use Rattle.std.specs.List.{list_all}
 use Rattle.serde_json.specs.Find.{as_i64, of_integer}
 use Rattle.cm_base.specs.declared.value.Scalar.{Scalar}
 use Rattle.cm_base.specs.declared.value.Scalar.TheVariants.{Flag, Whole, Time, Words}
-use Rattle.cm_base.specs.declared.value.Value.{Value}
-use Rattle.cm_base.specs.declared.value.Value.TheVariants.{Many}
 use Rattle.cm_types.specs.declared.property.PropDef.{PropDef}
 use Rattle.cm_types.specs.declared.property.PropertyKind.TheVariants as kinds
 use Rattle.cm_types.specs.declared.definition.TypeDef.{TypeDef}
 use Rattle.cm_types.specs.declared.request.PropRequest.{PropRequest}
 use Rattle.cm_types.specs.declared.request.TypeRequest.{TypeRequest}
 use Rattle.cm_types.specs.Properties.{scalars_of}
-use Rattle.cm_types.specs.Changes.{of_kind, if_kept, is_document, is_relationship, is_before, base_id, has_wrong_value}
+use Rattle.cm_types.specs.Changes.{of_kind, if_kept, is_document, is_relationship, is_before, base_id}
+use Rattle.cm_types.specs.Sound.{IsSoundDef}
 use Rattle.type_keys.specs.Words.{is_id, is_query_name}
 
 -- each attribute of the definition is asked for; limits of its kind alone
@@ -79,12 +78,7 @@ scalar_fits (Whole n) = fits n
 scalar_fits (Time n) = fits n
 scalar_fits (Words t) = true
 
--- no list of no values
-abbrev pub is_no_empty_list : Value → Bool
-is_no_empty_list (Many []) = false
-is_no_empty_list v = true
-
--- names of their forms, integers of 64 bits, limits of the kind alone, and a default value and choices without a fault
+-- names of their forms, integers of 64 bits, and a sound definition
 pub record IsSoundProp (d : PropDef) : Type 0 where
   pub id : is_id d.id ≡ true
   pub query_name : is_query_name d.query_name ≡ true
@@ -93,11 +87,7 @@ pub record IsSoundProp (d : PropDef) : Type 0 where
   pub max_length_fits : limit_fits d.max_length ≡ true
   pub min_value_fits : limit_fits d.min_value ≡ true
   pub max_value_fits : limit_fits d.max_value ≡ true
-  pub max_length_of_kind : of_kind kinds.String d.kind d.max_length ≡ d.max_length
-  pub min_value_of_kind : of_kind kinds.Integer d.kind d.min_value ≡ d.min_value
-  pub max_value_of_kind : of_kind kinds.Integer d.kind d.max_value ≡ d.max_value
-  pub default_is_no_empty_list : is_no_empty_list d.default ≡ true
-  pub has_no_fault : has_wrong_value d ≡ false
+  pub def : IsSoundDef d
 
 -- in byte order of their ids, each id once
 abbrev pub ascend : List PropDef → Bool

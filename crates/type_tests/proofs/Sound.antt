@@ -1,40 +1,15 @@
 -- The base types are sound: their texts are read as the requests that name them.
-use Rattle.std.proofs.Common.{◌≡◌, ℕ, List, [], ◌∷◌, Bool, true, false, refl}
-use Rattle.std.specs.Prelude.{ℤ, None}
+use Rattle.std.proofs.Common.{◌≡◌, ℕ, List, Bool, true, refl}
 use Rattle.std.proofs.lemmas.List.Elements.{All-from_recursion}
 use Rattle.ql_lex.specs.Words.{keyword_of}
 use Rattle.cm_types.specs.declared.property.PropertyKind.{PropertyKind}
-use Rattle.cm_types.specs.declared.property.PropertyKind.TheVariants as kinds
 use Rattle.cm_types.specs.declared.property.Cardinality.{Cardinality}
-use Rattle.cm_types.specs.declared.property.Cardinality.TheVariants.{Single, Multi}
 use Rattle.cm_types.specs.declared.property.Updatability.{Updatability}
 use Rattle.cm_types.specs.declared.definition.BaseType.TheVariants as bases
-use Rattle.cm_types.specs.Changes.{of_kind, has_wrong_value}
 use Rattle.cm_types.specs.BaseTypes.{prop, base_row}
+use Rattle.cm_types.proofs.Sound.{row_is_sound}
 use Rattle.type_keys.specs.Words.{is_id, is_query_name}
 use Rattle.type_show.specs.ReadBack.{IsSoundProp, IsSoundType}
-
-no_length : (kind : PropertyKind) → of_kind {A = ℤ} kinds.String kind None ≡ None
-no_length kinds.Boolean = refl
-no_length kinds.Integer = refl
-no_length kinds.Datetime = refl
-no_length kinds.String = refl
-no_length kinds.Uri = refl
-no_length kinds.Id = refl
-no_length kinds.Html = refl
-
-no_bound : (kind : PropertyKind) → of_kind {A = ℤ} kinds.Integer kind None ≡ None
-no_bound kinds.Boolean = refl
-no_bound kinds.Integer = refl
-no_bound kinds.Datetime = refl
-no_bound kinds.String = refl
-no_bound kinds.Uri = refl
-no_bound kinds.Id = refl
-no_bound kinds.Html = refl
-
-faultless : (id : List ℕ) (kind : PropertyKind) (c : Cardinality) (u : Updatability) (required queryable : Bool) → has_wrong_value (prop id kind c u required queryable) ≡ false
-faultless id kind Single u required queryable = refl
-faultless id kind Multi u required queryable = refl
 
 sound : (id : List ℕ) (kind : PropertyKind) (c : Cardinality) (u : Updatability) (required queryable : Bool) → is_id id ≡ true → is_query_name id ≡ true
     → IsSoundProp (prop id kind c u required queryable)
@@ -46,11 +21,7 @@ sound id kind c u required queryable i n = record {
   max_length_fits = refl;
   min_value_fits = refl;
   max_value_fits = refl;
-  max_length_of_kind = no_length kind;
-  min_value_of_kind = no_bound kind;
-  max_value_of_kind = no_bound kind;
-  default_is_no_empty_list = refl;
-  has_no_fault = faultless id kind c u required queryable;
+  def = row_is_sound id kind c u required queryable;
 }
 
 pub secondary_is_sound : IsSoundType (base_row bases.Secondary)

@@ -1,9 +1,9 @@
 -- createFolder keeps what is well formed.
-use Rattle.std.specs.Prelude.{◌≡◌, ℕ, ◌+◌, ◌≤◌, Bool, true, false, not, ◌||◌, List, [], ◌∷◌, map, filter, filter_map, fold, All, Option, Some, None, Ok, is_some, is_none, option_map, unwrap_or, nat_lt, nat_le, bytes_eq, codes, if◌then◌else◌}
+use Rattle.std.specs.Prelude.{◌≡◌, ℕ, ◌+◌, ◌≤◌, Bool, true, false, not, ◌||◌, List, [], ◌∷◌, map, filter, filter_map, fold, All, Option, Some, None, Ok, is_some, option_map, unwrap_or, nat_lt, nat_le, bytes_eq, codes, if◌then◌else◌}
 use Rattle.std.specs.List.{list_any}
 use Rattle.std.proofs.Common.{refl, sym, ap, subst, ◌∙◌, arith}
 use Rattle.std.proofs.lemmas.Bool.{both_ways, ltb-false}
-use Rattle.std.proofs.lemmas.List.Elements.{All-nil, All-cons, All-head, All-tail, All-append, All-filter, All-map, All-weaker}
+use Rattle.std.proofs.lemmas.List.Elements.{All-nil, All-cons, All-head, All-tail, All-append, All-filter, All-map}
 use Rattle.core.specs.List.{cons_option}
 use Rattle.core.specs.Ordering.{is_lt, is_gt}
 use Rattle.cm_base.specs.declared.number.Moment.{Moment}
@@ -19,19 +19,20 @@ use Rattle.cm_types.specs.declared.definition.BaseType.TheVariants as bases
 use Rattle.cm_types.specs.declared.given.PropertyCall.TheVariants as calls
 use Rattle.cm_types.specs.Types.{type_in, same_base}
 use Rattle.cm_types.specs.Properties.{judge_properties}
-use Rattle.cm_call.specs.declared.write.AceRequest.{AceRequest}
-use Rattle.cm_call.specs.declared.write.CreateFolder.{CreateFolder}
+use Rattle.call_parts.specs.declared.writes.AceRequest.{AceRequest}
+use Rattle.call_parts.specs.declared.writes.CreateFolder.{CreateFolder}
 use Rattle.cm_acl.specs.Acl.{level_named, ace_order, with_ace, without_aces, same_ace}
 use Rattle.cm_show.specs.Addressed.{addressed}
 use Rattle.cmis_spec.specs.Repository.{Repository, root, most_levels, most_steps, most_cost, object_at, is_a, depth_of, is_taken, new_number}
 use Rattle.cmis_spec.specs.Access.{rank, lacks, read_named, object_named}
-use Rattle.cmis_spec.specs.Well.{Apart, ComesBefore, IsBaseAt, IsWellFormed}
+use Rattle.cmis_spec.specs.Well.{Apart, ComesBefore, IsTyped, IsBaseAt, IsWellFormed}
 use Rattle.cmis_laws.proofs.Lists.{none_some}
 use Rattle.cmis_laws.proofs.Made.{folder_keeps}
 use Rattle.wr_rules.specs.Rules.{judge_storage, distinct, name_in, type_id_in, secondary_in, unknown_type, has_other_secondary, bars_child, unread_cause, read_all, has_other_policy, policies_in, has_unknown_permission, aces_of, aces_in, new_aces}
-use Rattle.cmis_laws.proofs.Kept.{kept_new, owns_new}
-use Rattle.cmis_laws.proofs.Passed.{refused_not, then_ok, refuse_ok, find_ok, first_none, some_none, not_false, or_left, or_right}
-use Rattle.wr_rules.proofs.Known.{known_types}
+use Rattle.cmis_laws.proofs.Kept.{kept_new}
+use Rattle.cmis_laws.proofs.Once.{owns_new}
+use Rattle.cmis_laws.proofs.Passed.{refused_not, then_ok, refuse_ok, find_ok, first_none, not_false, or_left, or_right}
+use Rattle.wr_rules.proofs.Known.{below_secondary}
 use Rattle.wr_rules.proofs.Found.{addressed_there, read_there, named_there}
 use Rattle.wr_object.specs.CreateFolder.{folder_props, is_uncontrollable, refusal_create_folder, new_folder, after_create_folder_in, after_create_folder}
 
@@ -173,6 +174,7 @@ keeps_create_folder r u m cost call w h ordered =
     let p = passes r u m cost call h in
     let x = new_folder r u m call in
     let there : object_at r p.parent.id ≡ Some p.parent = addressed_there r u call.place p.parent w.numbers p.at in
+    let typed : IsTyped r.types x = (ap is_some p.kind, below_secondary r.types (secondary_in call.properties) (or_right (not (same_base bases.Folder p.def.base)) (has_other_secondary r.types (secondary_in call.properties)) p.base)) in
     let policies_ok = distinct_all (IsGood r u) call.policies (good_all r u call.policies (or_right (not (is_a r bases.Folder p.parent)) (has_other_policy r u call.policies) p.kinds)) in
     subst (λ f. IsWellFormed (after_create_folder_in r u m cost call f)) (sym (ap (λ o. unwrap_or (option_map (λ f. f.id) o) root) p.at))
     (folder_keeps r cost m p.parent.id x (new_aces u call.remove call.add) (policies_in r u call.policies) w (record {
@@ -181,9 +183,9 @@ keeps_create_folder r u m cost call w h ordered =
       name = name_in call.properties;
       named = refl;
       base = rw p.kind (not_false (same_base bases.Folder p.def.base) (or_left (not (same_base bases.Folder p.def.base)) (has_other_secondary r.types (secondary_in call.properties)) p.base));
-      typed = (ap is_some p.kind, known_types r.types (secondary_in call.properties) p.known);
+      typed = typed;
       kept = kept_new r (type_id_in call.properties) (secondary_in call.properties) call.properties x w.defs p.properties refl;
-      owned = owns_new r.types call.properties x refl;
+      owned = owns_new r.types call.properties x w.types typed refl;
       token = omega arith;
       listed = (ordered, new_permit u call.remove call.add);
       applied = named_all r u (distinct call.policies) policies_ok;

@@ -1,5 +1,5 @@
 -- createDocument keeps what is well formed.
-use Rattle.std.specs.Prelude.{◌≡◌, ℕ, ◌+◌, ◌≤◌, Bool, true, false, not, ◌&&◌, ◌||◌, if◌then◌else◌, List, [], ◌∷◌, length, All, Option, Some, None, IfSome, Ok, Err, is_some, option_map, option_and_then, unwrap_or, nat_lt}
+use Rattle.std.specs.Prelude.{◌≡◌, ℕ, ◌+◌, ◌≤◌, Bool, true, false, not, ◌&&◌, ◌||◌, if◌then◌else◌, List, [], ◌∷◌, length, All, Option, Some, None, IfSome, Ok, Err, is_some, option_map, option_and_then, unwrap_or}
 use Rattle.std.specs.List.{list_any}
 use Rattle.std.proofs.Common.{refl, sym, ap, subst, ◌∙◌, arith}
 use Rattle.std.proofs.lemmas.Bool.{both_ways, ltb-false}
@@ -9,8 +9,6 @@ use Rattle.cm_base.specs.declared.number.Moment.{Moment}
 use Rattle.cm_base.specs.declared.object.Object.{Object}
 use Rattle.cm_base.specs.declared.content.Content.{Content}
 use Rattle.cm_base.specs.declared.series.Series.{Series}
-use Rattle.cm_base.specs.declared.series.Label.{Label}
-use Rattle.cm_base.specs.declared.series.DocumentVersion.{DocumentVersion}
 use Rattle.cm_base.specs.declared.series.VersioningState.{VersioningState}
 use Rattle.cm_base.specs.declared.series.VersioningState.TheVariants as states
 use Rattle.cm_base.specs.declared.log.ChangeKind.TheVariants as changes
@@ -22,24 +20,25 @@ use Rattle.cm_types.specs.declared.definition.BaseType.TheVariants as bases
 use Rattle.cm_types.specs.declared.given.PropertyCall.TheVariants as calls
 use Rattle.cm_types.specs.Types.{type_in, same_base}
 use Rattle.cm_types.specs.Properties.{judge_properties}
-use Rattle.cm_call.specs.declared.place.Place.{Place}
-use Rattle.cm_call.specs.declared.versions.CreateDocument.{CreateDocument}
-use Rattle.cm_call.specs.declared.versions.GivenStream.{GivenStream}
+use Rattle.call_parts.specs.declared.place.Place.{Place}
+use Rattle.call_parts.specs.declared.versions.CreateDocument.{CreateDocument}
+use Rattle.call_parts.specs.declared.stream.GivenStream.{GivenStream}
 use Rattle.cm_show.specs.Addressed.{addressed}
-use Rattle.cmis_spec.specs.Repository.{Repository, same, longest_stream, object_at, is_a, is_taken, new_number}
+use Rattle.cmis_spec.specs.Repository.{Repository, same, longest_stream, is_a, is_taken, new_number}
 use Rattle.cmis_spec.specs.Changes.{stepped, noted}
 use Rattle.cmis_spec.specs.Documents.{with_document, with_policies, with_contents}
-use Rattle.cmis_spec.specs.Well.{Apart, ComesBefore, IsBaseAt, HasNumbers, IsAlone, members, IsLabel, is_plain, IsWellFormed}
+use Rattle.cmis_spec.specs.Well.{Apart, ComesBefore, IsTyped, IsBaseAt, HasNumbers, IsAlone, members, IsLabel, IsWellFormed}
 use Rattle.cmis_laws.proofs.Lists.{same_refl}
 use Rattle.cmis_laws.proofs.Begun.{HasLabelsOf}
-use Rattle.cmis_laws.proofs.Kept.{kept_new, owns_new}
+use Rattle.cmis_laws.proofs.Kept.{kept_new}
+use Rattle.cmis_laws.proofs.Once.{owns_new}
 use Rattle.cmis_laws.proofs.MadeDocument.{IsMadeDocument, filed_at, made_document_keeps}
 use Rattle.cmis_laws.proofs.Passed.{err_ok, refused_not, then_ok, refuse_ok, find_ok, first_none, not_false, or_left, or_right}
 use Rattle.cmis_laws.proofs.Steps.{HasRoom}
 use Rattle.wr_rules.specs.Rules.{judge_storage, distinct, name_in, type_id_in, secondary_in, unknown_type, has_other_secondary, bars_child, unread_cause, has_other_policy, policies_in, has_unknown_permission, new_aces}
-use Rattle.wr_rules.specs.Documents.{judge_content, bars_content, needs_content, is_too_long, content_of_stream}
+use Rattle.wr_rules.specs.Documents.{judge_content, is_too_long, content_of_stream}
 use Rattle.wr_rules.proofs.Found.{addressed_there}
-use Rattle.wr_rules.proofs.Known.{known_types}
+use Rattle.wr_rules.proofs.Known.{below_secondary}
 use Rattle.wr_rules.proofs.Room.{room_of}
 use Rattle.wr_object.specs.CreateDocument.{folder_at, folder_of, document_props, state_of, is_unversioned, has_other_state, is_uncontrollable, may_not_make, is_no_folder, is_name_taken, refusal_create_document, own_name, new_document, new_series, new_content, filed_in, after_create_document_in, after_create_document}
 use Rattle.wr_object.proofs.CreateFolder.{IsGood, new_permit, distinct_all, good_all, named_all}
@@ -202,13 +201,16 @@ module _ (r : Repository) (u : List ℕ) (m : Moment) (cost : ℕ) (call : Creat
   is_document : is_a r bases.Document x ≡ true
   is_document = rw p.def (not_false (same_base bases.Document p.kind.base) (or_left (not (same_base bases.Document p.kind.base)) (has_other_secondary r.types (secondary_in call.properties)) p.base))
 
+  typed : IsTyped r.types x
+  typed = (ap is_some p.def, below_secondary r.types (secondary_in call.properties) (or_right (not (same_base bases.Document p.kind.base)) (has_other_secondary r.types (secondary_in call.properties)) p.base))
+
   is_made : IsMadeDocument r cost x s (new_aces u call.remove call.add) (policies_in r u call.policies) (new_content r call) (number_of p.folder)
   is_made = record {
     number = refl;
     base = is_document;
-    typed = (ap is_some p.def, known_types r.types (secondary_in call.properties) p.known);
+    typed = typed;
     kept = kept_new r (type_id_in call.properties) (secondary_in call.properties) call.properties x w.defs p.properties refl;
-    owned = owns_new r.types call.properties x refl;
+    owned = owns_new r.types call.properties x w.types typed refl;
     token = omega arith;
     series = ap Some (sym (series_id n u name state));
     first = series_id n u name state;

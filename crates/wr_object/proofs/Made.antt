@@ -8,7 +8,7 @@ use Rattle.cm_base.specs.declared.number.Moment.{Moment}
 use Rattle.cm_base.specs.declared.object.Object.{Object}
 use Rattle.cm_base.specs.declared.access.Ace.{Ace}
 use Rattle.cm_base.specs.declared.log.ChangeKind.TheVariants as changes
-use Rattle.cm_call.specs.declared.write.CreateFolder.{CreateFolder}
+use Rattle.call_parts.specs.declared.writes.CreateFolder.{CreateFolder}
 use Rattle.cmis_spec.specs.Repository.{Repository, same, most_steps, most_cost, object_at, new_number}
 use Rattle.cmis_spec.specs.Changes.{stepped, noted, with_object, with_pair}
 use Rattle.cmis_spec.specs.Well.{HasNumbers, IsWellFormed}

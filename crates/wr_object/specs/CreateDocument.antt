@@ -19,13 +19,12 @@ use Rattle.cm_types.specs.declared.property.PropDef.{PropDef}
 use Rattle.cm_types.specs.declared.given.PropertyCall.TheVariants as calls
 use Rattle.cm_types.specs.Types.{type_in, same_base, props_of}
 use Rattle.cm_types.specs.Properties.{judge_properties, kept_values}
-use Rattle.cm_call.specs.declared.place.Place.{Place}
-use Rattle.cm_call.specs.declared.question.PropertyFilter.TheVariants as filters
-use Rattle.cm_call.specs.declared.versions.CreateDocument.{CreateDocument}
-use Rattle.cm_call.specs.declared.reply.Reply.{Reply}
-use Rattle.cm_call.specs.declared.reply.Reply.TheVariants as replies
-use Rattle.cm_call.specs.Weight.{bounded}
-use Rattle.cm_call.specs.Versions.{weight_of_create_document}
+use Rattle.call_parts.specs.declared.place.Place.{Place}
+use Rattle.call_parts.specs.declared.readings.PropertyFilter.TheVariants as filters
+use Rattle.call_parts.specs.declared.versions.CreateDocument.{CreateDocument}
+use Rattle.call_parts.specs.declared.replies.ObjectReply.{ObjectReply}
+use Rattle.call_parts.specs.Weight.{bounded}
+use Rattle.call_parts.specs.Versions.{weight_of_create_document}
 use Rattle.cm_show.specs.Addressed.{addressed}
 use Rattle.cm_show.specs.Shown.{shown_object}
 use Rattle.cmis_spec.specs.Repository.{Repository, new_number, is_a, is_taken}
@@ -157,5 +156,5 @@ after_create_document r u m cost call =
 -- ---- the reply
 
 -- the new document as the caller sees it after the step
-abbrev pub acknowledgement_create_document_of : Repository → List ℕ → CreateDocument → Object → Reply
-acknowledgement_create_document_of after u call x = replies.Object (record { object = shown_object after u filters.All call.succinct x; created = true })
+abbrev pub acknowledgement_create_document_of : Repository → List ℕ → CreateDocument → Object → ObjectReply
+acknowledgement_create_document_of after u call x = record { object = shown_object after u filters.All call.succinct x; created = true }

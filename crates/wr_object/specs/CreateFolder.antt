@@ -14,12 +14,10 @@ use Rattle.cm_types.specs.declared.property.PropDef.{PropDef}
 use Rattle.cm_types.specs.declared.given.PropertyCall.TheVariants as calls
 use Rattle.cm_types.specs.Types.{type_in, same_base, props_of}
 use Rattle.cm_types.specs.Properties.{judge_properties, kept_values}
-use Rattle.cm_call.specs.declared.question.PropertyFilter.TheVariants as filters
-use Rattle.cm_call.specs.declared.write.CreateFolder.{CreateFolder}
-use Rattle.cm_call.specs.declared.write.Write.TheVariants as writes
-use Rattle.cm_call.specs.declared.reply.Reply.{Reply}
-use Rattle.cm_call.specs.declared.reply.Reply.TheVariants as replies
-use Rattle.cm_call.specs.Weight.{bounded, weight_of}
+use Rattle.call_parts.specs.declared.readings.PropertyFilter.TheVariants as filters
+use Rattle.call_parts.specs.declared.writes.CreateFolder.{CreateFolder}
+use Rattle.call_parts.specs.declared.replies.ObjectReply.{ObjectReply}
+use Rattle.call_parts.specs.Weight.{bounded, weight_of_create_folder}
 use Rattle.cm_show.specs.Addressed.{addressed}
 use Rattle.cm_show.specs.Shown.{shown_object}
 use Rattle.cmis_spec.specs.Repository.{Repository, root, most_levels, new_number, is_a, depth_of, is_taken}
@@ -43,7 +41,7 @@ is_uncontrollable kind call =
 -- the cost: the weight of the call, and the default values that are taken where the type is there
 abbrev pub cost_create_folder : Repository → CreateFolder → ℕ
 cost_create_folder r call =
-    bounded (weight_of (writes.CreateFolder call)
+    bounded (weight_of_create_folder call
     + unwrap_or (option_map (λ t. defaults_cost (folder_props r.types call) call.properties) (type_in r.types (type_id_in call.properties))) 0)
 
 -- ---- the refusal
@@ -98,8 +96,8 @@ after_create_folder r u m cost call =
 -- ---- the reply
 
 -- the new folder as the caller sees it after the step
-abbrev pub acknowledgement_create_folder : Repository → List ℕ → Moment → ℕ → CreateFolder → Reply
-acknowledgement_create_folder r u m cost call = replies.Object (record {
+abbrev pub acknowledgement_create_folder : Repository → List ℕ → Moment → ℕ → CreateFolder → ObjectReply
+acknowledgement_create_folder r u m cost call = record {
   object = shown_object (after_create_folder r u m cost call) u filters.All call.succinct (new_folder r u m call);
   created = true;
-})
+}

@@ -9,8 +9,8 @@ use Rattle.cm_base.specs.declared.access.Level.TheVariants as levels
 use Rattle.cm_base.specs.declared.cause.Cause.TheVariants as causes
 use Rattle.cm_base.specs.Judged.{Judged, ◌>>=◌, ◌>>◌, refuse, find_or}
 use Rattle.cm_types.specs.declared.definition.BaseType.TheVariants as bases
-use Rattle.cm_call.specs.declared.versions.Delete.{Delete}
-use Rattle.cm_call.specs.Versions.{weight_of_delete}
+use Rattle.call_parts.specs.declared.versions.Delete.{Delete}
+use Rattle.call_parts.specs.Versions.{weight_of_delete}
 use Rattle.cm_show.specs.Addressed.{addressed}
 use Rattle.cmis_spec.specs.Repository.{Repository, same, root, is_a, series_of}
 use Rattle.cmis_spec.specs.Access.{lacks}

@@ -13,6 +13,9 @@ ghost use Rattle.wr_object.specs.Parts.{wanted_in, judge_found, refusal_in_parts
 use crate::folder_rules::{judge_kinds, judge_name, judge_place, judge_values};
 use crate::making::made_in;
 use crate::wanted::{Wanted, wanted_by};
+use call_parts::replies::ObjectReply;
+use call_parts::weight::weight_of_create_folder;
+use call_parts::writes::CreateFolder;
 use cm_base::cause::Cause;
 use cm_base::copies::Copies;
 use cm_base::fail::Fail;
@@ -21,9 +24,6 @@ use cm_base::number::{Moment, Oid};
 use cm_base::object::Object;
 use cm_base::text::Text;
 use cm_base::value::{Slot, Values};
-use cm_call::reply::Reply;
-use cm_call::weight::weight_of_create_folder;
-use cm_call::write::CreateFolder;
 use cm_rules::kept::is_set;
 use cm_show::address::addressed;
 use cm_state::state::State;
@@ -218,7 +218,7 @@ pub fn create_folder(
     user: &Text,
     moment: Moment,
     call: &CreateFolder,
-) -> Result<(State, Reply), Fail>
+) -> Result<(State, ObjectReply), Fail>
     ensures written { Writes result
         (refusal_create_folder state.now user.now moment (cost_create_folder state.now call.now) call.now)
         (after_create_folder state.now user.now moment (cost_create_folder state.now call.now) call.now)

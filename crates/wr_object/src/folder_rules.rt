@@ -10,6 +10,7 @@ ghost use Rattle.wr_rules.specs.Rules.{has_other_policy, has_other_secondary, ha
 ghost use Rattle.wr_object.specs.CreateFolder.{is_uncontrollable};
 ghost use Rattle.wr_object.specs.Parts.{judge_kinds, judge_place, judge_name};
 
+use call_parts::writes::CreateFolder;
 use cm_base::access::Level;
 use cm_base::cause::Cause;
 use cm_base::fail::Fail;
@@ -19,7 +20,6 @@ use cm_base::number::Oid;
 use cm_base::object::Object;
 use cm_base::text::Text;
 use cm_base::value::Values;
-use cm_call::write::CreateFolder;
 use cm_rules::check::check_new;
 use cm_see::level::lacks;
 use cm_see::tree::depth_of;

@@ -1,11 +1,10 @@
 -- The values of an object that a call changes have no fault: each is given, or was there before, or is the comment of a check-in.
-use Rattle.std.specs.Prelude.{◌≡◌, ℕ, Bool, true, false, not, ◌||◌, List, [], ◌∷◌, find, filter, All, Contains, Option, Some, None, IfSome, Ok, is_some, unwrap_or, option_map, bytes_eq, codes}
+use Rattle.std.specs.Prelude.{◌≡◌, ℕ, Bool, true, false, not, ◌||◌, List, ◌∷◌, find, All, Contains, Option, Some, None, IfSome, Ok, is_some, unwrap_or, option_map, bytes_eq, codes}
 use Rattle.std.proofs.Common.{refl, sym, ap, subst, ◌∙◌}
 use Rattle.std.proofs.lemmas.Bool.{both_ways}
 use Rattle.std.proofs.lemmas.List.Elements.{All-cons, All-filter, All-contains_itself}
 use Rattle.cm_base.specs.declared.object.Object.{Object}
 use Rattle.cm_base.specs.declared.value.Slot.{Slot}
-use Rattle.cm_base.specs.declared.value.Value.{Value}
 use Rattle.cm_base.specs.declared.value.Value.TheVariants.{Unset}
 use Rattle.cm_base.specs.declared.cause.PropertyFault.{PropertyFault}
 use Rattle.cm_base.specs.Judged.{first_cause}
@@ -20,9 +19,11 @@ use Rattle.cm_types.specs.Properties.{value_in, value_fault, is_faulty, has_othe
 use Rattle.cmis_spec.specs.Repository.{Repository, name_of}
 use Rattle.cmis_spec.specs.Values.{words, texts, is_apart, kept_beside, form_value}
 use Rattle.cmis_spec.specs.Documents.{is_comment, without_comment, with_comment}
-use Rattle.cmis_spec.specs.Well.{IsDef, Agrees, HasDefs, IsKept, IsOwn, OwnsValues}
+use Rattle.cmis_spec.specs.Well.{Apart, IsTyped, IsDef, Agrees, HasTypes, HasDefs, IsKept, IsOwn, OwnsValues}
 use Rattle.cmis_laws.proofs.Lists.{by_test, bytes_turned, find_yes, find_no, found_holds, found_passes, all_zip}
-use Rattle.cmis_laws.proofs.Kept.{props_all, bytes_true, bytes_same, find_first, beside_value, kept_right, missing_not, faultless, form_is, apart_value, owns_kept}
+use Rattle.cmis_laws.proofs.Kept.{props_all, bytes_true, bytes_same, find_first, beside_value, kept_right, missing_not, faultless, form_is, apart_value, owns_kept, every}
+use Rattle.cmis_laws.proofs.Left.{not_true, all_kept, apart_filter}
+use Rattle.cmis_laws.proofs.Once.{props_differ, values_differ}
 use Rattle.cmis_laws.proofs.Copies.{other_value, comment_unset}
 use Rattle.cmis_laws.proofs.Passed.{first_none, then_ok, or_left, or_right}
 use Rattle.wr_rules.specs.Documents.{form_slots}
@@ -65,7 +66,7 @@ before_right r y d kept owned agree other = by (find (λ s. bytes_eq s.id d.id) 
     by (Some s) e =
         let at : s.id ≡ d.id = bytes_true s.id d.id (found_passes (λ s. bytes_eq s.id d.id) y.values s e) in
         of_def (find (λ e. bytes_eq e.id d.id) (props_of r.types y.kind y.secondary)) refl
-        (subst (λ i. is_some (def_of (props_of r.types y.kind y.secondary) i) ≡ true) at (found_holds (IsOwn r.types y) (λ s. bytes_eq s.id d.id) y.values s owned e))
+        (subst (λ i. is_some (def_of (props_of r.types y.kind y.secondary) i) ≡ true) at (found_holds (IsOwn r.types y) (λ s. bytes_eq s.id d.id) y.values s owned.0 e))
 
 -- what is not kept apart stands behind the three that are
 slots_value : (r : Repository) (y : Object) (id : List ℕ) → is_apart id ≡ false → value_in (form_slots r y) id ≡ value_in y.values id
@@ -126,16 +127,30 @@ kept_changed r r' call given comment y x types kept owned before h values =
     (all_zip (IsDef r.types) (Contains defs) (λ d. IsDef r.types d × Contains defs d) defs (λ d a b. (a, b)) is_def (All-contains_itself defs))
     (first_none (missing_cause call old given) defs parts.1)
 
--- and are of its own properties
-pub owns_changed : (types : List TypeDef) (call : PropertyCall) (old : List Slot) (given : List Given) (comment : Option (List ℕ)) (x : Object)
+-- and are of its own properties, each once
+pub owns_changed : (types : List TypeDef) (call : PropertyCall) (old : List Slot) (given : List Given) (comment : Option (List ℕ)) (x : Object) → HasTypes types → IsTyped types x
     → IfSome comment (λ t. is_some (def_of (props_of types x.kind x.secondary) (codes "cmis:checkinComment")) ≡ true)
     → x.values ≡ with_comment (kept_beside (kept_values call (props_of types x.kind x.secondary) old given)) comment → OwnsValues types x
-owns_changed types call old given comment x has values = subst (All (IsOwn types x)) (sym values) (by comment has)
+owns_changed types call old given comment x w typed has values = subst (λ vs. All (IsOwn types x) vs × Apart (λ s t. bytes_eq s.id t.id ≡ false) vs) (sym values) (by comment has)
   where
+    differ : Apart (λ s t. bytes_eq s.id t.id ≡ false) (without_comment (kept_beside (kept_values call (props_of types x.kind x.secondary) old given)))
+    differ = apart_filter (λ s t. bytes_eq s.id t.id ≡ false) (λ s. not (is_comment s)) (kept_beside (kept_values call (props_of types x.kind x.secondary) old given))
+        (values_differ call (props_of types x.kind x.secondary) old given (props_differ types w x.kind x.secondary typed.1))
+
     others : All (IsOwn types x) (without_comment (kept_beside (kept_values call (props_of types x.kind x.secondary) old given)))
     others = All-filter (λ s. not (is_comment s)) (IsOwn types x) (kept_beside (kept_values call (props_of types x.kind x.secondary) old given)) (owns_kept types call old given x)
 
+    -- no other value is the comment
+    apart : All (λ s. bytes_eq (codes "cmis:checkinComment") s.id ≡ false) (without_comment (kept_beside (kept_values call (props_of types x.kind x.secondary) old given)))
+    apart = all_kept (λ s. not (is_comment s)) (λ s. bytes_eq (codes "cmis:checkinComment") s.id ≡ false) (kept_beside (kept_values call (props_of types x.kind x.secondary) old given))
+        (every (λ s. not (is_comment s) ≡ true → bytes_eq (codes "cmis:checkinComment") s.id ≡ false) (kept_beside (kept_values call (props_of types x.kind x.secondary) old given))
+        (λ s h. bytes_turned s.id (codes "cmis:checkinComment") (not_true (is_comment s) h)))
+
     by : (c : Option (List ℕ)) → IfSome c (λ t. is_some (def_of (props_of types x.kind x.secondary) (codes "cmis:checkinComment")) ≡ true)
         → All (IsOwn types x) (with_comment (kept_beside (kept_values call (props_of types x.kind x.secondary) old given)) c)
-    by None h = others
-    by (Some t) h = All-cons (IsOwn types x) (record { id = codes "cmis:checkinComment"; value = words t }) (without_comment (kept_beside (kept_values call (props_of types x.kind x.secondary) old given))) h others
+        × Apart (λ s t. bytes_eq s.id t.id ≡ false) (with_comment (kept_beside (kept_values call (props_of types x.kind x.secondary) old given)) c)
+    by None h = (others, differ)
+    by (Some t) h = (
+      All-cons (IsOwn types x) (record { id = codes "cmis:checkinComment"; value = words t }) (without_comment (kept_beside (kept_values call (props_of types x.kind x.secondary) old given))) h others,
+      (apart, differ),
+    )

@@ -3,8 +3,8 @@ use Rattle.std.specs.Prelude.{◌≡◌, ℕ, Bool, true, ◌&&◌, if◌then◌
 use Rattle.std.proofs.Common.{sym, ap, subst, ◌∙◌}
 use Rattle.cm_base.specs.declared.number.Oid.{Oid}
 use Rattle.cm_base.specs.declared.object.Object.{Object}
-use Rattle.cm_call.specs.declared.place.Place.{Place}
-use Rattle.cm_call.specs.declared.place.Place.TheVariants.{Id, Path}
+use Rattle.call_parts.specs.declared.place.Place.{Place}
+use Rattle.call_parts.specs.declared.place.Place.TheVariants.{Id, Path}
 use Rattle.cm_show.specs.Addressed.{addressed}
 use Rattle.cmis_spec.specs.Repository.{Repository, same, root, object_at, entry_of, entry_name}
 use Rattle.cmis_spec.specs.Access.{reads, read_at, object_named, oid_named, walk, child_named, is_child}

@@ -12,8 +12,8 @@ use Rattle.cm_types.specs.declared.definition.ContentAllowed.{ContentAllowed}
 use Rattle.cm_types.specs.declared.definition.ContentAllowed.TheVariants as contents
 use Rattle.cm_types.specs.declared.given.Given.{Given}
 use Rattle.cm_types.specs.Properties.{given_of}
-use Rattle.cm_call.specs.declared.versions.GivenStream.{GivenStream}
-use Rattle.cmis_spec.specs.Repository.{Repository, same, longest_stream, series_of, type_of, name_of, is_latest, is_taken}
+use Rattle.call_parts.specs.declared.stream.GivenStream.{GivenStream}
+use Rattle.cmis_spec.specs.Repository.{Repository, same, longest_stream, series_of, type_of, name_of, is_taken}
 use Rattle.cmis_spec.specs.Values.{words, texts}
 use Rattle.cmis_spec.specs.Documents.{without_comment}
 use Rattle.wr_rules.specs.Rules.{name_in, secondary_in, value_cost}
@@ -26,9 +26,6 @@ is_versionable r x = unwrap_or (option_map (λ t. t.versionable) (type_of r x)) 
 -- the series of x has a working copy
 abbrev pub is_checked_out : Repository → Object → Bool
 is_checked_out r x = unwrap_or (option_map (λ s. is_some s.working) (series_of r x)) false
-
-abbrev pub is_latest_version : Repository → Object → Bool
-is_latest_version r x = unwrap_or (option_map (λ s. is_latest s x.id) (series_of r x)) false
 
 -- ---- values
 
@@ -53,9 +50,6 @@ abbrev pub copied_cost : Repository → Object → ℕ
 copied_cost r x = value_cost (words (name_of r x)) + value_cost (texts x.secondary) + sum (map (λ s. value_cost s.value) (without_comment x.values))
 
 -- ---- content (sections 2.1.4.1 and 2.1.10)
-
-abbrev pub content_at : Repository → Oid → Option Content
-content_at r n = find (λ c. same c.of n) r.contents
 
 abbrev pub bars_content : TypeDef → Bool
 bars_content t = by t.content_allowed

@@ -18,7 +18,7 @@ use Rattle.cm_types.specs.declared.property.PropDef.{PropDef}
 use Rattle.cm_types.specs.declared.given.Given.{Given}
 use Rattle.cm_types.specs.Types.{type_in, is_below, is_below_any}
 use Rattle.cm_types.specs.Properties.{value_in, scalars_of, texts_of, given_of, given_texts}
-use Rattle.cm_call.specs.declared.write.AceRequest.{AceRequest}
+use Rattle.call_parts.specs.declared.writes.AceRequest.{AceRequest}
 use Rattle.cm_acl.specs.Acl.{level_named, changed_aces}
 use Rattle.cmis_spec.specs.Repository.{Repository, most_steps, most_cost, is_a}
 use Rattle.cmis_spec.specs.Access.{read_named}

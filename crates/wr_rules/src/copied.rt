@@ -3,7 +3,7 @@ ghost use Rattle.std.specs.Prelude.{◌≡◌, ◌+◌, [], ◌∷◌, map, sum}
 ghost use Rattle.cmis_spec.specs.Repository.{name_of};
 ghost use Rattle.cmis_spec.specs.Values.{words, texts};
 ghost use Rattle.cmis_spec.specs.Documents.{is_comment, without_comment};
-ghost use Rattle.cm_call.specs.Weight.{bounded};
+ghost use Rattle.call_parts.specs.Weight.{bounded};
 ghost use Rattle.wr_rules.specs.Rules.{value_cost};
 ghost use Rattle.wr_rules.specs.Documents.{copied_cost};
 

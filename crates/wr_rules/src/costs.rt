@@ -1,7 +1,7 @@
 //! What the default values cost that a new object takes.
 ghost use Rattle.std.specs.Prelude.{◌≡◌, ◌+◌, [], ◌∷◌, map, sum, is_none};
 ghost use Rattle.cm_types.specs.Properties.{given_of};
-ghost use Rattle.cm_call.specs.Weight.{bounded};
+ghost use Rattle.call_parts.specs.Weight.{bounded};
 ghost use Rattle.wr_rules.specs.Rules.{scalar_cost, value_cost, defaults_cost};
 
 use cm_base::value::{Scalar, Value};

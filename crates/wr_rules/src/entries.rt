@@ -7,13 +7,13 @@ ghost use Rattle.cm_acl.specs.Acl.{level_named};
 ghost use Rattle.cmis_spec.specs.Well.{Apart, ComesBefore};
 ghost use Rattle.wr_rules.specs.Rules.{has_unknown_permission, has_entries, aces_of, aces_in, new_aces};
 
+use call_parts::writes::AceRequest;
 use cm_acl::change::apply;
 use cm_acl::level::read_level;
 use cm_base::access::{Ace, Aces, Level};
 use cm_base::copies::Copies;
 use cm_base::items::Items;
 use cm_base::text::Text;
-use cm_call::write::AceRequest;
 use std::alloc::{AllocError, Global};
 
 fn is_unknown(permission: &Text) -> bool

@@ -1,13 +1,11 @@
 -- checkIn keeps what is well formed.
-use Rattle.std.specs.Prelude.{◌≡◌, ℕ, ◌+◌, ◌≤◌, Bool, true, false, not, ◌&&◌, if◌then◌else◌, List, [], ◌∷◌, length, All, Option, Some, None, IfSome, Ok, is_some, is_none, unwrap_or, option_map, option_and_then, codes}
-use Rattle.std.specs.List.{list_any}
+use Rattle.std.specs.Prelude.{◌≡◌, ℕ, ◌+◌, ◌≤◌, Bool, true, false, not, ◌&&◌, if◌then◌else◌, List, [], ◌∷◌, length, All, Option, Some, None, IfSome, Ok, is_some, unwrap_or, option_map, option_and_then, codes}
 use Rattle.std.proofs.Common.{refl, sym, ap, subst, ◌∙◌, arith}
 use Rattle.std.proofs.lemmas.Bool.{both_ways, ltb-false}
 use Rattle.std.proofs.lemmas.List.Elements.{All-nil, All-cons, All-weaker}
 use Rattle.cm_base.specs.declared.number.Oid.{Oid}
 use Rattle.cm_base.specs.declared.number.Moment.{Moment}
 use Rattle.cm_base.specs.declared.object.Object.{Object}
-use Rattle.cm_base.specs.declared.filing.Filed.{Filed}
 use Rattle.cm_base.specs.declared.content.Content.{Content}
 use Rattle.cm_base.specs.declared.series.Series.{Series}
 use Rattle.cm_base.specs.declared.series.Label.{Label}
@@ -18,15 +16,14 @@ use Rattle.cm_base.specs.declared.log.ChangeKind.TheVariants as changes
 use Rattle.cm_base.specs.declared.cause.Cause.TheVariants as causes
 use Rattle.cm_base.specs.Judged.{first_cause}
 use Rattle.cm_base.specs.Names.{is_name}
-use Rattle.cm_types.specs.declared.definition.TypeDef.{TypeDef}
 use Rattle.cm_types.specs.declared.definition.BaseType.TheVariants as bases
 use Rattle.cm_types.specs.declared.given.PropertyCall.TheVariants as calls
-use Rattle.cm_types.specs.Types.{type_in, props_of}
+use Rattle.cm_types.specs.Types.{is_below, props_of}
 use Rattle.cm_types.specs.Properties.{def_of, given_of, judge_properties}
-use Rattle.cm_call.specs.declared.versions.CheckIn.{CheckIn}
-use Rattle.cm_call.specs.declared.versions.GivenStream.{GivenStream}
+use Rattle.call_parts.specs.declared.versions.CheckIn.{CheckIn}
+use Rattle.call_parts.specs.declared.stream.GivenStream.{GivenStream}
 use Rattle.cm_show.specs.Addressed.{addressed}
-use Rattle.cmis_spec.specs.Repository.{Repository, same, longest_stream, object_at, series_at, series_of, is_a, type_of, entry_of, last_of, is_taken}
+use Rattle.cmis_spec.specs.Repository.{Repository, same, longest_stream, object_at, is_a, type_of, entry_of, last_of, is_taken}
 use Rattle.cmis_spec.specs.Access.{lacks}
 use Rattle.cmis_spec.specs.Changes.{stepped, noted}
 use Rattle.cmis_spec.specs.Documents.{is_working_copy, is_copy_of, last_label, next_label, with_version, with_contents}
@@ -36,15 +33,16 @@ use Rattle.cmis_laws.proofs.Kept.{find_mapped}
 use Rattle.cmis_laws.proofs.Begun.{HasLabelsOf}
 use Rattle.cmis_laws.proofs.CheckedIn.{IsCheckIn, check_in_keeps}
 use Rattle.cmis_laws.proofs.Listed.{content_keeps}
-use Rattle.cmis_laws.proofs.Passed.{refused_not, then_ok, refuse_ok, find_ok, first_none, some_none, not_false}
+use Rattle.cmis_laws.proofs.Passed.{refused_not, then_ok, refuse_ok, find_ok, not_false}
 use Rattle.cmis_laws.proofs.Steps.{HasRoom, step_keeps, note_keeps}
 use Rattle.wr_rules.specs.Rules.{judge_storage, secondary_in, unknown_type, has_other_secondary}
-use Rattle.wr_rules.specs.Documents.{form_slots, name_after, secondary_after, content_at, judge_content, is_too_long, content_of_stream, is_taken_anywhere}
+use Rattle.wr_rules.specs.Documents.{form_slots, name_after, judge_content, is_too_long, content_of_stream, is_taken_anywhere}
+use Rattle.cm_state.specs.Looks.{content_at}
 use Rattle.wr_rules.proofs.Found.{addressed_there}
-use Rattle.wr_rules.proofs.Known.{known_types}
+use Rattle.wr_rules.proofs.Known.{below_secondary}
 use Rattle.wr_rules.proofs.Room.{room_of}
 use Rattle.wr_rules.proofs.Changed.{kept_changed, owns_changed}
-use Rattle.wr_version.specs.CheckIn.{props_after, judge_new_name, refusal_check_in, new_version, new_label, given_content, after_check_in_of, after_check_in}
+use Rattle.wr_version.specs.CheckIn.{props_after, refusal_check_in, new_version, new_label, given_content, after_check_in_of, after_check_in}
 use Rattle.wr_version.proofs.CheckOut.{IsIn, series_is}
 use Rattle.wr_version.proofs.Commented.{slice_holds, has_comment}
 
@@ -54,9 +52,9 @@ pub record Passes (r : Repository) (u : List ℕ) (cost : ℕ) (call : CheckIn) 
   pub room : HasRoom r cost
   pub x : Object
   pub at : addressed r u call.place ≡ Some x
-  pub known : All (λ id. unknown_type r.types id ≡ None) (secondary_in call.properties)
   pub document : is_a r bases.Document x ≡ true
   pub working : is_working_copy r x ≡ true
+  pub secondary : has_other_secondary r.types (secondary_in call.properties) ≡ false
   pub properties : judge_properties calls.CheckIn (props_after r call x) (form_slots r x) call.properties ≡ Ok tt
   pub long : unwrap_or (option_map is_too_long call.stream) false ≡ false
   pub free : is_taken_anywhere r (entry_of x) (name_after r x call.properties) ≡ false
@@ -80,9 +78,9 @@ passes r u cost call h =
       room = room_of r cost s.0;
       x = a.0;
       at = a.1;
-      known = first_none (unknown_type r.types) (secondary_in call.properties) t.0;
       document = not_false (is_a r bases.Document a.0) d.0;
       working = not_false (is_working_copy r a.0) e.0;
+      secondary = f.0;
       properties = g.0;
       long = refused_not causes.StreamLong (unwrap_or (option_map is_too_long call.stream) false) k.1;
       free = refused_not causes.NameTaken (is_taken_anywhere r (entry_of a.0) (name_after r a.0 call.properties)) l.1;
@@ -154,7 +152,7 @@ module _ (r : Repository) (u : List ℕ) (m : Moment) (cost : ℕ) (call : Check
   typed : IsTyped r.types x
   typed =
       let was : IsTyped r.types y = found_holds (IsTyped r.types) (λ z. same z.id y.id) r.objects y w.typed there in
-      (was.0, either (All (λ t. is_some (type_in r.types t) ≡ true)) (is_some (given_of call.properties (codes "cmis:secondaryObjectTypeIds"))) (secondary_in call.properties) y.secondary (known_types r.types (secondary_in call.properties) p.known) was.1)
+      (was.0, either (All (λ t. is_below r.types t (codes "cmis:secondary") ≡ true)) (is_some (given_of call.properties (codes "cmis:secondaryObjectTypeIds"))) (secondary_in call.properties) y.secondary (below_secondary r.types (secondary_in call.properties) p.secondary) was.1)
 
   labelled : IsLabel (r.step + 1) (new_label r call y)
   labelled = subst (λ o. IsLabel (r.step + 1) (next_label call.major (unwrap_or (option_map last_label o) (record { major = 0; minor = 0 })))) (sym here.found)
@@ -176,7 +174,7 @@ module _ (r : Repository) (u : List ℕ) (m : Moment) (cost : ℕ) (call : Check
     kept = kept_changed r (stepped r cost) calls.CheckIn call.properties call.comment y x w.defs
         (found_holds (λ z. IsKept r (props_of r.types z.kind z.secondary) z) (λ z. same z.id y.id) r.objects y w.kept there)
         (found_holds (OwnsValues r.types) (λ z. same z.id y.id) r.objects y w.own_values there) (λ d. refl) p.properties refl;
-    owned = owns_changed r.types calls.CheckIn (form_slots r y) call.properties call.comment x
+    owned = owns_changed r.types calls.CheckIn (form_slots r y) call.properties call.comment x w.types typed
         (for_any (is_some (def_of (props_of r.types x.kind x.secondary) (codes "cmis:checkinComment")) ≡ true) call.comment (has_comment r.types w.types x.kind x.secondary p.document)) refl;
     token = omega arith;
     labelled = labelled;

@@ -15,7 +15,7 @@ use Rattle.cm_base.specs.declared.log.ChangeKind.TheVariants as changes
 use Rattle.cm_base.specs.declared.cause.Cause.TheVariants as causes
 use Rattle.cm_types.specs.declared.definition.BaseType.TheVariants as bases
 use Rattle.cm_types.specs.Types.{props_of}
-use Rattle.cm_call.specs.declared.versions.CheckOut.{CheckOut}
+use Rattle.call_parts.specs.declared.versions.CheckOut.{CheckOut}
 use Rattle.cm_show.specs.Addressed.{addressed}
 use Rattle.cmis_spec.specs.Repository.{Repository, same, most_steps, most_cost, object_at, series_at, series_of, is_a, entry_of, last_of, is_latest, new_number, longest_stream}
 use Rattle.cmis_spec.specs.Access.{lacks}
@@ -32,7 +32,9 @@ use Rattle.cmis_laws.proofs.Listed.{content_keeps}
 use Rattle.cmis_laws.proofs.Passed.{refused_not, then_ok, refuse_ok, find_ok, not_false}
 use Rattle.cmis_laws.proofs.Steps.{HasRoom, step_keeps, note_keeps}
 use Rattle.wr_rules.specs.Rules.{judge_storage}
-use Rattle.wr_rules.specs.Documents.{is_versionable, is_checked_out, is_latest_version, content_at, content_copied}
+use Rattle.wr_rules.specs.Documents.{is_versionable, is_checked_out, content_copied}
+use Rattle.cm_show.specs.Shown.{is_latest_version}
+use Rattle.cm_state.specs.Looks.{content_at}
 use Rattle.wr_rules.proofs.Found.{addressed_there}
 use Rattle.wr_rules.proofs.Room.{room_of}
 use Rattle.wr_version.specs.CheckOut.{judge_latest, refusal_check_out, new_copy, after_check_out_of, after_check_out}

@@ -15,11 +15,10 @@ use Rattle.cm_types.specs.declared.property.PropDef.{PropDef}
 use Rattle.cm_types.specs.declared.given.PropertyCall.TheVariants as calls
 use Rattle.cm_types.specs.Types.{props_of}
 use Rattle.cm_types.specs.Properties.{judge_properties, kept_values}
-use Rattle.cm_call.specs.declared.question.PropertyFilter.TheVariants as filters
-use Rattle.cm_call.specs.declared.versions.CheckIn.{CheckIn}
-use Rattle.cm_call.specs.declared.reply.Reply.{Reply}
-use Rattle.cm_call.specs.declared.reply.Reply.TheVariants as replies
-use Rattle.cm_call.specs.Versions.{weight_of_check_in}
+use Rattle.call_parts.specs.declared.readings.PropertyFilter.TheVariants as filters
+use Rattle.call_parts.specs.declared.versions.CheckIn.{CheckIn}
+use Rattle.call_parts.specs.declared.replies.ObjectReply.{ObjectReply}
+use Rattle.call_parts.specs.Versions.{weight_of_check_in}
 use Rattle.cm_show.specs.Addressed.{addressed}
 use Rattle.cm_show.specs.Shown.{shown_object}
 use Rattle.cmis_spec.specs.Repository.{Repository, is_a, type_of, series_of, entry_of}
@@ -28,7 +27,8 @@ use Rattle.cmis_spec.specs.Values.{kept_beside}
 use Rattle.cmis_spec.specs.Changes.{stepped, noted}
 use Rattle.cmis_spec.specs.Documents.{is_working_copy, last_label, next_label, with_comment, with_version, with_contents}
 use Rattle.wr_rules.specs.Rules.{judge_storage, secondary_in, unknown_type, has_other_secondary}
-use Rattle.wr_rules.specs.Documents.{form_slots, name_after, secondary_after, content_at, judge_content, content_of_stream, is_taken_anywhere}
+use Rattle.wr_rules.specs.Documents.{form_slots, name_after, secondary_after, judge_content, content_of_stream, is_taken_anywhere}
+use Rattle.cm_state.specs.Looks.{content_at}
 
 abbrev pub cost_check_in : CheckIn → ℕ
 cost_check_in call = weight_of_check_in call
@@ -91,5 +91,5 @@ after_check_in r u m cost call = unwrap_or (option_map (after_check_in_of r u m 
 -- ---- the reply
 
 -- the new version as the caller sees it after the step
-abbrev pub acknowledgement_check_in_of : Repository → List ℕ → CheckIn → Object → Reply
-acknowledgement_check_in_of after u call x = replies.Object (record { object = shown_object after u filters.All call.succinct x; created = true })
+abbrev pub acknowledgement_check_in_of : Repository → List ℕ → CheckIn → Object → ObjectReply
+acknowledgement_check_in_of after u call x = record { object = shown_object after u filters.All call.succinct x; created = true }

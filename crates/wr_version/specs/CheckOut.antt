@@ -8,20 +8,20 @@ use Rattle.cm_base.specs.declared.log.ChangeKind.TheVariants as changes
 use Rattle.cm_base.specs.declared.cause.Cause.TheVariants as causes
 use Rattle.cm_base.specs.Judged.{Judged, ◌>>=◌, ◌>>◌, refuse, find_or}
 use Rattle.cm_types.specs.declared.definition.BaseType.TheVariants as bases
-use Rattle.cm_call.specs.declared.question.PropertyFilter.TheVariants as filters
-use Rattle.cm_call.specs.declared.versions.CheckOut.{CheckOut}
-use Rattle.cm_call.specs.declared.reply.Reply.{Reply}
-use Rattle.cm_call.specs.declared.reply.Reply.TheVariants as replies
-use Rattle.cm_call.specs.Weight.{bounded}
-use Rattle.cm_call.specs.Versions.{weight_of_check_out}
+use Rattle.call_parts.specs.declared.readings.PropertyFilter.TheVariants as filters
+use Rattle.call_parts.specs.declared.versions.CheckOut.{CheckOut}
+use Rattle.call_parts.specs.declared.replies.ObjectReply.{ObjectReply}
+use Rattle.call_parts.specs.Weight.{bounded}
+use Rattle.call_parts.specs.Versions.{weight_of_check_out}
 use Rattle.cm_show.specs.Addressed.{addressed}
-use Rattle.cm_show.specs.Shown.{shown_object}
+use Rattle.cm_show.specs.Shown.{is_latest_version, shown_object}
 use Rattle.cmis_spec.specs.Repository.{Repository, root_folder, new_number, is_a, entry_of, name_of}
 use Rattle.cmis_spec.specs.Access.{lacks}
 use Rattle.cmis_spec.specs.Changes.{stepped, noted}
 use Rattle.cmis_spec.specs.Documents.{without_comment, with_copy, with_contents}
 use Rattle.wr_rules.specs.Rules.{judge_storage}
-use Rattle.wr_rules.specs.Documents.{is_versionable, is_checked_out, is_latest_version, copied_cost, content_at, content_copied}
+use Rattle.wr_rules.specs.Documents.{is_versionable, is_checked_out, copied_cost, content_copied}
+use Rattle.cm_state.specs.Looks.{content_at}
 
 -- the weight of the call, and the scalars of a document that is copied
 abbrev pub copies_cost : Repository → Object → ℕ
@@ -82,8 +82,8 @@ abbrev pub copy_made : Repository → List ℕ → Moment → CheckOut → Objec
 copy_made r u m call = new_copy r u m (unwrap_or (addressed r u call.place) (root_folder u m r.step))
 
 -- the working copy as the caller sees it after the step
-abbrev pub acknowledgement_check_out : Repository → List ℕ → Moment → ℕ → CheckOut → Reply
-acknowledgement_check_out r u m cost call = replies.Object (record {
+abbrev pub acknowledgement_check_out : Repository → List ℕ → Moment → ℕ → CheckOut → ObjectReply
+acknowledgement_check_out r u m cost call = record {
   object = shown_object (after_check_out r u m cost call) u filters.All call.succinct (copy_made r u m call);
   created = true;
-})
+}

@@ -5,13 +5,17 @@ ghost use Rattle.cm_base.specs.declared.value.Slot.{Slot};
 ghost use Rattle.cmis_spec.specs.Repository.{series_of};
 ghost use Rattle.cmis_spec.specs.Documents.{is_comment, without_comment};
 ghost use Rattle.cmis_spec.specs.Well.{IsWellFormed};
-ghost use Rattle.cm_call.specs.Weight.{bounded};
+ghost use Rattle.call_parts.specs.Weight.{bounded};
 ghost use Rattle.cm_show.specs.Addressed.{addressed};
-ghost use Rattle.wr_rules.specs.Documents.{is_versionable, is_checked_out, is_latest_version};
+ghost use Rattle.wr_rules.specs.Documents.{is_versionable, is_checked_out};
+ghost use Rattle.cm_show.specs.Shown.{is_latest_version};
 ghost use Rattle.wr_version.specs.Found.{Finds};
 ghost use Rattle.wr_version.specs.CheckOut.{copies_cost, cost_check_out, judge_latest, refusal_check_out, new_copy, new_content, after_check_out, acknowledgement_check_out};
 
 use crate::copying::{checked_out, copied_in};
+use call_parts::replies::ObjectReply;
+use call_parts::versions::CheckOut;
+use call_parts::weight::weight_of_check_out;
 use cm_base::access::Level;
 use cm_base::cause::Cause;
 use cm_base::content::Content;
@@ -23,9 +27,6 @@ use cm_base::object::Object;
 use cm_base::series::Series;
 use cm_base::text::Text;
 use cm_base::value::{Slot, Values};
-use cm_call::reply::Reply;
-use cm_call::versions::CheckOut;
-use cm_call::weight::weight_of_check_out;
 use cm_see::level::lacks;
 use cm_show::address::addressed;
 use cm_state::look::is_latest;
@@ -237,7 +238,7 @@ pub fn check_out(
     user: &Text,
     moment: Moment,
     call: &CheckOut,
-) -> Result<(State, Reply), Fail>
+) -> Result<(State, ObjectReply), Fail>
     ensures written { Writes result
         (refusal_check_out state.now user.now (cost_check_out state.now user.now call.now) call.now)
         (after_check_out state.now user.now moment (cost_check_out state.now user.now call.now) call.now)

@@ -7,7 +7,6 @@ abbrev pub invariant-more : goal.invariant-more
 invariant-more g l =
     ((got : List ℕ) × (held l.window ≡ held l.fn.window ++ got) × Gave (g.S.Source.told l.fn.source) (g.S.Source.told l.source) got)
     × (g.S.Source.aside l.source ≡ g.S.Source.aside l.fn.source)
-    × (length l.spans ≡ 21846)
 
 abbrev pub decreases-more : goal.decreases-more
 decreases-more g l = 65536 - length (held l.window)

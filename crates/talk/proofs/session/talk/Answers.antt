@@ -21,7 +21,7 @@ steps-init g c = record {
     whole_head = c.whole_request_holds_its_head.ensures;
     fault_head = c.fault_holds_its_head.ensures;
   };
-  callers = refl;
+  aside = refl;
   place = refl;
   is_of = c.requires.is_of;
   few = omega arith;
@@ -41,7 +41,7 @@ steps-preserved g c =
     let on = counts _ _ _ _ _ _ _ _ _ _ c.steps.invariant.few c.in-None.ensures.steps in
     record {
       laws = c.steps.invariant.laws;
-      callers = c.step.ensures.callers ∙ c.steps.invariant.callers;
+      aside = c.step.ensures.aside ∙ c.steps.invariant.aside;
       place = c.step.ensures.place ∙ c.steps.invariant.place;
       is_of = c.step.ensures.is_of;
       few = on.0;

@@ -7,7 +7,7 @@ use Rattle.talk.proofs.session.talk.Given as goal
 abbrev pub invariant-steps : goal.invariant-steps
 invariant-steps g l = record {
   laws : GrammarLaws;
-  callers : g.D.Desk.callers l.desk ≡ g.D.Desk.callers l.fn.desk;
+  aside : g.D.Desk.aside l.desk ≡ g.D.Desk.aside l.fn.desk;
   place : g.D.Desk.place l.pass ≡ g.D.Desk.place l.fn.pass;
   is_of : g.D.Desk.is_of l.desk l.pass;
   few : l.count < 1000;

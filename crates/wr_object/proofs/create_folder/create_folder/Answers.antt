@@ -1,7 +1,7 @@
 use Rattle.std.proofs.Common.{◌≡◌, Ok, true, ap, subst, ◌∙◌}
 use Rattle.std.specs.Prelude.{is_some}
-use Rattle.cm_call.specs.declared.question.PropertyFilter.TheVariants as filters
-use Rattle.cm_call.specs.declared.reply.Reply.TheVariants as replies
+use Rattle.call_parts.specs.declared.readings.PropertyFilter.TheVariants as filters
+use Rattle.call_parts.specs.declared.replies.ObjectReply.{ObjectReply}
 use Rattle.cm_show.specs.Shown.{shown_object}
 use Rattle.wr_object.specs.CreateFolder.{refusal_create_folder, new_folder, after_create_folder}
 use Rattle.wr_object.proofs.Made.{room_of, made_is_found}
@@ -26,5 +26,5 @@ returns-clause-written c =
       subst (λ k. refusal_create_folder r u m k call ≡ Ok tt) c.cost_of-cost.ensures c.in_ok-parent.ensures.0,
       c.in_ok-next.ensures.same ∙ made,
       c.in_ok-next.ensures.shown (new_folder r u m call) there
-          ∙ ap (λ s. replies.Object (record { object = shown_object s u filters.All call.succinct (new_folder r u m call); created = true })) made,
+          ∙ ap {B = ObjectReply} (λ s. (record { object = shown_object s u filters.All call.succinct (new_folder r u m call); created = true })) made,
     )

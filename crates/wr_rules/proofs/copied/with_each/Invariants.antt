@@ -1,7 +1,7 @@
 use Rattle.std.proofs.Common.{◌≡◌, ◌+◌, map, take}
 use Rattle.std.specs.Prelude.{sum}
 use Rattle.cmis_spec.specs.Values.{words}
-use Rattle.cm_call.specs.Weight.{bounded}
+use Rattle.call_parts.specs.Weight.{bounded}
 use Rattle.wr_rules.specs.Rules.{value_cost}
 use Rattle.wr_rules.proofs.copied.with_each.Given as goal
 

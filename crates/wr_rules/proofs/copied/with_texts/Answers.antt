@@ -1,5 +1,5 @@
 use Rattle.std.proofs.Common.{◌+◌, ap, ◌∙◌}
-use Rattle.cm_call.specs.Weight.{bounded}
+use Rattle.call_parts.specs.Weight.{bounded}
 use Rattle.wr_rules.proofs.TextCosts.{texts_cost}
 use Rattle.wr_rules.proofs.copied.with_texts.Goals as goal
 

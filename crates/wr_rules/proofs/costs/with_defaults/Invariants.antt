@@ -1,5 +1,5 @@
 use Rattle.std.proofs.Common.{◌≡◌, ◌+◌, take}
-use Rattle.cm_call.specs.Weight.{bounded}
+use Rattle.call_parts.specs.Weight.{bounded}
 use Rattle.wr_rules.specs.Rules.{defaults_cost}
 use Rattle.wr_rules.proofs.costs.with_defaults.Given as goal
 

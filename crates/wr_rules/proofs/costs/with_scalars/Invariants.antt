@@ -1,6 +1,6 @@
 use Rattle.std.proofs.Common.{◌≡◌, ◌+◌, map, take}
 use Rattle.std.specs.Prelude.{sum}
-use Rattle.cm_call.specs.Weight.{bounded}
+use Rattle.call_parts.specs.Weight.{bounded}
 use Rattle.wr_rules.specs.Rules.{scalar_cost}
 use Rattle.wr_rules.proofs.costs.with_scalars.Given as goal
 

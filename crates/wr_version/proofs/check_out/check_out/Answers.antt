@@ -1,7 +1,7 @@
 use Rattle.std.proofs.Common.{◌≡◌, Ok, true, ap, subst, ◌∙◌}
 use Rattle.std.specs.Prelude.{is_some}
-use Rattle.cm_call.specs.declared.question.PropertyFilter.TheVariants as filters
-use Rattle.cm_call.specs.declared.reply.Reply.TheVariants as replies
+use Rattle.call_parts.specs.declared.readings.PropertyFilter.TheVariants as filters
+use Rattle.call_parts.specs.declared.replies.ObjectReply.{ObjectReply}
 use Rattle.cm_show.specs.Shown.{shown_object}
 use Rattle.wr_version.specs.CheckOut.{refusal_check_out, after_check_out, copy_made}
 use Rattle.wr_version.proofs.Copied.{copy_found}
@@ -23,5 +23,5 @@ returns-clause-written c =
       subst (λ k. refusal_check_out r u k call ≡ Ok tt) c.cost_of-cost.ensures c.in_ok-made.ensures.0,
       c.in_ok-next.ensures.same ∙ made,
       c.in_ok-next.ensures.shown (copy_made r u m call) there
-          ∙ ap (λ s. replies.Object (record { object = shown_object s u filters.All call.succinct (copy_made r u m call); created = true })) made,
+          ∙ ap {B = ObjectReply} (λ s. record { object = shown_object s u filters.All call.succinct (copy_made r u m call); created = true }) made,
     )

@@ -1,0 +1,80 @@
+//! What a write adds to the cost of the repository.
+ghost use Rattle.std.specs.Prelude.{◌≡◌, ◌+◌};
+ghost use Rattle.std.specs.List.{flat_map};
+ghost use Rattle.call_parts.specs.Weight.{weight_of_create_folder, weight_of_texts, bounded, text_weight, texts_of_place, texts_of_given, texts_of_ace, texts_of_create_folder};
+ghost use Rattle.call_parts.specs.Versions.{weight_of_check_out};
+
+use crate::place::Place;
+use crate::versions::CheckOut;
+use crate::writes::{AceRequests, CreateFolder};
+use cm_base::text::{Text, Texts};
+use cm_types::given::Givens;
+
+fn with_text(so_far: u64, text: &Text) -> u64
+    ensures { result ≡ bounded (so_far + text_weight text.now) }
+{
+    so_far.saturating_add(text.len() as u64).saturating_add(64)
+}
+
+fn with_texts(so_far: u64, texts: &Texts) -> u64
+    ensures { result ≡ bounded (so_far + weight_of_texts texts.now) }
+{
+    let mut total = so_far;
+    for text in texts.as_slice() {
+        total = with_text(total, text);
+    }
+    total
+}
+
+fn with_place(so_far: u64, place: &Place) -> u64
+    ensures { result ≡ bounded (so_far + weight_of_texts (texts_of_place place.now)) }
+{
+    match place {
+        Place::Id(id) => with_text(so_far, id),
+        Place::Path(names) => with_texts(so_far, names),
+    }
+}
+
+fn with_givens(so_far: u64, givens: &Givens) -> u64
+    ensures { result ≡ bounded (so_far + weight_of_texts (flat_map texts_of_given givens.now)) }
+{
+    let mut total = so_far;
+    for given in givens.as_slice() {
+        total = with_texts(with_text(total, &given.id), &given.texts);
+    }
+    total
+}
+
+fn with_aces(so_far: u64, aces: &AceRequests) -> u64
+    ensures { result ≡ bounded (so_far + weight_of_texts (flat_map texts_of_ace aces.now)) }
+{
+    let mut total = so_far;
+    for ace in aces.as_slice() {
+        total = with_texts(with_text(total, &ace.principal), &ace.permissions);
+    }
+    total
+}
+
+fn with_create_folder(so_far: u64, call: &CreateFolder) -> u64
+    ensures { result ≡ bounded (so_far + weight_of_texts (texts_of_create_folder call.now)) }
+{
+    let placed = with_place(so_far, &call.place);
+    let given = with_givens(placed, &call.properties);
+    let ruled = with_texts(given, &call.policies);
+    let less = with_aces(ruled, &call.remove);
+    with_aces(less, &call.add)
+}
+
+/// What a createFolder weighs: 64 for the call, and for each of its texts its bytes and 64. Takes no memory.
+pub fn weight_of_create_folder(call: &CreateFolder) -> u64
+    ensures { result ≡ weight_of_create_folder call.now }
+{
+    with_create_folder(64, call)
+}
+
+/// What a checkOut weighs.
+pub fn weight_of_check_out(call: &CheckOut) -> u64
+    ensures { result ≡ weight_of_check_out call.now }
+{
+    with_place(64, &call.place)
+}

@@ -1,0 +1,82 @@
+//! Sessions on threads of their own.
+ghost use Rattle.std.specs.Prelude.{◌≡◌, IfOk, IfErr, None};
+ghost use Rattle.desk_serve.specs.Sessions.{terms};
+ghost use Rattle.desk_serve.specs.Keeping.{IsFresh, IsOver};
+
+use crate::marks::Marks;
+use crate::session::{Seat, seated};
+use cm_base::user::Users;
+use desk_lock::{Lock, Pass};
+use desk_model::Machine;
+use outside::{Clock, Gate, Link};
+use std::alloc::Global;
+use std::snapshot::Snapshot;
+use std::sync::Wait;
+use std::thread::{Promise, PromisedHandle, Scope, Threads};
+use talk::Served;
+
+/// What a session's thread gives back is told by what it began with.
+#[derive(Drop)]
+pub(crate) struct Kept<M: Machine, L, C: Clock> {
+    pub(crate) lock: Snapshot<Lock<M, C>>,
+    pub(crate) users: Snapshot<Users>,
+    pub(crate) pass: Snapshot<Pass<M>>,
+    pub(crate) link: Snapshot<L>,
+}
+
+impl<M: Served, L: Link, C: Clock> Promise<Seat<M, L>> for Kept<M, L, C> {
+    ghost kept_by = { λ p r. IsOver (terms M.next M.answer M.number M.call M.user M.least M.closes L.Source.told L.Sink.told p.users.value None) p.lock.value p.pass.value p.link.value r.pass r.link r.outcome };
+}
+
+/// A session that runs.
+pub(crate) type Running<M, L, C> = PromisedHandle<Seat<M, L>, Kept<M, L, C>>;
+
+/// Starts a session on a thread of its own, which sets the mark of its row in the end; where no thread can be made, runs it.
+pub(crate) fn start<
+    's,
+    E,
+    M: Served + 's,
+    L: Link + Drop + Send + 's,
+    C: Clock + Drop + Send + 's,
+    G: Gate + Sync + 's,
+    R: Threads + Wait + Sync + 's,
+>(
+    scope: &Scope<'s, E>,
+    rt: &'s R,
+    alloc: Global,
+    lock: &'s Lock<M, C>,
+    users: &'s Users,
+    gate: &'s G,
+    marks: &'s Marks,
+    row: usize,
+    pass: Pass<M>,
+    link: L,
+) -> Result<Running<M, L, C>, Seat<M, L>>
+where
+    M: Send + Sync,
+    M::State: Send + Sync,
+    M::Call: Send + Sync,
+    M::Question: Send,
+    requires { IsFresh M.next lock.now pass }
+    ensures running { IfOk result (λ r. (r.promise.lock.value ≡ lock.now) × (r.promise.users.value ≡ users.now) × (r.promise.pass.value ≡ pass) × (r.promise.link.value ≡ link)) }
+    ensures done { IfErr result (λ r. IsOver (terms M.next M.answer M.number M.call M.user M.least M.closes L.Source.told L.Sink.told users.now None) lock.now pass link r.pass r.link r.outcome) }
+{
+    let promise: Kept<M, L, C> = Kept {
+        lock: Snapshot::of(lock),
+        users: Snapshot::of(users),
+        pass: Snapshot::of(&pass),
+        link: Snapshot::of(&link),
+    };
+    let run = move || -> Seat<M, L>
+        requires { IsFresh M.next lock.now pass }
+        ensures { IsOver (terms M.next M.answer M.number M.call M.user M.least M.closes L.Source.told L.Sink.told users.entry.now None) lock.entry.now pass link result.pass result.link result.outcome }
+    {
+        let seat = seated(rt, alloc, lock, users, gate, pass, link);
+        marks.set(rt, row);
+        seat
+    };
+    match scope.spawn_with::<Kept<M, L, C>, _, Seat<M, L>>(promise, run) {
+        Ok(child) => Ok(child),
+        Err(refused) => Err((refused.value)()),
+    }
+}
