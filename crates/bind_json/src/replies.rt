@@ -52,12 +52,7 @@ fn body_of(alloc: Global, reply: &Reply) -> Result<Bytes, AllocError>
 }
 
 /// What is sent of a text of JSON that is made at this step, with this status.
-pub fn shown_json(
-    alloc: Global,
-    status: u16,
-    body: Bytes,
-    number: u64,
-) -> Result<Shown, AllocError>
+pub fn shown_json(alloc: Global, status: u16, body: Bytes, number: u64) -> Result<Shown, AllocError>
     ensures { IfOk result (λ s. s ≡ shown_json status body number) }
 {
     Ok(Shown {

@@ -3,9 +3,9 @@ ghost use Rattle.std.specs.Prelude.{◌≡◌};
 ghost use Rattle.std.specs.Option.{option_copied};
 ghost use Rattle.cm_show.specs.Addressed.{addressed};
 
+use call_parts::place::Place;
 use cm_base::object::Object;
 use cm_base::text::Text;
-use call_parts::place::Place;
 use cm_see::path::at_path;
 use cm_see::read::read_named;
 use cm_state::state::State;

@@ -6,13 +6,13 @@ ghost use Rattle.cm_show.specs.Shown.{passes, shown_defs, shown_object, shown_pr
 ghost use Rattle.call_parts.specs.declared.replies.Properties.TheVariants as forms;
 
 use crate::property::property_value;
+use call_parts::readings::PropertyFilter;
+use call_parts::replies::{Properties, ShownObject, ShownProperties, ShownProperty};
 use cm_base::copies::Copies;
 use cm_base::items::Items;
 use cm_base::object::Object;
 use cm_base::text::Text;
 use cm_base::value::{Slot, Values};
-use call_parts::readings::PropertyFilter;
-use call_parts::replies::{Properties, ShownObject, ShownProperties, ShownProperty};
 use cm_state::state::State;
 use cm_types::definition::TypeDef;
 use cm_types::property::PropDef;

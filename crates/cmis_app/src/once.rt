@@ -74,7 +74,8 @@ fn serve<L: Link, C: Clock + Drop>(
     link: &mut L,
 ) -> u8
     ensures ran { Unbegun (L.Source.told link.old) (L.Sink.told link.old) (L.Source.told link.new) (L.Sink.told link.new) result
-        ⊎ ((left : Option Words) × Served opening users.now (C.words clock) (L.Source.told link.old) (L.Sink.told link.old) (L.Source.told link.new) (L.Sink.told link.new) result left) }
+        ⊎ ((left : Option Words)
+        × Served opening users.now (C.words clock) (L.Source.told link.old) (L.Sink.told link.old) (L.Source.told link.new) (L.Sink.told link.new) result left) }
     ensures stands_for { L.stands_for link.new ≡ L.stands_for link.old }
 {
     match run_alone::<Face, C, L, OpenGate>(alloc, opening, clock, users, link, &OpenGate) {
@@ -98,7 +99,8 @@ fn at_moment<L: Link>(alloc: Global, users: &Users, moment: Moment, from: u64, l
     requires moment { IsMoment moment }
     requires from { from ≤ 1048576 }
     ensures ran { Unbegun (L.Source.told link.old) (L.Sink.told link.old) (L.Source.told link.new) (L.Sink.told link.new) result
-        ⊎ ((word : ℕ) × (left : Option Words) × (moment ≡ moment_of word) × Served (opening base_types users.now moment from) users.now (Some (always word)) (L.Source.told link.old) (L.Sink.told link.old) (L.Source.told link.new) (L.Sink.told link.new) result left) }
+        ⊎ ((word : ℕ) × (left : Option Words) × (moment ≡ moment_of word)
+        × Served (opening base_types users.now moment from) users.now (Some (always word)) (L.Source.told link.old) (L.Sink.told link.old) (L.Source.told link.new) (L.Sink.told link.new) result left) }
     ensures stands_for { L.stands_for link.new ≡ L.stands_for link.old }
 {
     let word = word_of(moment);

@@ -76,7 +76,8 @@ fn run_serve<O: Sink, H: Host, C: Clock + Send, G: Gate + Sync, R: Threads + Wai
 ) -> Ran<H::Link>
 where
     H::Link: Send,
-    ensures served { MatchOption result.closing (Unserved (H.told host.old) (H.told host.new) result.status × (O.told output.new ≡ O.told output.old))
+    ensures served { MatchOption result.closing (Unserved (H.told host.old) (H.told host.new) result.status
+        × (O.told output.new ≡ O.told output.old))
         (λ c. ServedAll H.Link.Source.told H.Link.Sink.told asked.now.users (C.words clock.old) (H.left host.old) c.last c.ended
         × Hosted asked.now (H.told host.old) (H.left host.old) (H.told host.new) (H.left host.new) (length c.ended) c.end
         × Summed c.end (summary (length c.ended) (state_of shown_step c.last).step) (O.told output.old) (O.told output.new) result.status) }
@@ -123,7 +124,9 @@ pub fn run<I: Source, O: Sink, H: Host, C: Clock + Send, G: Gate + Sync, R: Thre
 ) -> Ran<H::Link>
 where
     H::Link: Send,
-    ensures once { serve_of (map string_bytes words.now) ≡ None → (result.closing ≡ None) × ((result.status ≡ 7) × (I.told input.new ≡ I.told input.old) × (O.told output.new ≡ O.told output.old) ⊎ RunsOnce (words_of (map string_bytes words.now)) (C.words clock.old) (C.words clock.new) (I.told input.old) (O.told output.old) (I.told input.new) (O.told output.new) result.status
+    ensures once { serve_of (map string_bytes words.now) ≡ None → (result.closing ≡ None)
+        × ((result.status ≡ 7) × (I.told input.new ≡ I.told input.old) × (O.told output.new ≡ O.told output.old)
+        ⊎ RunsOnce (words_of (map string_bytes words.now)) (C.words clock.old) (C.words clock.new) (I.told input.old) (O.told output.old) (I.told input.new) (O.told output.new) result.status
         × OnlyWhereFailed (I.told input.old) (O.told output.old) (I.told input.new) (O.told output.new) result.status) }
     ensures served { IfSome (serve_of (map string_bytes words.now)) (λ asked. MatchOption result.closing (Unserved (H.told host.old) (H.told host.new) result.status × (O.told output.new ≡ O.told output.old))
         (λ c. ServedAll H.Link.Source.told H.Link.Sink.told asked.users (C.words clock.old) (H.left host.old) c.last c.ended

@@ -5,8 +5,6 @@ mod event;
 mod hold;
 mod laws;
 mod run;
-#[cfg(test)]
-mod tests;
 mod turns;
 
 pub use event::{CoreStop, Done, Event};

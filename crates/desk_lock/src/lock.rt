@@ -126,7 +126,8 @@ impl<M: Machine, C: Clock + Drop> Lock<M, C> {
         requires is_of { IsOf M.next self.now keep.old × IsOf M.next self.now gone }
         requires other { gone.made ≡ 0 }
         ensures retired { Retired keep.old gone keep.new }
-        ensures tally { (result.number ≡ gone.known.caller) × (result.seen ≡ length gone.known.seen) × (result.own ≡ length gone.known.own) }
+        ensures tally { (result.number ≡ gone.known.caller) × (result.seen ≡ length gone.known.seen)
+            × (result.own ≡ length gone.known.own) }
         ensures is_of { IsOf M.next self.now keep.new }
     {
         let Pass {
@@ -217,7 +218,8 @@ impl<M: Machine, C: Clock + Drop> Lock<M, C> {
     /// Takes what stands on the shelf: a version whose journal begins with all that the pass had seen, and that it has then seen.
     pub fn look<R: Wait>(&self, rt: &R, pass: &mut Pass<M>) -> Result<Snapshot<M>, AllocError>
         requires { IsOf M.next self.now pass.old }
-        ensures looked { MatchResult result (λ v. Looked pass.old.known v pass.new.known) (λ _. pass.new.known ≡ pass.old.known) }
+        ensures looked { MatchResult result (λ v. Looked pass.old.known v pass.new.known) (λ _. pass.new.known
+            ≡ pass.old.known) }
         ensures same { pass.new ≡ knowing pass.old pass.new.known }
         ensures is_of { IsOf M.next self.now pass.new }
     {
@@ -241,7 +243,9 @@ impl<M: Machine, C: Clock + Drop> Lock<M, C> {
     /// A pass that comes back from a desk at its old place, with its opening and beginning, is still one of this lock.
     #[tactic(auto, using(crate::proofs::Knowing::back))]
     pub fn takes_back(&self)
-        ensures { (d : LockView M.State M.Call) (p q : PassView M.State M.Call) → IsOf M.next self.now p → IsOf M.next d q → place_of q.table ≡ place_of p.table → q.known.opening ≡ p.known.opening → q.known.base ≡ p.known.base → IsOf M.next self.now q }
+        ensures { (d : LockView M.State M.Call) (p q : PassView M.State M.Call) → IsOf M.next self.now p
+            → IsOf M.next d q → place_of q.table ≡ place_of p.table → q.known.opening ≡ p.known.opening
+            → q.known.base ≡ p.known.base → IsOf M.next self.now q }
     {}
 
     /// The moment of the clock's next word. It takes no memory.
@@ -281,7 +285,8 @@ fn next_of<M: Machine>(
     version: &Arc<Version<M>>,
     entry: Entry<M::Call>,
 ) -> Result<(Arc<Version<M>>, Arc<Version<M>>, M::Shown), Halt<M::Cause>>
-    ensures grown { IfOk result (λ r. (arc_value r.0 ≡ grown (arc_value version.now) entry) × (arc_value r.1 ≡ arc_value r.0)) }
+    ensures grown { IfOk result (λ r. (arc_value r.0 ≡ grown (arc_value version.now) entry)
+        × (arc_value r.1 ≡ arc_value r.0)) }
     ensures lawful { IfOk result (λ r. IsLegal M.next (arc_value r.0).opening (arc_value r.0).journal) }
     ensures told { TellsThird (shown_by (M.next (state_of M.next (arc_value version.now)) entry)) result }
 {

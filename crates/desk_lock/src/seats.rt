@@ -14,9 +14,12 @@ use desk_model::Machine;
 /// A new pass's seat.
 pub(crate) fn bear<M: Machine>(top: &Top<M>, place: &mut Place<M>) -> Place<M>
     requires table { (place.old.table_id ≡ top.now.table_id) × IsSized top.now.table_id }
-    requires first { (place.old.me.0.live ≡ 1) × (0 < place.old.me.0.made) × (place.old.me.0.made < most_passes) × IsIdle place.old.me.0 }
-    ensures seat { (place.new.table_id ≡ place.old.table_id) × (place.new.id ≡ place.old.id) × (result.table_id ≡ place.old.table_id) }
-    ensures views { (place.new.me ≡ (parent place.old.me.0, place.old.me.1)) × (result.me ≡ (child place.old.me.0, [])) }
+    requires first { (place.old.me.0.live ≡ 1) × (0 < place.old.me.0.made) × (place.old.me.0.made < most_passes)
+        × IsIdle place.old.me.0 }
+    ensures seat { (place.new.table_id ≡ place.old.table_id) × (place.new.id ≡ place.old.id)
+        × (result.table_id ≡ place.old.table_id) }
+    ensures views { (place.new.me ≡ (parent place.old.me.0, place.old.me.1))
+        × (result.me ≡ (child place.old.me.0, [])) }
 {
     top.split_seat::<Bear>(place)
 }
@@ -33,9 +36,11 @@ pub(crate) fn catch_up<M: Machine>(top: &Top<M>, place: &mut Place<M>)
 
 /// What `from` has seen is seen, if it is longer.
 pub(crate) fn hear<M: Machine>(top: &Top<M>, place: &mut Place<M>, from: &mut Place<M>)
-    requires table { (place.old.table_id ≡ top.now.table_id) × (from.old.table_id ≡ top.now.table_id) × IsSized top.now.table_id }
+    requires table { (place.old.table_id ≡ top.now.table_id) × (from.old.table_id ≡ top.now.table_id)
+        × IsSized top.now.table_id }
     requires ready { (place.old.me.0.live ≡ 1) × IsIdle place.old.me.0 × IsIdle from.old.me.0 × (from.old.me.1 ≡ []) }
-    ensures seat { (place.new.table_id ≡ place.old.table_id) × (place.new.id ≡ place.old.id) × (from.new.table_id ≡ from.old.table_id) × (from.new.id ≡ from.old.id) × (from.new.me ≡ from.old.me) }
+    ensures seat { (place.new.table_id ≡ place.old.table_id) × (place.new.id ≡ place.old.id)
+        × (from.new.table_id ≡ from.old.table_id) × (from.new.id ≡ from.old.id) × (from.new.me ≡ from.old.me) }
     ensures seen { (n : ℕ) × caught (step 2 0 0 0 none) (told_by place.old.me.0 from.old.me.0, place.old.me.1) n place.new.me }
 {
     let helper = top.split_seat::<Help>(from);
@@ -45,8 +50,10 @@ pub(crate) fn hear<M: Machine>(top: &Top<M>, place: &mut Place<M>, from: &mut Pl
 
 /// The seat `gone` is joined into this one.
 pub(crate) fn take_in<M: Machine>(top: &Top<M>, place: &mut Place<M>, gone: Place<M>)
-    requires table { (place.old.table_id ≡ top.now.table_id) × (gone.table_id ≡ top.now.table_id) × IsSized top.now.table_id }
-    requires ready { (place.old.me.0.live ≡ 1) × IsIdle place.old.me.0 × (gone.me.0.live ≡ 1) × (gone.me.0.made ≡ 0) × IsIdle gone.me.0 × (gone.me.1 ≡ []) }
+    requires table { (place.old.table_id ≡ top.now.table_id) × (gone.table_id ≡ top.now.table_id)
+        × IsSized top.now.table_id }
+    requires ready { (place.old.me.0.live ≡ 1) × IsIdle place.old.me.0 × (gone.me.0.live ≡ 1) × (gone.me.0.made ≡ 0)
+        × IsIdle gone.me.0 × (gone.me.1 ≡ []) }
     ensures seat { (place.new.table_id ≡ place.old.table_id) × (place.new.id ≡ place.old.id) }
     ensures seen { (n : ℕ) × caught (step 2 0 0 0 none) (took_in place.old.me.0 gone.me.0, place.old.me.1) n place.new.me }
 {

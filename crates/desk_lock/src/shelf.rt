@@ -55,7 +55,8 @@ pub(crate) fn look_at_shelf<M: Machine>(
     requires table { (place.old.table_id ≡ top.now.table_id) × IsSized top.now.table_id }
     requires out { (place.old.me.0.shelf ≡ HasShelf (arc_value version.now).journal) × (place.old.me.0.turn ≡ NoTurn) }
     ensures seat { (place.new.table_id ≡ place.old.table_id) × (place.new.id ≡ place.old.id) }
-    ensures seen { place.new.me ≡ (record place.old.me.0 { seen = (arc_value version.now).journal; told = [] }, place.old.me.1) }
+    ensures seen { place.new.me
+        ≡ (record place.old.me.0 { seen = (arc_value version.now).journal; told = [] }, place.old.me.1) }
 {
     let _ = version;
     top.load::<LookAtShelf<M>>(place, SHELF_NUMBER);
@@ -64,7 +65,9 @@ pub(crate) fn look_at_shelf<M: Machine>(
 /// Puts the version on the shelf, and gives the shelf back.
 pub(crate) fn shut_shelf<M: Machine>(top: &Top<M>, place: &mut Place<M>, version: Arc<Version<M>>)
     requires table { (place.old.table_id ≡ top.now.table_id) × IsSized top.now.table_id }
-    requires out { (place.old.me.0.shelf ≡ HasShelf (arc_value version).journal) × (Some (arc_value version).opening ≡ place.old.me.0.origin) × (place.old.me.1 ≡ (1, None) ∷ rest place.old.me.1) }
+    requires out { (place.old.me.0.shelf ≡ HasShelf (arc_value version).journal)
+        × (Some (arc_value version).opening ≡ place.old.me.0.origin)
+        × (place.old.me.1 ≡ (1, None) ∷ rest place.old.me.1) }
     ensures seat { (place.new.table_id ≡ place.old.table_id) × (place.new.id ≡ place.old.id) }
     ensures idle { place.new.me ≡ (record place.old.me.0 { shelf = NoShelf }, rest place.old.me.1) }
 {
@@ -83,10 +86,12 @@ fn store_number<M: Machine>(
     version: &Arc<Version<M>>,
 )
     requires table { (place.old.table_id ≡ top.now.table_id) × IsSized top.now.table_id }
-    requires out { (place.old.me.0.turn ≡ Committed (arc_value version.now).journal) × ((g : List _) × (place.old.me.0.shelf ≡ HasShelf g)) }
+    requires out { (place.old.me.0.turn ≡ Committed (arc_value version.now).journal)
+        × ((g : List _) × (place.old.me.0.shelf ≡ HasShelf g)) }
     requires number { length (arc_value version.now).journal ≡ place.old.me.0.start + number }
     ensures seat { (place.new.table_id ≡ place.old.table_id) × (place.new.id ≡ place.old.id) }
-    ensures stored { place.new.me ≡ (record place.old.me.0 { turn = HasTurn (arc_value version.now).journal; shelf = HasShelf (arc_value version.now).journal }, place.old.me.1) }
+    ensures stored { place.new.me
+        ≡ (record place.old.me.0 { turn = HasTurn (arc_value version.now).journal; shelf = HasShelf (arc_value version.now).journal }, place.old.me.1) }
 {
     let _ = version;
     top.store::<StoreShelf<M>>(place, SHELF_NUMBER, number);
@@ -102,10 +107,12 @@ pub(crate) fn show<M: Machine, R: Wait>(
 )
     requires table { (place.old.table_id ≡ top.now.table_id) × IsSized top.now.table_id }
     requires ready { (place.old.me.0.live ≡ 1) × (place.old.me.0.shelf ≡ NoShelf) }
-    requires out { (place.old.me.0.turn ≡ Committed (arc_value version).journal) × (Some (arc_value version).opening ≡ place.old.me.0.origin) }
+    requires out { (place.old.me.0.turn ≡ Committed (arc_value version).journal)
+        × (Some (arc_value version).opening ≡ place.old.me.0.origin) }
     requires number { length (arc_value version).journal ≡ place.old.me.0.start + number }
     ensures seat { (place.new.table_id ≡ place.old.table_id) × (place.new.id ≡ place.old.id) }
-    ensures shown { place.new.me ≡ (record place.old.me.0 { turn = HasTurn (arc_value version).journal }, place.old.me.1) }
+    ensures shown { place.new.me
+        ≡ (record place.old.me.0 { turn = HasTurn (arc_value version).journal }, place.old.me.1) }
 {
     let _before = open_shelf(rt, top, place);
     store_number(top, place, number, &version);

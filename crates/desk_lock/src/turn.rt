@@ -54,7 +54,8 @@ pub(crate) fn learn<M: Machine>(top: &Top<M>, place: &mut Place<M>, version: &Ar
     requires table { (place.old.table_id ≡ top.now.table_id) × IsSized top.now.table_id }
     requires out { place.old.me.0.turn ≡ HasTurn (arc_value version.now).journal }
     ensures seat { (place.new.table_id ≡ place.old.table_id) × (place.new.id ≡ place.old.id) }
-    ensures seen { place.new.me ≡ (record place.old.me.0 { seen = (arc_value version.now).journal; told = [] }, place.old.me.1) }
+    ensures seen { place.new.me
+        ≡ (record place.old.me.0 { seen = (arc_value version.now).journal; told = [] }, place.old.me.1) }
 {
     let _ = version;
     top.load::<Learn<M>>(place, COUNT);
@@ -63,7 +64,8 @@ pub(crate) fn learn<M: Machine>(top: &Top<M>, place: &mut Place<M>, version: &Ar
 // Gives the turn back, with the version that is in hand.
 fn release<M: Machine>(top: &Top<M>, place: &mut Place<M>)
     requires table { (place.old.table_id ≡ top.now.table_id) × IsSized top.now.table_id }
-    requires out { (a : Arc (_) _) × (place.old.me.0.turn ≡ HasTurn (arc_value a).journal) × (Some (arc_value a).opening ≡ place.old.me.0.origin) × (place.old.me.1 ≡ (0, Some a) ∷ []) }
+    requires out { (a : Arc (_) _) × (place.old.me.0.turn ≡ HasTurn (arc_value a).journal)
+        × (Some (arc_value a).opening ≡ place.old.me.0.origin) × (place.old.me.1 ≡ (0, Some a) ∷ []) }
     ensures seat { (place.new.table_id ≡ place.old.table_id) × (place.new.id ≡ place.old.id) }
     ensures idle { place.new.me ≡ (record place.old.me.0 { turn = NoTurn }, []) }
 {
@@ -74,7 +76,8 @@ fn release<M: Machine>(top: &Top<M>, place: &mut Place<M>)
 /// Puts the version back into its home, and gives the turn back.
 pub(crate) fn shut<M: Machine>(top: &Top<M>, place: &mut Place<M>, version: Arc<Version<M>>)
     requires table { (place.old.table_id ≡ top.now.table_id) × IsSized top.now.table_id }
-    requires out { (place.old.me.0.turn ≡ HasTurn (arc_value version).journal) × (Some (arc_value version).opening ≡ place.old.me.0.origin) × (place.old.me.1 ≡ (0, None) ∷ []) }
+    requires out { (place.old.me.0.turn ≡ HasTurn (arc_value version).journal)
+        × (Some (arc_value version).opening ≡ place.old.me.0.origin) × (place.old.me.1 ≡ (0, None) ∷ []) }
     ensures seat { (place.new.table_id ≡ place.old.table_id) × (place.new.id ≡ place.old.id) }
     ensures idle { place.new.me ≡ (record place.old.me.0 { turn = NoTurn }, []) }
 {
@@ -89,11 +92,14 @@ pub(crate) fn shut<M: Machine>(top: &Top<M>, place: &mut Place<M>, version: Arc<
 fn commit<M: Machine>(top: &Top<M>, place: &mut Place<M>, version: Arc<Version<M>>, len: u64) -> u64
     requires table { (place.old.table_id ≡ top.now.table_id) × IsSized top.now.table_id }
     requires len { len ≡ length (arc_value version).journal }
-    requires out { (h : List (Entry M.Call)) × (e : Entry M.Call) × (place.old.me.0.turn ≡ HasTurn h) × (Some (arc_value version).opening ≡ place.old.me.0.origin) × (place.old.me.1 ≡ (0, None) ∷ [])
-        × ((arc_value version).journal ≡ h ++ e ∷ []) × (e.caller ≡ place.old.me.0.number) × (e.serial ≡ length place.old.me.0.own) }
+    requires out { (h : List (Entry M.Call)) × (e : Entry M.Call) × (place.old.me.0.turn ≡ HasTurn h)
+        × (Some (arc_value version).opening ≡ place.old.me.0.origin) × (place.old.me.1 ≡ (0, None) ∷ [])
+        × ((arc_value version).journal ≡ h ++ e ∷ []) × (e.caller ≡ place.old.me.0.number)
+        × (e.serial ≡ length place.old.me.0.own) }
     ensures seat { (place.new.table_id ≡ place.old.table_id) × (place.new.id ≡ place.old.id) }
     ensures number { length (arc_value version).journal ≡ place.old.me.0.start + result }
-    ensures done { place.new.me ≡ (record place.old.me.0 { seen = (arc_value version).journal; told = []; own = by place.old.me.0.number (drop place.old.me.0.start (arc_value version).journal); turn = Committed (arc_value version).journal }, (0, Some version) ∷ []) }
+    ensures done { place.new.me
+        ≡ (record place.old.me.0 { seen = (arc_value version).journal; told = []; own = by place.old.me.0.number (drop place.old.me.0.start (arc_value version).journal); turn = Committed (arc_value version).journal }, (0, Some version) ∷ []) }
 {
     let _ = len;
     let None = top.exchange(place, HOME, Some(version)) else {
@@ -116,10 +122,13 @@ pub(crate) fn publish<M: Machine, R: Wait>(
     requires len { len ≡ length (arc_value version).journal }
     requires same { arc_value again ≡ arc_value version }
     requires live { (place.old.me.0.live ≡ 1) × (place.old.me.0.shelf ≡ NoShelf) }
-    requires out { (h : List (Entry M.Call)) × (e : Entry M.Call) × (place.old.me.0.turn ≡ HasTurn h) × (Some (arc_value version).opening ≡ place.old.me.0.origin) × (place.old.me.1 ≡ (0, None) ∷ [])
-        × ((arc_value version).journal ≡ h ++ e ∷ []) × (e.caller ≡ place.old.me.0.number) × (e.serial ≡ length place.old.me.0.own) }
+    requires out { (h : List (Entry M.Call)) × (e : Entry M.Call) × (place.old.me.0.turn ≡ HasTurn h)
+        × (Some (arc_value version).opening ≡ place.old.me.0.origin) × (place.old.me.1 ≡ (0, None) ∷ [])
+        × ((arc_value version).journal ≡ h ++ e ∷ []) × (e.caller ≡ place.old.me.0.number)
+        × (e.serial ≡ length place.old.me.0.own) }
     ensures seat { (place.new.table_id ≡ place.old.table_id) × (place.new.id ≡ place.old.id) }
-    ensures idle { place.new.me ≡ (record place.old.me.0 { seen = (arc_value version).journal; told = []; own = by place.old.me.0.number (drop place.old.me.0.start (arc_value version).journal); turn = NoTurn }, []) }
+    ensures idle { place.new.me
+        ≡ (record place.old.me.0 { seen = (arc_value version).journal; told = []; own = by place.old.me.0.number (drop place.old.me.0.start (arc_value version).journal); turn = NoTurn }, []) }
 {
     let number = commit(top, place, version, len);
     show(rt, top, place, again, number);

@@ -9,8 +9,6 @@ mod machine;
 mod one;
 mod shared;
 mod snapshot;
-#[cfg(test)]
-mod tests;
 mod version;
 
 pub use clock::moment_of_word;

@@ -47,9 +47,11 @@ pub(crate) fn note<M: Served, H: Host, C: Clock + Drop>(
     requires is_of { IsOf M.next lock.now hall.old.pass }
     requires held { IsHeld (terms M.next M.answer M.number M.call M.user M.least M.closes H.Link.Source.told H.Link.Sink.told users.now (H.left all.now.value)) lock.now place before seat.pass seat.link seat.outcome }
     requires room { vec_len hall.old.ended < vec_capacity hall.old.ended }
-    ensures keeps { (held : ℕ → ℕ) (running spare n : ℕ) → Keeps (terms M.next M.answer M.number M.call M.user M.least M.closes H.Link.Source.told H.Link.Sink.told users.now (H.left all.now.value)) lock.now hall.old.pass hall.old.ended.items (and_at place held) (running + 1) spare n → Keeps (terms M.next M.answer M.number M.call M.user M.least M.closes H.Link.Source.told H.Link.Sink.told users.now (H.left all.now.value)) lock.now hall.new.pass hall.new.ended.items held running spare n }
+    ensures keeps { (held : ℕ → ℕ) (running spare n : ℕ)
+        → Keeps (terms M.next M.answer M.number M.call M.user M.least M.closes H.Link.Source.told H.Link.Sink.told users.now (H.left all.now.value)) lock.now hall.old.pass hall.old.ended.items (and_at place held) (running + 1) spare n → Keeps (terms M.next M.answer M.number M.call M.user M.least M.closes H.Link.Source.told H.Link.Sink.told users.now (H.left all.now.value)) lock.now hall.new.pass hall.new.ended.items held running spare n }
     ensures running { hall.new.running ≡ hall.old.running }
-    ensures room { (vec_len hall.new.ended ≡ vec_len hall.old.ended + 1) × (vec_capacity hall.new.ended ≡ vec_capacity hall.old.ended) }
+    ensures room { (vec_len hall.new.ended ≡ vec_len hall.old.ended + 1)
+        × (vec_capacity hall.new.ended ≡ vec_capacity hall.old.ended) }
 {
     let _ = users;
     let _ = all;
@@ -82,9 +84,11 @@ fn settle<M: Served, H: Host, C: Clock + Drop, R: Threads>(
     requires is_of { IsOf M.next lock.now hall.old.pass }
     requires runs { Runs (terms M.next M.answer M.number M.call M.user M.least M.closes H.Link.Source.told H.Link.Sink.told users.now (H.left all.now.value)) lock.now row.handle.promise.lock.value row.handle.promise.users.value row.handle.promise.pass.value row.handle.promise.link.value row.place row.before }
     requires room { vec_len hall.old.ended < vec_capacity hall.old.ended }
-    ensures keeps { (held : ℕ → ℕ) (running spare n : ℕ) → Keeps (terms M.next M.answer M.number M.call M.user M.least M.closes H.Link.Source.told H.Link.Sink.told users.now (H.left all.now.value)) lock.now hall.old.pass hall.old.ended.items (and_at row.place held) (running + 1) spare n → Keeps (terms M.next M.answer M.number M.call M.user M.least M.closes H.Link.Source.told H.Link.Sink.told users.now (H.left all.now.value)) lock.now hall.new.pass hall.new.ended.items held running spare n }
+    ensures keeps { (held : ℕ → ℕ) (running spare n : ℕ)
+        → Keeps (terms M.next M.answer M.number M.call M.user M.least M.closes H.Link.Source.told H.Link.Sink.told users.now (H.left all.now.value)) lock.now hall.old.pass hall.old.ended.items (and_at row.place held) (running + 1) spare n → Keeps (terms M.next M.answer M.number M.call M.user M.least M.closes H.Link.Source.told H.Link.Sink.told users.now (H.left all.now.value)) lock.now hall.new.pass hall.new.ended.items held running spare n }
     ensures running { hall.new.running ≡ hall.old.running }
-    ensures room { (vec_len hall.new.ended ≡ vec_len hall.old.ended + 1) × (vec_capacity hall.new.ended ≡ vec_capacity hall.old.ended) }
+    ensures room { (vec_len hall.new.ended ≡ vec_len hall.old.ended + 1)
+        × (vec_capacity hall.new.ended ≡ vec_capacity hall.old.ended) }
 {
     let Row {
         handle,
@@ -209,7 +213,9 @@ pub(crate) fn reserve<M: Served, L: Link + Drop, C: Clock>(hall: &mut Hall<M, L,
     ensures ended { hall.new.ended.items ≡ hall.old.ended.items }
     ensures running { hall.new.running.items ≡ hall.old.running.items }
     ensures room { vec_len hall.new.ended + vec_len hall.new.running ≤ vec_capacity hall.new.ended }
-    ensures more { result ≡ true → (vec_len hall.new.ended + vec_len hall.new.running + 1 ≤ vec_capacity hall.new.ended) × (vec_len hall.new.running < vec_capacity hall.new.running) }
+    ensures more { result ≡ true
+        → (vec_len hall.new.ended + vec_len hall.new.running + 1 ≤ vec_capacity hall.new.ended)
+        × (vec_len hall.new.running < vec_capacity hall.new.running) }
 {
     let count = hall.running.len();
     if hall.ended.reserve(count + 1).is_err() {

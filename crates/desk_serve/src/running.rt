@@ -58,7 +58,8 @@ where
     M::Call: Send + Sync,
     M::Question: Send,
     requires { IsFresh M.next lock.now pass }
-    ensures running { IfOk result (λ r. (r.promise.lock.value ≡ lock.now) × (r.promise.users.value ≡ users.now) × (r.promise.pass.value ≡ pass) × (r.promise.link.value ≡ link)) }
+    ensures running { IfOk result (λ r. (r.promise.lock.value ≡ lock.now) × (r.promise.users.value ≡ users.now)
+        × (r.promise.pass.value ≡ pass) × (r.promise.link.value ≡ link)) }
     ensures done { IfErr result (λ r. IsOver (terms M.next M.answer M.number M.call M.user M.least M.closes L.Source.told L.Sink.told users.now None) lock.now pass link r.pass r.link r.outcome) }
 {
     let promise: Kept<M, L, C> = Kept {

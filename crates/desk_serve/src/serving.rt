@@ -87,7 +87,9 @@ fn make_room<M: Served, H: Host, C: Clock + Drop, R: Threads + Wait>(
     ensures rows { All (λ r. Runs (terms M.next M.answer M.number M.call M.user M.least M.closes H.Link.Source.told H.Link.Sink.told users.now (H.left all.now.value)) lock.now r.handle.promise.lock.value r.handle.promise.users.value r.handle.promise.pass.value r.handle.promise.link.value r.place r.before) hall.new.running.items }
     ensures room { vec_len hall.new.ended + vec_len hall.new.running ≤ vec_capacity hall.new.ended }
     ensures few { vec_len hall.new.running < most_workers }
-    ensures more { result ≡ true → (vec_len hall.new.ended + vec_len hall.new.running + 1 ≤ vec_capacity hall.new.ended) × (vec_len hall.new.running < vec_capacity hall.new.running) }
+    ensures more { result ≡ true
+        → (vec_len hall.new.ended + vec_len hall.new.running + 1 ≤ vec_capacity hall.new.ended)
+        × (vec_len hall.new.running < vec_capacity hall.new.running) }
 {
     join_down(rt, lock, users, all, marks, workers, hall, place);
     reserve(hall)
@@ -125,7 +127,8 @@ fn next_link<H: Host>(
 ) -> Result<Option<H::Link>, Failed>
     requires taken { Taken (H.told all.now.value) (H.left all.now.value) (H.told host.old) (H.left host.old) place }
     ensures link { IfOk result (λ o. MatchOption o (Taken (H.told all.now.value) (H.left all.now.value) (H.told host.new) (H.left host.new) place × (((H.told host.new).given ≡ (H.told host.new).bound) ⊎ NoneLeft (H.left host.new)))
-        (λ l. Taken (H.told all.now.value) (H.left all.now.value) (H.told host.new) (H.left host.new) (place + 1) × IsGiven (H.left all.now.value) place l × IsNew (H.Link.Source.told l) (H.Link.Sink.told l))) }
+        (λ l. Taken (H.told all.now.value) (H.left all.now.value) (H.told host.new) (H.left host.new) (place + 1)
+        × IsGiven (H.left all.now.value) place l × IsNew (H.Link.Source.told l) (H.Link.Sink.told l))) }
     ensures failed { OnErr result (Taken (H.told all.now.value) (H.left all.now.value) (H.told host.new) (H.left host.new) place × Rose (H.told all.now.value).faults (H.told host.new).faults) }
 {
     let _ = all;
@@ -168,7 +171,8 @@ where
     H::Link: Send + 's,
     requires keeps { Keeps (terms M.next M.answer M.number M.call M.user M.least M.closes H.Link.Source.told H.Link.Sink.told users.now (H.left all.now.value)) lock.now hall.old.pass hall.old.ended.items (held_by (λ r. r.place) hall.old.running.items) (vec_len hall.old.running) 1 place }
     requires rows { All (λ r. Runs (terms M.next M.answer M.number M.call M.user M.least M.closes H.Link.Source.told H.Link.Sink.told users.now (H.left all.now.value)) lock.now r.handle.promise.lock.value r.handle.promise.users.value r.handle.promise.pass.value r.handle.promise.link.value r.place r.before) hall.old.running.items }
-    requires room { (vec_len hall.old.ended + vec_len hall.old.running + 1 ≤ vec_capacity hall.old.ended) × (vec_len hall.old.running < vec_capacity hall.old.running) }
+    requires room { (vec_len hall.old.ended + vec_len hall.old.running + 1 ≤ vec_capacity hall.old.ended)
+        × (vec_len hall.old.running < vec_capacity hall.old.running) }
     requires few { vec_len hall.old.running < most_workers }
     requires fresh { IsFresh M.next lock.now pass }
     requires given { IsGiven (H.left all.now.value) place link }

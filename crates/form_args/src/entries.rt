@@ -6,13 +6,13 @@ ghost use Rattle.form_args.specs.Entries.{ace_at, aces_from, is_empty, aces_of};
 
 use crate::lists::{indexed, texts};
 use crate::pairs::Pairs;
+use call_parts::writes::{AceRequest, AceRequests};
 use cm_base::argument::Argument;
 use cm_base::cause::Cause;
 use cm_base::copies::Copies;
 use cm_base::fail::Fail;
 use cm_base::items::Items;
 use cm_base::text::Text;
-use call_parts::writes::{AceRequest, AceRequests};
 use std::alloc::{AllocError, Global};
 
 fn ace_at(

@@ -6,13 +6,13 @@ ghost use Rattle.cm_base.specs.Judged.{Meets};
 ghost use Rattle.form_args.specs.Filter.{commas, spaces, tabs, has_bytes, words, one_word, each_onto, name_in, is_star, read_filter, filter_by, filter_of};
 
 use crate::pairs::Pairs;
+use call_parts::names::Names;
+use call_parts::readings::PropertyFilter;
 use cm_base::argument::Argument;
 use cm_base::cause::Cause;
 use cm_base::fail::Fail;
 use cm_base::items::Items;
 use cm_base::text::{Text, Texts};
-use call_parts::names::Names;
-use call_parts::readings::PropertyFilter;
 use std::alloc::{AllocError, Global};
 
 fn commas<'a>(alloc: Global, text: &'a str) -> Result<Vec<&'a str>, AllocError>

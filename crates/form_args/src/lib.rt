@@ -11,5 +11,3 @@ pub mod number;
 pub mod pairs;
 pub mod properties;
 pub mod read;
-#[cfg(test)]
-mod tests;

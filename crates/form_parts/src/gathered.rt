@@ -3,8 +3,8 @@ ghost use Rattle.std.specs.Prelude.{◌≡◌, IfOk, Some, unwrap_or};
 ghost use Rattle.form_parts.specs.Parts.{gathered};
 
 use crate::part::Part;
-use cm_base::items::Items;
 use call_parts::stream::GivenStream;
+use cm_base::items::Items;
 use form_args::pairs::Pair;
 use std::alloc::{AllocError, Global};
 

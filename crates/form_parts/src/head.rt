@@ -18,7 +18,8 @@ pub struct Head<'a> {
 pub fn read_head<'a>(alloc: Global, text: &'a [u8]) -> Result<Option<Head<'a>>, AllocError>
     ensures value { IfOk result (λ r. option_map (λ h. (h.fields.items, h.content.now)) r ≡ head_of text.now) }
     ensures short { IfOk result (λ r. IfSome r (λ h. length h.content.now ≤ length text.now)) }
-    ensures last { IfOk result (λ r. IfSome r (λ h. h.content.now ≡ drop (length text.now - length h.content.now) text.now)) }
+    ensures last { IfOk result (λ r. IfSome r (λ h. h.content.now
+        ≡ drop (length text.now - length h.content.now) text.now)) }
 {
     let mut fields = Vec::new(alloc);
     let mut rest = text;

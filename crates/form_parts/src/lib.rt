@@ -16,6 +16,4 @@ pub mod parts;
 pub mod scan;
 pub mod span;
 pub mod split;
-#[cfg(test)]
-mod tests;
 pub mod wanted;

@@ -11,11 +11,11 @@ use crate::kind::kind_of;
 use crate::span::Span;
 use crate::wanted::text_in;
 use bytes::Bytes;
+use call_parts::stream::GivenStream;
 use cm_base::cause::Cause;
 use cm_base::fail::Fail;
 use cm_base::pieces::Pieces;
 use cm_base::text::Text;
-use call_parts::stream::GivenStream;
 use form_args::pairs::Pair;
 use std::alloc::Global;
 

@@ -37,7 +37,8 @@ pub fn scan(boundary: &[u8], body: &[u8], from: usize) -> Option<Found>
     ensures within { IfSome result (λ f. (from ≤ f.place) × (f.place ≤ length body.now) × (f.next ≤ length body.now)) }
     ensures further { IfSome result (λ f. f.mark ≡ Mark.Open → from < f.next) }
     ensures room { IfSome result (λ f. (f.place ≡ from) ⊎ (from + 2 ≤ f.place)) }
-    ensures front { IfSome result (λ f. outside boundary.now (lines_of (drop from body.now)) ≡ parts_after boundary.now body.now f.mark f.next) }
+    ensures front { IfSome result (λ f. outside boundary.now (lines_of (drop from body.now))
+        ≡ parts_after boundary.now body.now f.mark f.next) }
     ensures part { IfSome result (λ f. inside boundary.now [] (lines_of (drop from body.now))
         ≡ part_before body.now from f.place (parts_after boundary.now body.now f.mark f.next)) }
     ensures no_front { IfNone result (outside boundary.now (lines_of (drop from body.now)) ≡ None) }

@@ -3,8 +3,6 @@
 
 mod caller;
 mod step;
-#[cfg(test)]
-mod tests;
 
 pub use caller::caller_of;
 pub use step::least_of;

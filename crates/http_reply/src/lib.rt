@@ -5,8 +5,6 @@ mod head;
 mod reply;
 mod sending;
 mod shown;
-#[cfg(test)]
-mod tests;
 
 pub use reply::write_reply;
 pub use sending::{send, send_interim, send_memory};

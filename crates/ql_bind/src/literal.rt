@@ -46,12 +46,7 @@ fn is_of_kind(kind: PropertyKind, literal: &Literal) -> bool
     }
 }
 
-fn judge_kind(
-    alloc: Global,
-    column: &Column,
-    def: &PropDef,
-    literal: &Literal,
-) -> Result<(), Fail>
+fn judge_kind(alloc: Global, column: &Column, def: &PropDef, literal: &Literal) -> Result<(), Fail>
     ensures { Meets (λ x. x) result (judge_kind column.now def.now literal.now) }
 {
     if is_of_kind(def.kind, literal) {

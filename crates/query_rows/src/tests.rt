@@ -51,7 +51,8 @@ fn digits_are_read_by_the_grammar(rt: HostRuntime) {
         Ok(types) => {
             let text = "SELECT * FROM cmis:document WHERE cmis:contentStreamLength IN (007, -0)";
             assert!(rt; bound(alloc, &types, text).is_ok());
-            let text = "SELECT * FROM cmis:document WHERE cmis:contentStreamLength = 9223372036854775808";
+            let text =
+                "SELECT * FROM cmis:document WHERE cmis:contentStreamLength = 9223372036854775808";
             assert!(rt; is_misused(alloc, &types, text, "cmis:contentStreamLength"));
         }
         Err(_) => assert!(rt; false),

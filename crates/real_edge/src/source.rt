@@ -16,7 +16,8 @@ pub struct StdSource<R: Read> {
 impl<R: Read> StdSource<R> {
     /// A source over what `rt.stdin()` answers, or over another reader.
     pub fn new(reader: R) -> StdSource<R>
-        ensures { ⟦<StdSource<R> as Source>⟧.told result ≡ record { left = None; given = None; ended = false; faults = 0 } }
+        ensures { ⟦<StdSource<R> as Source>⟧.told result
+            ≡ record { left = None; given = None; ended = false; faults = 0 } }
     {
         StdSource {
             reader,

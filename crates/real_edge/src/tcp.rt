@@ -22,7 +22,8 @@ pub struct TcpLink<S: Read + Write + OpenStream + Drop> {
 impl<S: Read + Write + OpenStream + Drop> TcpLink<S> {
     /// A connection that has just come. A reply goes out as soon as it is written, and no wait is longer than `LONGEST_WAIT_S`.
     pub fn new(stream: S) -> TcpLink<S>
-        ensures source { ⟦<TcpLink<S> as Source>⟧.told result ≡ record { left = None; given = None; ended = false; faults = 0 } }
+        ensures source { ⟦<TcpLink<S> as Source>⟧.told result
+            ≡ record { left = None; given = None; ended = false; faults = 0 } }
         ensures sink { ⟦<TcpLink<S> as Sink>⟧.told result ≡ record { held = None; faults = 0 } }
     {
         let _ = stream.set_nodelay(true);

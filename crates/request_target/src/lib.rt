@@ -6,5 +6,3 @@ ghost use Rattle.std.specs.Prelude.{◌≡◌};
 pub mod form;
 pub mod path;
 pub mod target;
-#[cfg(test)]
-mod tests;

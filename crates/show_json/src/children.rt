@@ -202,7 +202,8 @@ fn write_page<'a>(
     q: &'a ReadChildren,
     children: &[&'a Object],
 ) -> Result<(), AllocError>
-    ensures { OnOk result (out.new ≡ out.old ++ tokens_of (children_data (page_reply state.now user.now q.now (map pointee children.now)))) }
+    ensures { OnOk result (out.new ≡ out.old
+        ++ tokens_of (children_data (page_reply state.now user.now q.now (map pointee children.now)))) }
 {
     let shown = page(q.skip_count, q.max_items, children);
     let more = has_more(q.skip_count, q.max_items, children);
@@ -222,7 +223,8 @@ fn page_text(
     q: &ReadChildren,
     children: &[&Object],
 ) -> Result<Bytes, AllocError>
-    ensures { IfOk result (λ b. b ≡ compact_text (children_data (page_reply state.now user.now q.now (map pointee children.now)))) }
+    ensures { IfOk result (λ b. b
+        ≡ compact_text (children_data (page_reply state.now user.now q.now (map pointee children.now)))) }
 {
     let mut out = Writer::new(alloc);
     write_page(&mut out, alloc, state, user, q, children)?;
@@ -238,7 +240,8 @@ fn children_in(
     q: &ReadChildren,
     folder: Oid,
 ) -> Result<Bytes, AllocError>
-    ensures { IfOk result (λ b. b ≡ compact_text (children_data (page_reply state.now user.now q.now (children_of state.now user.now folder)))) }
+    ensures { IfOk result (λ b. b
+        ≡ compact_text (children_data (page_reply state.now user.now q.now (children_of state.now user.now folder)))) }
 {
     let children = children_of(alloc, state, user, folder)?;
     let text = page_text(alloc, state, user, q, &children)?;

@@ -34,7 +34,8 @@ fn write_succinct_object(
     sight: &Sight,
     columns: &[Column],
 ) -> Result<(), AllocError>
-    ensures { OnOk result (out.new ≡ out.old ++ tokens_of (object (listed_members (map (slot_field sight.now) columns.now)))) }
+    ensures { OnOk result (out.new ≡ out.old
+        ++ tokens_of (object (listed_members (map (slot_field sight.now) columns.now)))) }
 {
     out.begin_object()?;
     write_slots(out, sight, columns)?;
@@ -44,7 +45,8 @@ fn write_succinct_object(
 
 #[tactic(auto, using(json_text::specs::TokenLaws::object_written))]
 fn write_full_object(out: &mut Writer, sight: &Sight, columns: &[Column]) -> Result<(), AllocError>
-    ensures { OnOk result (out.new ≡ out.old ++ tokens_of (object (listed_members (map (full_field sight.now) columns.now)))) }
+    ensures { OnOk result (out.new ≡ out.old
+        ++ tokens_of (object (listed_members (map (full_field sight.now) columns.now)))) }
 {
     out.begin_object()?;
     write_fulls(out, sight, columns)?;
@@ -113,7 +115,8 @@ fn write_member(
     succinct: bool,
     columns: &[Column],
 ) -> Result<(), AllocError>
-    ensures { OnOk result (out.new ≡ out.old ++ field_tokens (codes "object", object_by sight.now succinct columns.now)) }
+    ensures { OnOk result (out.new ≡ out.old
+        ++ field_tokens (codes "object", object_by sight.now succinct columns.now)) }
 {
     out.key("object")?;
     write_object(out, sight, succinct, columns)?;

@@ -31,7 +31,8 @@ fn text_of(
     succinct: bool,
     x: &Object,
 ) -> Result<Bytes, AllocError>
-    ensures { IfOk result (λ b. b ≡ compact_text (shown_data (shown_object state.now user.now filter.now succinct x.now))) }
+    ensures { IfOk result (λ b. b
+        ≡ compact_text (shown_data (shown_object state.now user.now filter.now succinct x.now))) }
 {
     let columns = columns_of(alloc, state, filter, x)?;
     let sight = Sight::new(alloc, state, user, x, base_of(state, x));

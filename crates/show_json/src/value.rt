@@ -55,7 +55,8 @@ fn path<'a>(sight: &Sight<'a>) -> Result<PropertyValue<'a>, AllocError>
 }
 
 fn other<'a>(sight: &Sight<'a>, property: SystemProperty) -> Result<PropertyValue<'a>, AllocError>
-    ensures { IfOk result (λ v. value_seen v ≡ system_value sight.now.repository sight.now.user sight.now.object property) }
+    ensures { IfOk result (λ v. value_seen v
+        ≡ system_value sight.now.repository sight.now.user sight.now.object property) }
 {
     let value = system_seen(
         sight.alloc(),
@@ -72,7 +73,8 @@ fn system_of<'a>(
     sight: &Sight<'a>,
     property: SystemProperty,
 ) -> Result<PropertyValue<'a>, AllocError>
-    ensures { IfOk result (λ v. value_seen v ≡ system_value sight.now.repository sight.now.user sight.now.object property) }
+    ensures { IfOk result (λ v. value_seen v
+        ≡ system_value sight.now.repository sight.now.user sight.now.object property) }
 {
     match property {
         SystemProperty::BaseTypeId => Ok(base(sight.base())),
@@ -90,7 +92,8 @@ fn system_of<'a>(
 
 #[tactic(auto, using(crate::specs::ColumnLaws::value_by_setting))]
 fn seen<'a>(sight: &Sight<'a>, column: &Column) -> Result<PropertyValue<'a>, AllocError>
-    ensures { IfOk result (λ v. value_seen v ≡ value_shown sight.now.repository sight.now.user sight.now.object column.now.id) }
+    ensures { IfOk result (λ v. value_seen v
+        ≡ value_shown sight.now.repository sight.now.user sight.now.object column.now.id) }
 {
     match column.property() {
         Some(property) => {
@@ -121,7 +124,8 @@ fn write_text(out: &mut Writer, name: &str, text: &str) -> Result<(), AllocError
 }
 
 fn write_cardinality(out: &mut Writer, def: &PropDef) -> Result<(), AllocError>
-    ensures { OnOk result (out.new ≡ out.old ++ field_tokens (codes "cardinality", string (cardinality_word def.now.cardinality))) }
+    ensures { OnOk result (out.new ≡ out.old
+        ++ field_tokens (codes "cardinality", string (cardinality_word def.now.cardinality))) }
 {
     write_text(out, "cardinality", def.cardinality.word())?;
     Ok(())

@@ -12,6 +12,7 @@ use Rattle.http_grammar.specs.declared.fault.HttpFault.{HttpFault}
 use Rattle.http_grammar.specs.Request.{Head}
 use Rattle.http_grammar.specs.Fields.{expects_continue}
 use Rattle.http_grammar.specs.First.{First, Fault, IsPending, HoldsHead}
+use Rattle.http_reply.specs.Replies.{without_body}
 use Rattle.talk.specs.declared.end.End.{End}
 use Rattle.talk.specs.declared.end.End.TheVariants.{Ended, Bad, ReadFault, WriteFault, Starved}
 use Rattle.talk.specs.Wire.{Wire}
@@ -38,10 +39,6 @@ pub record Turn (C : Type 0) : Type 0 where
 abbrev pub requests : {C : Type 0} → List (Turn C) → List Arrived
 requests ts = map (λ t. t.arrived) ts
 
--- a reply without a body
-abbrev pub emptied : Shown → Shown
-emptied a = record { status = a.status; kind = []; body = []; number = a.number }
-
 -- the causes that can answer HEAD, whose replies have no body (RFC 9110, section 9.3.2)
 abbrev pub is_head_cause : Cause → Bool
 is_head_cause causes.BadMethod = true
@@ -50,7 +47,7 @@ is_head_cause _ = false
 
 -- what is shown of a cause that comes from no version
 abbrev pub plain_shown : Wire → Head → Cause → Shown
-plain_shown w head cause = if bytes_eq head.method (codes "HEAD") && is_head_cause cause then emptied (w.cause_shown cause None) else w.cause_shown cause None
+plain_shown w head cause = if bytes_eq head.method (codes "HEAD") && is_head_cause cause then without_body (w.cause_shown cause None) else w.cause_shown cause None
 
 -- what is shown, with this step number
 abbrev pub with_number : ℕ → Shown → Shown

@@ -11,8 +11,6 @@ mod reply;
 mod served;
 mod session;
 mod step;
-#[cfg(test)]
-mod tests;
 mod turn;
 
 pub use alone::{AloneEnd, run_alone};

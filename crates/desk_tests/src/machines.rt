@@ -1,7 +1,7 @@
 //! A machine that adds numbers, and one desk of it.
-use crate::{Desk, Entry, Halt, Machine, OneDesk, Snapshot, Stop, Version};
 use cm_base::number::Moment;
 use cm_base::text::Text;
+use desk_model::{Desk, Entry, Halt, Machine, OneDesk, Snapshot, Stop, Version};
 use outside::ListClock;
 use std::alloc::Global;
 use std::test::Fail;

@@ -4,7 +4,6 @@ ghost use Rattle.std.proofs.Common.{rules};
 ghost use Rattle.cm_base.specs.declared.cause.Cause.TheVariants as causes;
 ghost use Rattle.talk.specs.declared.asked.Asked.TheVariants.{Write, Question};
 
-use crate::{Asked, End, Served, run_alone};
 use bytes::Bytes;
 use cm_base::cause::Cause;
 use cm_base::fail::Fail as CallFail;
@@ -19,6 +18,7 @@ use http_wire::{Head, Request};
 use outside::{ListClock, MemLink, OpenGate};
 use std::alloc::Global;
 use std::test::Fail;
+use talk::{Asked, End, Served, run_alone};
 
 /// A sum that stays below 100. A call adds to it; the question asks for it.
 struct Sums;

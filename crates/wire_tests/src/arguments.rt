@@ -1,16 +1,16 @@
 //! A form and a target's query, and what is read from them.
-use crate::choice::flag;
-use crate::entries::aces;
-use crate::filter::property_filter;
-use crate::lists::texts;
-use crate::number::number;
-use crate::pairs::Pairs;
-use crate::properties::{properties, typed};
-use crate::read::{form_pairs, with_query};
+use call_parts::readings::PropertyFilter;
 use cm_base::argument::Argument;
 use cm_base::cause::Cause;
 use cm_base::text::Texts;
-use call_parts::readings::PropertyFilter;
+use form_args::choice::flag;
+use form_args::entries::aces;
+use form_args::filter::property_filter;
+use form_args::lists::texts;
+use form_args::number::number;
+use form_args::pairs::Pairs;
+use form_args::properties::{properties, typed};
+use form_args::read::{form_pairs, with_query};
 use std::alloc::{AllocError, Global};
 
 fn form(alloc: Global) -> Result<Pairs, AllocError> {

@@ -1,8 +1,8 @@
 //! Forms from outside: the public standards' shapes, and what is wrong with others.
-use crate::parts::parts;
-use crate::split::split;
 use bytes::Bytes;
 use cm_base::fail::Fail;
+use form_parts::parts::parts;
+use form_parts::split::split;
 use std::alloc::{AllocError, Global};
 use std::test::Fail as Stopped;
 

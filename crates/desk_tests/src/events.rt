@@ -1,8 +1,8 @@
 //! A machine that adds numbers, and sessions that take turns over it.
-use crate::{Core, CoreStop, Done, Event, run_events};
 use cm_base::items::Items;
 use cm_base::number::Moment;
 use cm_base::text::Text;
+use desk_core::{Core, CoreStop, Done, Event, run_events};
 use desk_model::{Entry, Halt, Machine, Version};
 use std::alloc::Global;
 use std::test::Fail;

@@ -1,5 +1,5 @@
 //! Replies and the texts that clients read.
-use crate::replies::text_of;
+use bind_json::replies::text_of;
 use call_parts::replies::{ChildrenReply, ObjectReply, Properties, ShownObject, ShownProperty};
 use cm_base::items::Items;
 use cm_base::shown::Shown;

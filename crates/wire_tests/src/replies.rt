@@ -1,7 +1,7 @@
 //! The bytes of replies, from this project's profile.
-use crate::{cause_shown, fault_cause, send_interim, send_memory, without_body, write_reply};
 use cm_base::cause::Cause;
 use http_grammar::HttpFault;
+use http_reply::{cause_shown, fault_cause, send_interim, send_memory, without_body, write_reply};
 use outside::{Failed, MemSink};
 use std::test::Fail;
 

@@ -1,9 +1,9 @@
 //! Callers and steps, from RFC 7617 and this project's profile, and the parts of a request from RFC 9112.
-use crate::{caller_of, least_of};
 use cm_base::cause::Cause;
 use cm_base::fail::Fail as Refusal;
 use cm_base::user::Users;
 use cm_base::users::read_users;
+use http_caller::{caller_of, least_of};
 use http_wire::{Buffer, Incoming, Named, Request, WireStop, read_request};
 use outside::MemSource;
 use std::alloc::{AllocError, Global};

@@ -1,9 +1,9 @@
 //! Targets and what they address.
-use crate::target::{Target, query_of, target_of};
 use cm_base::argument::Argument;
 use cm_base::cause::Cause;
 use cm_base::fail::Fail;
 use cm_base::text::Texts;
+use request_target::target::{Target, query_of, target_of};
 use std::alloc::{AllocError, Global};
 
 fn are(names: &Texts, one: &str, other: &str) -> bool {

@@ -1,0 +1,9 @@
+//! Tests of machines, desks and sessions; they stand beside their crates, since a crate with tests is proved twice.
+#![tactic(auto)]
+
+#[cfg(test)]
+mod events;
+#[cfg(test)]
+mod machines;
+#[cfg(test)]
+mod sessions;

@@ -1,0 +1,15 @@
+//! Tests of requests, forms and replies; they stand beside their crates, since a crate with tests is proved twice.
+#![tactic(auto)]
+
+#[cfg(test)]
+mod arguments;
+#[cfg(test)]
+mod bodies;
+#[cfg(test)]
+mod callers;
+#[cfg(test)]
+mod parts;
+#[cfg(test)]
+mod replies;
+#[cfg(test)]
+mod targets;
