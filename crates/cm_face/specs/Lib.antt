@@ -1,4 +1,3 @@
 pub mod Faces
 pub mod Numbers
 pub mod Requests
-pub mod Sent

@@ -1,5 +1,0 @@
-pub mod Columns
-pub mod ColumnLaws
-pub mod Ordered
-pub mod OrderedLaws
-pub mod WrittenLaws
