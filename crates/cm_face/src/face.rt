@@ -22,8 +22,10 @@ fn shown_step(
     ensures { Tells (shown_step state.now entry.now) result }
 {
     let (made, reply) = advance(alloc, state, entry)?;
-    let shown = text_of(alloc, &reply, made.step())?;
-    Ok((made, shown))
+    match text_of(alloc, &reply, made.step()) {
+        Ok(shown) => Ok((made, shown)),
+        Err(_) => Err(Halt::Memory),
+    }
 }
 
 fn shown_answer(
