@@ -29,8 +29,10 @@ fn shown_step(
     ensures { Tells (shown_step state.now entry.now) result }
 {
     let (made, reply) = advance(alloc, state, entry)?;
-    let shown = text_of(alloc, &reply, made.step())?;
-    Ok((made, shown))
+    match text_of(alloc, &reply, made.step()) {
+        Ok(shown) => Ok((made, shown)),
+        Err(_) => Err(Halt::Memory),
+    }
 }
 
 // What is sent of a page of children, whose text is written from the state.
