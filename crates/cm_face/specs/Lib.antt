@@ -1,3 +1,4 @@
 pub mod Faces
 pub mod Numbers
 pub mod Requests
+pub mod Sent

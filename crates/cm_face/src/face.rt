@@ -1,17 +1,24 @@
 //! The machine of the server.
 ghost use Rattle.std.specs.Prelude.{◌≡◌, Result};
+ghost use Rattle.cm_base.specs.Judged.{Meets};
 ghost use Rattle.desk_model.specs.Halts.{Tells};
 ghost use Rattle.cm_face.specs.Faces.{shown_step, shown_answer};
+ghost use Rattle.cm_face.specs.Sent.{sent_children, sent_object};
 
-use bind_json::replies::text_of;
+use bind_json::replies::{shown_json, text_of};
+use call_parts::place::Place;
+use call_parts::readings::{PropertyFilter, ReadChildren};
 use cm_base::cause::Cause;
+use cm_base::fail::Fail;
 use cm_base::shown::Shown;
 use cm_base::text::Text;
 use cm_call::question::Question;
 use cm_call::write::Write;
-use cm_repo::calls::{advance, answer};
+use cm_repo::calls::advance;
 use cm_state::state::State;
 use desk_model::{Entry, Halt, Machine};
+use show_json::children::children_text;
+use show_json::one::object_text;
 use std::alloc::Global;
 
 fn shown_step(
@@ -28,6 +35,43 @@ fn shown_step(
     }
 }
 
+// What is sent of a page of children, whose text is written from the state.
+#[tactic(auto, using(crate::proofs::Sent::children_sent, crate::proofs::Sent::children_fail))]
+fn sent_children(alloc: Global, state: &State, user: &Text, q: &ReadChildren) -> Result<Shown, Fail>
+    ensures { Meets (λ s. s) result (sent_children state.now user.now q.now) }
+{
+    let text = children_text(alloc, state, user, q)?;
+    let shown = shown_json(alloc, 200, text, state.step())?;
+    Ok(shown)
+}
+
+// What is sent of an object, whose text is written from the state.
+#[tactic(auto, using(crate::proofs::Sent::object_sent, crate::proofs::Sent::object_fails))]
+fn sent_object(
+    alloc: Global,
+    state: &State,
+    user: &Text,
+    place: &Place,
+    filter: &PropertyFilter,
+    succinct: bool,
+) -> Result<Shown, Fail>
+    ensures { Meets (λ s. s) result (sent_object state.now user.now place.now filter.now succinct) }
+{
+    let text = object_text(alloc, state, user, place, filter, succinct)?;
+    let shown = shown_json(alloc, 200, text, state.step())?;
+    Ok(shown)
+}
+
+fn sent(alloc: Global, state: &State, user: &Text, question: &Question) -> Result<Shown, Fail>
+    ensures { Meets (λ s. s) result (shown_answer state.now user.now question.now) }
+{
+    match question {
+        Question::Object(q) => sent_object(alloc, state, user, &q.place, &q.filter, q.succinct),
+        Question::Properties(q) => sent_object(alloc, state, user, &q.place, &q.filter, q.succinct),
+        Question::Children(q) => sent_children(alloc, state, user, q),
+    }
+}
+
 fn shown_answer(
     alloc: Global,
     state: &State,
@@ -36,9 +80,11 @@ fn shown_answer(
 ) -> Result<Shown, Halt<Cause>>
     ensures { Tells (shown_answer state.now user.now question.now) result }
 {
-    let reply = answer(alloc, state, user, question)?;
-    let shown = text_of(alloc, &reply, state.step())?;
-    Ok(shown)
+    match sent(alloc, state, user, question) {
+        Ok(shown) => Ok(shown),
+        Err(Fail::Refused(cause)) => Err(Halt::Refused(cause)),
+        Err(Fail::Memory) => Err(Halt::Memory),
+    }
 }
 
 /// The machine of the server: the bytes of a reply are made before its step is taken, so that a step that was taken can be told.

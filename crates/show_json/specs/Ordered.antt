@@ -1,0 +1,13 @@
+-- Lists in the order of keys.
+use Rattle.std.specs.Prelude.{ℕ, List, [], ◌∷◌, fold}
+use Rattle.std.specs.Ordering.{nat_cmp, match_ordering}
+use Rattle.std.specs.Cmp.Lexicographic.{slice_cmp}
+
+-- one more at its place by byte order of the keys, or in place of what has its key
+abbrev pub placed : {A : Type 0} → (A → List ℕ) → A → List A → List A
+placed key x [] = x ∷ []
+placed key x (y ∷ ys) = match_ordering (slice_cmp nat_cmp (key x) (key y)) (x ∷ y ∷ ys) (x ∷ ys) (y ∷ placed key x ys)
+
+-- by byte order of the keys; of one key the last
+abbrev pub in_key_order : {A : Type 0} → (A → List ℕ) → List A → List A
+in_key_order key xs = fold (λ ys x. placed key x ys) [] xs

@@ -1,0 +1,163 @@
+//! Columns: the definitions that are shown of the objects of a page, in byte order of their ids.
+ghost use Rattle.std.specs.Prelude.{◌≡◌, [], ◌∷◌, ◌++◌, map, IfOk, OnOk, OnErr};
+ghost use Rattle.core.specs.Ordering.{nat_cmp};
+ghost use Rattle.core.specs.Cmp.Lexicographic.{slice_cmp};
+ghost use Rattle.cm_types.specs.declared.property.PropDef.{PropDef};
+ghost use Rattle.map_keys.specs.Parts.{pointee};
+ghost use Rattle.show_json.specs.Ordered.{in_key_order, placed};
+ghost use Rattle.show_json.specs.Columns.{columns_of, id_of, setting_of};
+
+use call_parts::readings::PropertyFilter;
+use cm_base::object::Object;
+use cm_show::shown::shown_defs;
+use cm_show::system::{SystemProperty, find_system};
+use cm_state::state::State;
+use cm_types::property::PropDef;
+use std::alloc::{AllocError, Global};
+use std::cmp::Ordering;
+use std::marker::Model;
+
+/// A definition that is shown, and which property that the repository sets it is, if it is one.
+#[derive(Drop)]
+pub struct Column<'a> {
+    def: &'a PropDef,
+    property: Option<SystemProperty>,
+}
+
+impl<'a> Model for Column<'a> {
+    ghost use Rattle.std.specs.Prelude.{◌≡◌};
+    ghost use Rattle.cm_types.specs.declared.property.PropDef.{PropDef};
+    ghost use Rattle.show_json.specs.Columns.{setting_of};
+
+    ghost Value = { PropDef };
+
+    ghost view = { λ c. c.def.now };
+
+    ghost invariant = { λ c. c.property ≡ setting_of c.def.now.id };
+}
+
+fn setting(def: &PropDef) -> Option<SystemProperty>
+    ensures { result ≡ setting_of def.now.id }
+{
+    find_system(def.id.as_str())
+}
+
+impl<'a> Column<'a> {
+    /// The column of a definition.
+    pub fn of(def: &'a PropDef) -> Column<'a>
+        ensures { result ≡ def.now }
+    {
+        Column {
+            def,
+            property: setting(def),
+        }
+    }
+
+    /// The definition.
+    pub fn def(&self) -> &'a PropDef
+        ensures { result.now ≡ self.now }
+    {
+        self.def
+    }
+
+    /// The property that the repository sets, if it is one.
+    pub fn property(&self) -> Option<SystemProperty>
+        ensures { result ≡ setting_of self.now.id }
+    {
+        self.property
+    }
+
+    fn again(&self) -> Column<'a>
+        ensures { result ≡ self.now }
+    {
+        Column {
+            def: self.def,
+            property: self.property,
+        }
+    }
+}
+
+fn add_all<'a>(all: &mut Vec<Column<'a>>, columns: &[Column<'a>]) -> Result<(), AllocError>
+    ensures { OnOk result (all.new.items ≡ all.old.items ++ columns.now) }
+{
+    for column in columns {
+        all.push(column.again())?;
+    }
+    Ok(())
+}
+
+fn order(a: &Column, b: &Column) -> Ordering
+    ensures { result ≡ slice_cmp nat_cmp a.now.id b.now.id }
+{
+    a.def.id.cmp(&b.def.id)
+}
+
+// Adds the columns with one more at its place.
+fn add_placed<'a>(
+    all: &mut Vec<Column<'a>>,
+    column: Column<'a>,
+    rest: &[Column<'a>],
+) -> Result<(), AllocError>
+    ensures { OnOk result (all.new.items ≡ all.old.items ++ placed id_of column.entry rest.now) }
+{
+    match rest {
+        [] => {
+            all.push(column)?;
+            Ok(())
+        }
+        [first, more @ ..] => match order(&column, first) {
+            Ordering::Less => {
+                all.push(column)?;
+                add_all(all, rest)?;
+                Ok(())
+            }
+            Ordering::Equal => {
+                all.push(column)?;
+                add_all(all, more)?;
+                Ok(())
+            }
+            Ordering::Greater => {
+                all.push(first.again())?;
+                add_placed(all, column, more)?;
+                Ok(())
+            }
+        },
+    }
+}
+
+fn with_placed<'a>(
+    alloc: Global,
+    columns: &[Column<'a>],
+    column: Column<'a>,
+) -> Result<Vec<Column<'a>>, AllocError>
+    ensures { IfOk result (λ all. all.items ≡ placed id_of column.entry columns.now) }
+{
+    let mut all = Vec::new(alloc);
+    add_placed(&mut all, column, columns)?;
+    Ok(all)
+}
+
+/// The columns of these definitions, in byte order of their ids; of one id the last.
+pub fn columns<'a>(alloc: Global, defs: &[&'a PropDef]) -> Result<Vec<Column<'a>>, AllocError>
+    ensures { IfOk result (λ all. all.items ≡ in_key_order id_of (map pointee defs.now)) }
+{
+    let mut all = Vec::new(alloc);
+    for def in defs {
+        all = with_placed(alloc, &all, Column::of(def))?;
+    }
+    Ok(all)
+}
+
+/// The columns of an object: of the definitions that are shown.
+pub fn columns_of<'a>(
+    alloc: Global,
+    state: &'a State,
+    filter: &PropertyFilter,
+    x: &Object,
+) -> Result<Vec<Column<'a>>, AllocError>
+    ensures { IfOk result (λ all. all.items ≡ columns_of state.now filter.now x.now) }
+{
+    let defs = shown_defs(alloc, state, filter, x)?;
+    let all = columns(alloc, &defs)?;
+    Ok(all)
+}
