@@ -24,7 +24,7 @@ fn is_root(state: &State, root: &Object) -> bool {
 
 fn has_the_root_alone(state: &State) -> bool {
     match state.object(Oid(1)) {
-        Some(root) => state.len() == 1 && state.step() == 3 && is_root(state, root),
+        Some(root) => state.next_number() == 2 && state.step() == 3 && is_root(state, root),
         None => false,
     }
 }
