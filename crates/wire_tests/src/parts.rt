@@ -1,6 +1,9 @@
 //! Forms from outside: the public standards' shapes, and what is wrong with others.
 use bytes::Bytes;
+use call_parts::stream::GivenStream;
 use cm_base::fail::Fail;
+use cm_base::items::Items;
+use form_args::pairs::Pair;
 use form_parts::parts::parts;
 use form_parts::split::split;
 use std::alloc::{AllocError, Global};
@@ -63,6 +66,24 @@ fn a_body_ends_with_its_last_delimiter(rt: HostRuntime) -> Result<(), Stopped> {
     Ok(())
 }
 
+fn has_its_argument(pairs: &Items<Pair>) -> bool {
+    match pairs.as_slice() {
+        [pair] => pair.name.is_str("a\"b") && pair.value.is_str("v"),
+        _ => false,
+    }
+}
+
+fn has_its_content(content: &Option<GivenStream>) -> bool {
+    match content {
+        Some(stream) => {
+            stream.kind.as_str() == "text/plain"
+                && stream.pieces.len() == 2
+                && matches!(&stream.file, Some(file) if file.is_str("t.txt"))
+        }
+        None => false,
+    }
+}
+
 #[test]
 fn arguments_and_content_are_told_apart(rt: HostRuntime) -> Result<(), Stopped> {
     let alloc = rt.alloc();
@@ -70,23 +91,9 @@ fn arguments_and_content_are_told_apart(rt: HostRuntime) -> Result<(), Stopped> 
         alloc,
         b"--B\r\nContent-Disposition: form-data; name=\"a\\\"b\"\r\n\r\nv\r\n--B\r\ncontent-disposition: FORM-DATA; filename*=x; filename=t.txt; name=content\r\n\r\nab\r\n--B--",
     )?;
-    let Ok(form) = parts(alloc, b"B", &body) else {
-        assert!(rt; false);
-        return Ok(());
-    };
-    match form.pairs.as_slice() {
-        [pair] => assert!(rt; pair.name.is_str("a\"b") && pair.value.is_str("v")),
-        _ => assert!(rt; false),
-    }
-    let Some(stream) = form.content else {
-        assert!(rt; false);
-        return Ok(());
-    };
-    assert_eq!(rt; stream.kind.as_str(), "text/plain");
-    assert_eq!(rt; stream.pieces.len(), 2);
-    match &stream.file {
-        Some(file) => assert!(rt; file.is_str("t.txt")),
-        None => assert!(rt; false),
+    match parts(alloc, b"B", &body) {
+        Ok(form) => assert!(rt; has_its_argument(&form.pairs) && has_its_content(&form.content)),
+        Err(_) => assert!(rt; false),
     }
     Ok(())
 }
