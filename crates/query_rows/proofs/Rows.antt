@@ -12,7 +12,7 @@ use Rattle.cm_base.specs.declared.access.Ace.{Ace}
 use Rattle.cm_base.specs.declared.access.Level.TheVariants as levels
 use Rattle.cm_base.specs.declared.user.User.{User}
 use Rattle.cm_base.specs.Judged.{Judged, ◌>>=◌}
-use Rattle.cm_basetypes.specs.BaseTypes.{base_types}
+use Rattle.cm_types.specs.BaseTypes.{base_types}
 use Rattle.cmis_spec.specs.Repository.{Repository, opening, root, levels_up}
 use Rattle.ql_tree.specs.declared.tree.Column.{Column}
 use Rattle.ql_tree.specs.declared.tree.Comparison.TheVariants as comparisons
