@@ -30,20 +30,20 @@ output_of w ts rest over output r f ReadFault e h = apart (λ n. n == 3) 3 4 ref
 output_of w ts rest over output r f WriteFault e h = e.1
 output_of w ts rest over output r f Starved e h = apart (λ n. n == 7) 7 4 refl refl h
 
-pub failed : (asked : Option Asked) (clock clock' : Option Words) (before : SourceTold) (empty : SinkTold) (after : SourceTold) (full : SinkTold) (status : ℕ) → Ran asked clock clock' before empty after full status → OnlyWhereFailed before empty after full status
-failed None clock clock' before empty after full status (inl h) = record {
+pub failed : (asked : Option Asked) (clock : Option Words) (before : SourceTold) (empty : SinkTold) (after : SourceTold) (full : SinkTold) (status : ℕ) → Ran asked clock before empty after full status → OnlyWhereFailed before empty after full status
+failed None clock before empty after full status (inl h) = record {
   input = λ e. apart (λ n. n == 7) 7 3 refl refl (sym h.0 ∙ e);
   output = λ e. apart (λ n. n == 7) 7 4 refl refl (sym h.0 ∙ e);
 }
-failed None clock clock' before empty after full status (inr (kept, same, h)) = record {
+failed None clock before empty after full status (inr (same, h)) = record {
   input = λ e. apart (λ n. n == 2) 2 3 refl refl (sym h.0 ∙ e);
   output = λ e. apart (λ n. n == 2) 2 4 refl refl (sym h.0 ∙ e);
 }
-failed (Some (Pipe asked)) clock clock' before empty after full status (inl h) = record {
+failed (Some (Pipe asked)) clock before empty after full status (inl h) = record {
   input = λ e. apart (λ n. n == 7) 7 3 refl refl (sym h.0 ∙ e);
   output = λ e. apart (λ n. n == 7) 7 4 refl refl (sym h.0 ∙ e);
 }
-failed (Some (Pipe asked)) clock clock' before empty after full status (inr p) =
+failed (Some (Pipe asked)) clock before empty after full status (inr p) =
     let s = p.served.ran.session in
     record {
       input = λ e. input_of _ s.turns _ _ _ _ _ p.served.end s.ends (sym p.served.status_is ∙ e);

@@ -35,12 +35,13 @@ status_of WriteFault = 4
 status_of Starved = 7
 status_of (Bad fault) = 8
 
--- A session over this opening and a clock with these words, with nobody beside it, and the words that the clock is then still to give.
+-- A session over this opening and a clock with these words, with nobody beside it; the session takes no other words of the clock than its turns need, and leaves these.
 -- A session that ends well or by a fault of its bytes is the session alone on all that the source had left.
-pub record Served (opened : Repository) (users : List User) (words : Option Words) (before : SourceTold) (empty : SinkTold) (after : SourceTold) (full : SinkTold) (status : ℕ) (left : Option Words) : Type 0 where
+pub record Served (opened : Repository) (users : List User) (words : Option Words) (before : SourceTold) (empty : SinkTold) (after : SourceTold) (full : SinkTold) (status : ℕ) : Type 0 where
   pub end : End
   pub status_is : status ≡ status_of end
   pub journal : List (Entry Write)
+  pub left : Option Words
   pub ran : RunAlone repository opened users words before empty after full end journal left
 
 -- a clock that always gives this word
@@ -52,19 +53,12 @@ abbrev pub Begins : Option Moment → Option Words → Moment → Option Words �
 Begins (Some at) clock root words = (root ≡ at) × ((word : ℕ) × (at ≡ moment_of word) × (words ≡ Some (always word)))
 Begins None clock root words = IfSome clock (λ w. (root ≡ moment_of (first_word w)) × (words ≡ Some (rest_words w)))
 
--- Where the words name a moment the clock is not asked. Else it is still to give what the session has left: no other word is taken.
-abbrev pub Leaves : Option Moment → Option Words → Option Words → Option Words → Type 0
-Leaves (Some at) clock left clock' = clock' ≡ clock
-Leaves None clock left clock' = clock' ≡ left
-
 -- a run that serves one session, over the repository with the root alone
-pub record Piped (users : List User) (at : Option Moment) (from : ℕ) (clock clock' : Option Words) (before : SourceTold) (empty : SinkTold) (after : SourceTold) (full : SinkTold) (status : ℕ) : Type 0 where
+pub record Piped (users : List User) (at : Option Moment) (from : ℕ) (clock : Option Words) (before : SourceTold) (empty : SinkTold) (after : SourceTold) (full : SinkTold) (status : ℕ) : Type 0 where
   pub root : Moment
   pub words : Option Words
   pub begins : Begins at clock root words
-  pub left : Option Words
-  pub served : Served (opening base_types users root from) users words before empty after full status left
-  pub leaves : Leaves at clock left clock'
+  pub served : Served (opening base_types users root from) users words before empty after full status
 
 -- what is written for words that are none of the program's
 abbrev pub not_valid : List ℕ
@@ -78,14 +72,14 @@ Refused empty full status = (status ≡ 2) × (Took empty full not_valid ⊎ Ros
 abbrev pub Unbegun : SourceTold → SinkTold → SourceTold → SinkTold → ℕ → Type 0
 Unbegun before empty after full status = (status ≡ 7) × (after ≡ before) × (full ≡ empty)
 
--- Of a run with these words, by the words that the clock had to give and then still has. Other words than the program's ask no clock and read nothing.
-abbrev pub Ran : Option Asked → Option Words → Option Words → SourceTold → SinkTold → SourceTold → SinkTold → ℕ → Type 0
-Ran None clock clock' before empty after full status =
+-- Of a run with these words, by the words that the clock had to give. Other words than the program's read nothing.
+abbrev pub Ran : Option Asked → Option Words → SourceTold → SinkTold → SourceTold → SinkTold → ℕ → Type 0
+Ran None clock before empty after full status =
     Unbegun before empty after full status
-    ⊎ (clock' ≡ clock) × (after ≡ before) × Refused empty full status
-Ran (Some (Pipe asked)) clock clock' before empty after full status =
+    ⊎ (after ≡ before) × Refused empty full status
+Ran (Some (Pipe asked)) clock before empty after full status =
     Unbegun before empty after full status
-    ⊎ Piped asked.users asked.at asked.from clock clock' before empty after full status
+    ⊎ Piped asked.users asked.at asked.from clock before empty after full status
 
 -- 3 and 4 come only where the input, the output failed in this call
 pub record OnlyWhereFailed (before : SourceTold) (empty : SinkTold) (after : SourceTold) (full : SinkTold) (status : ℕ) : Type 0 where

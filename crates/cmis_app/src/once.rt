@@ -2,7 +2,6 @@
 ghost use Rattle.std.specs.Prelude.{◌≡◌, ◌⊎◌, ◌≤◌, ℕ, map, codes, string_bytes, Option, Some, None, IfSome};
 ghost use Rattle.cm_types.specs.BaseTypes.{base_types};
 ghost use Rattle.cmis_spec.specs.Repository.{opening};
-ghost use Rattle.outside.specs.Clocks.{Words};
 ghost use Rattle.desk_model.specs.Clocks.{moment_of};
 ghost use Rattle.cmis_words.specs.Programs.{words_of};
 ghost use Rattle.cmis_words.specs.Bounds.{IsMoment};
@@ -74,8 +73,7 @@ fn serve<L: Link, C: Clock + Drop>(
     link: &mut L,
 ) -> u8
     ensures ran { Unbegun (L.Source.told link.old) (L.Sink.told link.old) (L.Source.told link.new) (L.Sink.told link.new) result
-        ⊎ ((left : Option Words)
-        × Served opening users.now (C.words clock) (L.Source.told link.old) (L.Sink.told link.old) (L.Source.told link.new) (L.Sink.told link.new) result left) }
+        ⊎ Served opening users.now (C.words clock) (L.Source.told link.old) (L.Sink.told link.old) (L.Source.told link.new) (L.Sink.told link.new) result }
     ensures stands_for { L.stands_for link.new ≡ L.stands_for link.old }
 {
     match run_alone::<Face, C, L, OpenGate>(alloc, opening, clock, users, link, &OpenGate) {
@@ -99,8 +97,8 @@ fn at_moment<L: Link>(alloc: Global, users: &Users, moment: Moment, from: u64, l
     requires moment { IsMoment moment }
     requires from { from ≤ 1048576 }
     ensures ran { Unbegun (L.Source.told link.old) (L.Sink.told link.old) (L.Source.told link.new) (L.Sink.told link.new) result
-        ⊎ ((word : ℕ) × (left : Option Words) × (moment ≡ moment_of word)
-        × Served (opening base_types users.now moment from) users.now (Some (always word)) (L.Source.told link.old) (L.Sink.told link.old) (L.Source.told link.new) (L.Sink.told link.new) result left) }
+        ⊎ ((word : ℕ) × (moment ≡ moment_of word)
+        × Served (opening base_types users.now moment from) users.now (Some (always word)) (L.Source.told link.old) (L.Sink.told link.old) (L.Source.told link.new) (L.Sink.told link.new) result) }
     ensures stands_for { L.stands_for link.new ≡ L.stands_for link.old }
 {
     let word = word_of(moment);
@@ -121,7 +119,7 @@ fn by_clock<L: Link, C: Clock>(
 ) -> u8
     requires from { from ≤ 1048576 }
     ensures ran { Unbegun (L.Source.told link.old) (L.Sink.told link.old) (L.Source.told link.new) (L.Sink.told link.new) result
-        ⊎ Piped users.now None from (C.words clock.old) (C.words clock.new) (L.Source.told link.old) (L.Sink.told link.old) (L.Source.told link.new) (L.Sink.told link.new) result }
+        ⊎ Piped users.now None from (C.words clock.old) (L.Source.told link.old) (L.Sink.told link.old) (L.Source.told link.new) (L.Sink.told link.new) result }
     ensures stands_for { L.stands_for link.new ≡ L.stands_for link.old }
 {
     let root = moment_of_word(clock.now());
@@ -143,7 +141,7 @@ fn piped<L: Link, C: Clock>(alloc: Global, asked: &Pipe, link: &mut L, clock: &m
     requires at { IfSome asked.now.at IsMoment }
     requires from { asked.now.from ≤ 1048576 }
     ensures ran { Unbegun (L.Source.told link.old) (L.Sink.told link.old) (L.Source.told link.new) (L.Sink.told link.new) result
-        ⊎ Piped asked.now.users asked.now.at asked.now.from (C.words clock.old) (C.words clock.new) (L.Source.told link.old) (L.Sink.told link.old) (L.Source.told link.new) (L.Sink.told link.new) result }
+        ⊎ Piped asked.now.users asked.now.at asked.now.from (C.words clock.old) (L.Source.told link.old) (L.Sink.told link.old) (L.Source.told link.new) (L.Sink.told link.new) result }
     ensures stands_for { L.stands_for link.new ≡ L.stands_for link.old }
 {
     match asked.at {
@@ -154,7 +152,7 @@ fn piped<L: Link, C: Clock>(alloc: Global, asked: &Pipe, link: &mut L, clock: &m
 
 // Runs the program with these words.
 fn run_words<L: Link, C: Clock>(alloc: Global, words: &[String], link: &mut L, clock: &mut C) -> u8
-    ensures ran { Ran (words_of (map string_bytes words.now)) (C.words clock.old) (C.words clock.new) (L.Source.told link.old) (L.Sink.told link.old) (L.Source.told link.new) (L.Sink.told link.new) result }
+    ensures ran { Ran (words_of (map string_bytes words.now)) (C.words clock.old) (L.Source.told link.old) (L.Sink.told link.old) (L.Source.told link.new) (L.Sink.told link.new) result }
     ensures stands_for { L.stands_for link.new ≡ L.stands_for link.old }
 {
     words_are_bounded();
@@ -167,7 +165,7 @@ fn run_words<L: Link, C: Clock>(alloc: Global, words: &[String], link: &mut L, c
 
 // The same, and what the statuses of the sides that failed say.
 fn run_link<L: Link, C: Clock>(alloc: Global, words: &[String], link: &mut L, clock: &mut C) -> u8
-    ensures ran { Ran (words_of (map string_bytes words.now)) (C.words clock.old) (C.words clock.new) (L.Source.told link.old) (L.Sink.told link.old) (L.Source.told link.new) (L.Sink.told link.new) result }
+    ensures ran { Ran (words_of (map string_bytes words.now)) (C.words clock.old) (L.Source.told link.old) (L.Sink.told link.old) (L.Source.told link.new) (L.Sink.told link.new) result }
     ensures failed { OnlyWhereFailed (L.Source.told link.old) (L.Sink.told link.old) (L.Source.told link.new) (L.Sink.told link.new) result }
     ensures stands_for { L.stands_for link.new ≡ L.stands_for link.old }
 {
@@ -185,7 +183,7 @@ pub fn run_once<I: Source, O: Sink, C: Clock>(
     output: &mut O,
     clock: &mut C,
 ) -> u8
-    ensures ran { Ran (words_of (map string_bytes words.now)) (C.words clock.old) (C.words clock.new) (I.told input.old) (O.told output.old) (I.told input.new) (O.told output.new) result }
+    ensures ran { Ran (words_of (map string_bytes words.now)) (C.words clock.old) (I.told input.old) (O.told output.old) (I.told input.new) (O.told output.new) result }
     ensures failed { OnlyWhereFailed (I.told input.old) (O.told output.old) (I.told input.new) (O.told output.new) result }
 {
     let mut link = Lent { input, output };

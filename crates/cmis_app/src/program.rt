@@ -126,7 +126,7 @@ where
     H::Link: Send,
     ensures once { serve_of (map string_bytes words.now) ≡ None → (result.closing ≡ None)
         × ((result.status ≡ 7) × (I.told input.new ≡ I.told input.old) × (O.told output.new ≡ O.told output.old)
-        ⊎ RunsOnce (words_of (map string_bytes words.now)) (C.words clock.old) (C.words clock.new) (I.told input.old) (O.told output.old) (I.told input.new) (O.told output.new) result.status
+        ⊎ RunsOnce (words_of (map string_bytes words.now)) (C.words clock.old) (I.told input.old) (O.told output.old) (I.told input.new) (O.told output.new) result.status
         × OnlyWhereFailed (I.told input.old) (O.told output.old) (I.told input.new) (O.told output.new) result.status) }
     ensures served { IfSome (serve_of (map string_bytes words.now)) (λ asked. MatchOption result.closing (Unserved (H.told host.old) (H.told host.new) result.status × (O.told output.new ≡ O.told output.old))
         (λ c. ServedAll H.Link.Source.told H.Link.Sink.told asked.users (C.words clock.old) (H.left host.old) c.last c.ended
