@@ -124,14 +124,7 @@ fn by_clock<L: Link, C: Clock>(
 {
     let root = moment_of_word(clock.now());
     match open(alloc, users, root, from) {
-        Ok(state) => {
-            match run_alone::<Face, &mut C, L, OpenGate>(
-                alloc, state, clock, users, link, &OpenGate,
-            ) {
-                Ok(run) => status_of(run.end),
-                Err(_) => WANTS_MEMORY,
-            }
-        }
+        Ok(state) => serve(alloc, state, clock, users, link),
         Err(_) => WANTS_MEMORY,
     }
 }
