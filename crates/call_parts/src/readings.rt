@@ -1,6 +1,7 @@
 //! The arguments of readings, one record a call (CMIS 1.1, section 2.2).
 use crate::names::Names;
 use crate::place::Place;
+use cm_base::text::Text;
 
 /// Which properties a reply shows: all, or those of these query names (section 2.2.1.2.1). cmis:objectId is always shown.
 #[derive(Drop)]
@@ -34,5 +35,36 @@ pub struct ReadChildren {
     pub max_items: u64,
     /// How many are passed over.
     pub skip_count: u64,
+    pub succinct: bool,
+}
+
+/// An object without a selector (section 5.4.2.3): the children of a folder, the content of a document, or else the object itself.
+#[derive(Drop)]
+pub struct ReadDefault {
+    /// The arguments of children; the place, the filter and the form are those of each.
+    pub children: ReadChildren,
+    pub stream: Option<Text>,
+}
+
+/// The content of a document, or its rendition with this stream id (section 2.2.4.10).
+#[derive(Drop)]
+pub struct ReadContent {
+    pub place: Place,
+    pub stream: Option<Text>,
+}
+
+/// The versions of a document (section 2.2.7.6).
+#[derive(Drop)]
+pub struct ReadVersions {
+    pub place: Place,
+    pub filter: PropertyFilter,
+    pub succinct: bool,
+}
+
+/// The parent of a folder (section 2.2.3.4).
+#[derive(Drop)]
+pub struct ReadParent {
+    pub place: Place,
+    pub filter: PropertyFilter,
     pub succinct: bool,
 }

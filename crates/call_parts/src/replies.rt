@@ -1,5 +1,7 @@
 //! What replies hold, one record a shape (CMIS 1.1, section 5.2.11).
+use bytes::Bytes;
 use cm_base::items::Items;
+use cm_base::media::MediaType;
 use cm_base::text::Text;
 use cm_base::value::{Value, Values};
 use cm_types::property::{Cardinality, PropertyKind};
@@ -48,4 +50,11 @@ pub struct ChildrenReply {
     pub objects: ShownObjects,
     pub has_more_items: bool,
     pub num_items: u64,
+}
+
+/// Bytes with their media type.
+#[derive(Drop)]
+pub struct ContentReply {
+    pub kind: MediaType,
+    pub body: Bytes,
 }

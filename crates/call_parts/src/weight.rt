@@ -1,11 +1,12 @@
 //! What a write adds to the cost of the repository.
-ghost use Rattle.std.specs.Prelude.{◌≡◌, ◌+◌};
+ghost use Rattle.std.specs.Prelude.{◌≡◌, ◌+◌, ◌++◌, [], unwrap_or, option_map};
 ghost use Rattle.std.specs.List.{flat_map};
 ghost use Rattle.call_parts.specs.Weight.{weight_of_create_folder, weight_of_texts, bounded, text_weight, texts_of_place, texts_of_given, texts_of_ace, texts_of_create_folder};
-ghost use Rattle.call_parts.specs.Versions.{weight_of_check_out};
+ghost use Rattle.call_parts.specs.Versions.{maybe, texts_of_stream, bytes_of_stream, weight_of_create_document, weight_of_check_out, weight_of_cancel, weight_of_check_in, weight_of_delete};
 
 use crate::place::Place;
-use crate::versions::CheckOut;
+use crate::stream::GivenStream;
+use crate::versions::{CancelCheckOut, CheckIn, CheckOut, CreateDocument, Delete};
 use crate::writes::{AceRequests, CreateFolder};
 use cm_base::text::{Text, Texts};
 use cm_types::given::Givens;
@@ -72,9 +73,89 @@ pub fn weight_of_create_folder(call: &CreateFolder) -> u64
     with_create_folder(64, call)
 }
 
+fn with_maybe(so_far: u64, text: &Option<Text>) -> u64
+    ensures { result ≡ bounded (so_far + weight_of_texts (maybe text.now)) }
+{
+    match text {
+        Some(text) => with_text(so_far, text),
+        None => so_far,
+    }
+}
+
+fn with_maybe_place(so_far: u64, place: &Option<Place>) -> u64
+    ensures { result ≡ bounded (so_far + weight_of_texts (unwrap_or (option_map texts_of_place place.now) [])) }
+{
+    match place {
+        Some(place) => with_place(so_far, place),
+        None => so_far,
+    }
+}
+
+// The media type, the file name where one is given, and the bytes.
+fn with_stream(so_far: u64, stream: &Option<GivenStream>) -> u64
+    ensures { result ≡ bounded (so_far + weight_of_texts (texts_of_stream stream.now) + bytes_of_stream stream.now) }
+{
+    match stream {
+        Some(stream) => {
+            let typed = so_far
+                .saturating_add(stream.kind.as_str().len() as u64)
+                .saturating_add(64);
+            with_maybe(typed, &stream.file).saturating_add(stream.pieces.len())
+        }
+        None => so_far,
+    }
+}
+
+// The texts of a createDocument, but those of its stream.
+fn with_create_document(so_far: u64, call: &CreateDocument) -> u64
+    ensures { result ≡ bounded (so_far + weight_of_texts (unwrap_or (option_map texts_of_place call.now.place) []
+        ++ flat_map texts_of_given call.now.properties
+        ++ call.now.policies
+        ++ flat_map texts_of_ace call.now.remove
+        ++ flat_map texts_of_ace call.now.add)) }
+{
+    let placed = with_maybe_place(so_far, &call.place);
+    let given = with_givens(placed, &call.properties);
+    let ruled = with_texts(given, &call.policies);
+    let less = with_aces(ruled, &call.remove);
+    with_aces(less, &call.add)
+}
+
+/// What a createDocument weighs: 64 for the call, for each of its texts its bytes and 64, and the bytes of its stream.
+pub fn weight_of_create_document(call: &CreateDocument) -> u64
+    ensures { result ≡ weight_of_create_document call.now }
+{
+    let told = with_create_document(64, call);
+    with_stream(told, &call.stream)
+}
+
 /// What a checkOut weighs.
 pub fn weight_of_check_out(call: &CheckOut) -> u64
     ensures { result ≡ weight_of_check_out call.now }
+{
+    with_place(64, &call.place)
+}
+
+/// What a cancelCheckOut weighs.
+pub fn weight_of_cancel(call: &CancelCheckOut) -> u64
+    ensures { result ≡ weight_of_cancel call.now }
+{
+    with_place(64, &call.place)
+}
+
+/// What a checkIn weighs, its stream's bytes among it.
+pub fn weight_of_check_in(call: &CheckIn) -> u64
+    ensures { result ≡ weight_of_check_in call.now }
+{
+    let placed = with_place(64, &call.place);
+    let told = with_maybe(placed, &call.comment);
+    let given = with_givens(told, &call.properties);
+    with_stream(given, &call.stream)
+}
+
+/// What a delete weighs.
+pub fn weight_of_delete(call: &Delete) -> u64
+    ensures { result ≡ weight_of_delete call.now }
 {
     with_place(64, &call.place)
 }

@@ -1,3 +1,4 @@
 mod Nested
 mod Places
+mod Put
 mod Tables

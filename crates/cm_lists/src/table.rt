@@ -1,5 +1,5 @@
 //! Lists in the order of their members' numbers.
-ghost use Rattle.std.specs.Prelude.{◌≡◌, ℕ, ◌==◌, ◌<◌, List, [], ◌∷◌, ◌++◌, All, map, find, filter, not, is_some, length, if◌then◌else◌, true, IfOk, option_copied};
+ghost use Rattle.std.specs.Prelude.{◌≡◌, ℕ, ◌==◌, ◌<◌, nat_lt, List, [], ◌∷◌, ◌++◌, All, map, find, filter, not, is_some, length, if◌then◌else◌, true, IfOk, option_copied};
 ghost use Rattle.cm_lists.specs.Keyed.{keyed, Rises};
 ghost use Rattle.cm_map.specs.Rests.{rest};
 
@@ -117,6 +117,18 @@ impl<V: Numbered> Table<V> {
     pub fn with_member(&self, alloc: Global, member: V) -> Result<Table<V>, AllocError>
         requires there { is_some (find (λ x. V.number x == V.number member) self.now) ≡ true }
         ensures { IfOk result (λ t. t ≡ map (λ x. if V.number x == V.number member then member else x) self.now) }
+    {
+        let _rising = self.entries.len();
+        let number = member.number();
+        let entries = self.entries.with(alloc, number, member)?;
+        Ok(Table { entries })
+    }
+
+    /// The list with the member in its place by its number, in place of one that has its number.
+    pub fn with(&self, alloc: Global, member: V) -> Result<Table<V>, AllocError>
+        ensures { IfOk result (λ t. t ≡
+            filter (λ x. nat_lt (V.number x) (V.number member)) self.now
+            ++ member ∷ filter (λ x. nat_lt (V.number member) (V.number x)) self.now) }
     {
         let _rising = self.entries.len();
         let number = member.number();

@@ -45,7 +45,8 @@ fn reads_end(state: &State, user: &Text, x: &Object) -> bool
     }
 }
 
-fn oid_named(id: &Text) -> Option<Oid>
+/// The number that an id names, if it names one. Takes no memory.
+pub fn oid_named(id: &Text) -> Option<Oid>
     ensures { result ≡ oid_named id.now }
 {
     match read_u64(id.bytes()) {

@@ -3,7 +3,6 @@ mod Bounds
 mod Drafts
 pub mod Each
 mod Entries
-mod Filled
 pub mod Laws
 mod Looked
 mod Numbers

@@ -1,16 +1,15 @@
 -- Sets of numbers as maps, and their keys.
-use Rattle.std.proofs.Common.{◌≡◌, ℕ, ◌<◌, ◌==◌, ◌&&◌, ◌||◌, Bool, true, false, List, [], ◌∷◌, ◌++◌, All, map, cond, Option, Some, None, is_some, T, refl, ap, sym, ◌∙◌, arith}
+use Rattle.std.proofs.Common.{◌≡◌, ℕ, ◌<◌, ◌≤◌, ◌+◌, ◌==◌, ◌&&◌, ◌||◌, Bool, true, false, List, [], ◌∷◌, ◌++◌, All, map, length, take, get_or, cond, Option, Some, is_some, T, refl, ap, sym, ◌∙◌, subst, arith}
 use Rattle.std.specs.List.{list_any}
 use Rattle.core.specs.Ordering.{nat_cmp, is_lt}
 use Rattle.core.specs.Cmp.{nat_cmp_total, unsigned_tied}
 use Rattle.core.specs.FinMap.Entries.{find, put, find-put, below_all, is_sorted}
-use Rattle.std.proofs.lemmas.List.Elements.{All-nil, All-cons}
+use Rattle.std.proofs.lemmas.List.{take_more}
+use Rattle.std.proofs.lemmas.List.Elements.{All-nil, All-cons, All-head, All-tail, All-append, All-weaker}
 use Rattle.cm_base.specs.declared.number.Oid.{Oid}
-use Rattle.cm_base.specs.declared.object.Object.{Object}
 use Rattle.cmis_spec.specs.Repository.{same}
 use Rattle.cmis_laws.proofs.Lists.{by_test}
 use Rattle.cm_lists.specs.Keyed.{Rises}
-use Rattle.cm_state.specs.Looks.{has_number}
 use Rattle.cm_state.proofs.Others.{flip}
 
 -- a number more
@@ -59,3 +58,25 @@ member_keys (e ∷ es) n = by_test (n.0 == e.0)
 pub any_values : {A : Type 0} (p : A → Bool) (es : List (ℕ × A)) → list_any (λ e. p e.1) es ≡ list_any p (map (λ e. e.1) es)
 any_values p [] = refl
 any_values p (e ∷ es) = ap (λ b. p e.1 || b) (any_values p es)
+
+-- ---- a greater number at the end
+
+abbrev below : ℕ → Oid → Type 0
+below n m = m.0 < n
+
+all_last : (P : Oid → Type 0) (xs : List Oid) (x : Oid) → All P xs → P x → All P (xs ++ x ∷ [])
+all_last P xs x a p = All-append P xs (x ∷ []) a (All-cons P x [] p (All-nil P))
+
+rising_last : (xs : List Oid) (x : Oid) → Rises (λ n. n.0) xs → All (below x.0) xs → Rises (λ n. n.0) (xs ++ x ∷ [])
+rising_last [] x r a = (All-nil (λ (m : Oid). x.0 < m.0), tt)
+rising_last (y ∷ ys) x r a = (all_last (λ m. y.0 < m.0) ys x r.0 (All-head (below x.0) y ys a), rising_last ys x r.1 (All-tail (below x.0) y ys a))
+
+pub rising_more : (xs : List Oid) (i : ℕ) (d : Oid) (least : ℕ) → i < length xs → Rises (λ n. n.0) (take i xs) → All (λ n. n.0 < least) (take i xs) → least ≤ (get_or xs i d).0
+    → Rises (λ n. n.0) (take (i + 1) xs) × All (λ n. n.0 < (get_or xs i d).0 + 1) (take (i + 1) xs)
+rising_more xs i d least l r a h =
+    let x : Oid = get_or xs i d in
+    let old : List Oid = take i xs in
+    subst (λ ns. Rises (λ n. n.0) ns × All (below (x.0 + 1)) ns) (sym (take_more xs i d l)) (
+      rising_last old x r (All-weaker (below least) (below x.0) (λ m k. omega (arith, k, h)) old a),
+      all_last (below (x.0 + 1)) old x (All-weaker (below least) (below (x.0 + 1)) (λ m k. omega (arith, k, h)) old a) (omega arith),
+    )

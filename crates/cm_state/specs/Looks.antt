@@ -5,6 +5,7 @@ use Rattle.cm_base.specs.declared.object.Object.{Object}
 use Rattle.cm_base.specs.declared.series.Series.{Series}
 use Rattle.cm_base.specs.declared.access.AccessList.{AccessList}
 use Rattle.cm_base.specs.declared.content.Content.{Content}
+use Rattle.cm_base.specs.declared.content.Rendition.{Rendition}
 use Rattle.cmis_spec.specs.Repository.{Repository, same, object_at, series_at, latest_version, entry_of, entry_name, is_filed}
 use Rattle.cmis_spec.specs.Access.{stands}
 
@@ -15,6 +16,10 @@ list_at r n = find (λ l. same l.at n) r.access
 -- the content of a document, if it has any
 abbrev pub content_at : Repository → Oid → Option Content
 content_at r n = find (λ c. same c.of n) r.contents
+
+-- the rendition of this number
+abbrev pub rendition_at : Repository → Oid → Option Rendition
+rendition_at r n = find (λ d. same d.id n) r.renditions
 
 -- the children of a folder, in the order of their pairs
 abbrev pub entries_in : Repository → Oid → List Oid

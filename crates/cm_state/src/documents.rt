@@ -1,5 +1,5 @@
-//! The changes of which new documents are made: an object of a series, policies, and a content at the end.
-ghost use Rattle.std.specs.Prelude.{◌≡◌, ◌+◌, ◌<◌, ◌^◌, [], ◌∷◌, ◌++◌, IfOk, map, All};
+//! The changes of which new documents are made: an object of a series, policies, and a content.
+ghost use Rattle.std.specs.Prelude.{◌≡◌, ◌+◌, ◌<◌, nat_lt, ◌^◌, [], ◌∷◌, ◌++◌, IfOk, map, filter, All};
 ghost use Rattle.cmis_spec.specs.Documents.{with_member, with_policies, with_content};
 
 use crate::change::applied_with;
@@ -32,10 +32,12 @@ fn lists_applied(
 }
 
 fn lists_filled(alloc: Global, lists: Lists, content: Content) -> Result<Lists, AllocError>
-    requires above { All (λ c. c.of.0 < content.of.0) lists.contents }
-    ensures { IfOk result (λ l. l ≡ record lists { contents = lists.contents ++ content ∷ [] }) }
+    ensures { IfOk result (λ l. l ≡ record lists {
+      contents = filter (λ d. nat_lt d.of.0 content.of.0) lists.contents
+          ++ content ∷ filter (λ d. nat_lt content.of.0 d.of.0) lists.contents;
+    }) }
 {
-    let contents = lists.contents.with_last(alloc, content)?;
+    let contents = lists.contents.with(alloc, content)?;
     Ok(Lists { contents, ..lists })
 }
 
@@ -71,9 +73,8 @@ impl Draft {
         Ok(Draft { lists, ..self })
     }
 
-    /// The content of a document whose number is above those of all others that have one.
-    pub fn with_new_content(self, alloc: Global, content: Content) -> Result<Draft, AllocError>
-        requires above { All (λ c. c.of.0 < content.of.0) self.contents }
+    /// The content of a document, in place of the one that it has.
+    pub fn with_content(self, alloc: Global, content: Content) -> Result<Draft, AllocError>
         ensures { IfOk result (λ d. d ≡ with_content self content) }
     {
         let lists = lists_filled(alloc, self.lists, content)?;

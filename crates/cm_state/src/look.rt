@@ -5,12 +5,12 @@ ghost use Rattle.std.specs.Option.{option_copied};
 ghost use Rattle.cm_types.specs.Types.{type_in};
 ghost use Rattle.cmis_spec.specs.Repository.{object_at, series_at, series_of, owner_of, is_latest, latest_version, is_a, parent_in, is_filed, entry_of, entry_name, is_taken};
 ghost use Rattle.cmis_spec.specs.Access.{stands, groups_of};
-ghost use Rattle.cm_state.specs.Looks.{list_at, content_at, entries_in, folders_in, child_in, own_at, standing_at};
+ghost use Rattle.cm_state.specs.Looks.{list_at, content_at, rendition_at, entries_in, folders_in, child_in, own_at, standing_at};
 
 use crate::draft::Draft;
 use crate::told::is_of_base;
 use cm_base::access::AccessList;
-use cm_base::content::Content;
+use cm_base::content::{Content, Rendition};
 use cm_base::number::Oid;
 use cm_base::object::Object;
 use cm_base::series::Series;
@@ -150,6 +150,20 @@ impl Draft {
         ensures { option_copied result ≡ content_at self.now n }
     {
         self.lists.contents.get(n.0)
+    }
+
+    /// The rendition with this number.
+    pub fn rendition(&self, n: Oid) -> Option<&Rendition>
+        ensures { option_copied result ≡ rendition_at self.now n }
+    {
+        self.lists.renditions.get(n.0)
+    }
+
+    /// The number of objects.
+    pub fn len(&self) -> u64
+        ensures { result ≡ length self.now.objects }
+    {
+        self.lists.objects.len()
     }
 
     /// The access control list of an object that is no document, or of a series.

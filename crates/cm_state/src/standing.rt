@@ -1,5 +1,5 @@
 //! What stands in a folder, in the order of the numbers.
-ghost use Rattle.std.specs.Prelude.{◌≡◌, ℕ, ◌||◌, is_some, IfOk, map};
+ghost use Rattle.std.specs.Prelude.{◌≡◌, ℕ, ◌||◌, true, is_some, IfOk, OnOk, map};
 ghost use Rattle.std.specs.List.{list_any};
 ghost use Rattle.std.specs.Option.{option_copied};
 ghost use Rattle.core.specs.Ordering.{nat_cmp};
@@ -60,6 +60,53 @@ fn numbers_among(
     Ok(all)
 }
 
+// Adds the number of the object, if there is one.
+fn push_number(numbers: &mut Oids, x: Option<&Object>) -> Result<(), AllocError>
+    ensures { OnOk result ((n : Oid) → list_any (same n) numbers.new ≡ (has_number n.0 (option_copied x.entry) || list_any (same n) numbers.old)) }
+{
+    match x {
+        Some(x) => numbers.push(x.id),
+        None => Ok(()),
+    }
+}
+
+// The numbers of what stands for these entries, in the order of the entries.
+fn gathered(alloc: Global, draft: &Draft, entries: &Map<u64, Oid>) -> Result<Oids, AllocError>
+    ensures { IfOk result (λ ns. (n : Oid) → list_any (same n) ns ≡ list_any (λ e. has_number n.0 (standing_at draft.now e.1)) entries.now) }
+{
+    let mut numbers = Items::new(alloc);
+    for entry in entries.iter() {
+        let at: &(u64, Oid) = entry;
+        push_number(&mut numbers, draft.standing(at.1))?;
+    }
+    Ok(numbers)
+}
+
+// Whether the numbers rise; the greatest number of all is left to the set.
+fn are_rising(numbers: &[Oid]) -> bool
+    ensures { result ≡ true → Rises (λ n. n.0) numbers.now }
+{
+    let mut least = 0;
+    for number in numbers {
+        if number.0 < least || number.0 == u64::MAX {
+            return false;
+        }
+        least = number.0 + 1;
+    }
+    true
+}
+
+// The numbers of what stands for these entries, put in order by a set.
+fn sorted_among(alloc: Global, draft: &Draft, entries: &Map<u64, Oid>) -> Result<Oids, AllocError>
+    ensures rising { IfOk result (λ ns. Rises (λ n. n.0) ns) }
+    ensures members { IfOk result (λ ns. (n : Oid) → list_any (same n) ns ≡ list_any (λ e. has_number n.0 (standing_at draft.now e.1)) entries.now) }
+{
+    let all = numbers_among(alloc, draft, entries)?;
+    let _sorted = all.len();
+    let numbers = numbers(alloc, &all)?;
+    Ok(numbers)
+}
+
 /// The numbers of what stands for these entries, rising.
 pub(crate) fn standing_among(
     alloc: Global,
@@ -69,8 +116,9 @@ pub(crate) fn standing_among(
     ensures rising { IfOk result (λ ns. Rises (λ n. n.0) ns) }
     ensures members { IfOk result (λ ns. (n : Oid) → list_any (same n) ns ≡ list_any (λ e. has_number n.0 (standing_at draft.now e.1)) entries.now) }
 {
-    let all = numbers_among(alloc, draft, entries)?;
-    let _sorted = all.len();
-    let numbers = numbers(alloc, &all)?;
-    Ok(numbers)
+    let numbers = gathered(alloc, draft, entries)?;
+    if are_rising(numbers.as_slice()) {
+        return Ok(numbers);
+    }
+    sorted_among(alloc, draft, entries)
 }

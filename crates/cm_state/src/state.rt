@@ -6,12 +6,12 @@ ghost use Rattle.cm_types.specs.Types.{type_in};
 ghost use Rattle.cmis_spec.specs.Repository.{object_at, series_at, series_of, owner_of, is_a, parent_in, is_filed, entry_of, entry_name, is_taken};
 ghost use Rattle.cmis_spec.specs.Access.{stands, groups_of};
 ghost use Rattle.cmis_spec.specs.Well.{IsWellFormed};
-ghost use Rattle.cm_state.specs.Looks.{list_at, content_at, numbers_in};
+ghost use Rattle.cm_state.specs.Looks.{list_at, content_at, rendition_at, numbers_in};
 
 use crate::draft::Draft;
 use crate::standing::standing_among;
 use cm_base::access::AccessList;
-use cm_base::content::Content;
+use cm_base::content::{Content, Rendition};
 use cm_base::items::Items;
 use cm_base::number::{Oid, Oids};
 use cm_base::object::Object;
@@ -152,6 +152,20 @@ impl State {
         ensures { option_copied result ≡ content_at self.now n }
     {
         self.draft.content(n)
+    }
+
+    /// The rendition with this number.
+    pub fn rendition(&self, n: Oid) -> Option<&Rendition>
+        ensures { option_copied result ≡ rendition_at self.now n }
+    {
+        self.draft.rendition(n)
+    }
+
+    /// The number of objects.
+    pub fn len(&self) -> u64
+        ensures { result ≡ length self.now.objects }
+    {
+        self.draft.len()
     }
 
     /// The access control list of an object that is no document, or of a series.

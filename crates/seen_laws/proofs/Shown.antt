@@ -112,7 +112,7 @@ module _ (r other : Repository) (u : List ℕ) (x : Object) (h : IsAlike r other
 
   -- ---- content
 
-  content_alike : content_of r x ≡ content_of other x
+  pub content_alike : content_of r x ≡ content_of other x
   content_alike = first_passing (λ c. same c.of x.id) r.contents ∙ (ap (λ o. first_of o.contents) h.alike ∙ sym (first_passing (λ c. same c.of x.id) other.contents))
 
 -- ---- all that is shown

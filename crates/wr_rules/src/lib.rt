@@ -3,6 +3,7 @@
 
 ghost use Rattle.std.specs.Prelude.{◌≡◌};
 
+pub mod content;
 pub mod copied;
 pub mod costs;
 pub mod entries;
