@@ -114,7 +114,7 @@ passes r u cost call h =
 -- ---- the series
 
 module _ (n : Oid) (u name : List ℕ) where
-  series_id : (state : VersioningState) → (new_series n u name state).id ≡ n
+  pub series_id : (state : VersioningState) → (new_series n u name state).id ≡ n
   series_id states.CheckedOut = refl
   series_id states.Major = refl
   series_id states.Minor = refl

@@ -1,5 +1,7 @@
 pub mod CreateFolder
 pub mod CreatedDocument
 pub mod Deleted
+pub mod DocumentParted
 pub mod Made
+pub mod MadeDocument
 pub mod Parted

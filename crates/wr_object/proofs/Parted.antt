@@ -26,7 +26,7 @@ then_3 (Ok x) (Ok y) c rest = refl
 then_3 (Ok x) (Err d) c rest = refl
 then_3 (Err d) b c rest = refl
 
-then_4 : (a b c d rest : Judged (Unit {0})) → (a >> (b >> (c >> d))) >> rest ≡ a >> (b >> (c >> (d >> rest)))
+pub then_4 : (a b c d rest : Judged (Unit {0})) → (a >> (b >> (c >> d))) >> rest ≡ a >> (b >> (c >> (d >> rest)))
 then_4 (Ok x) b c d rest = then_3 b c d rest
 then_4 (Err e) b c d rest = refl
 

@@ -155,6 +155,16 @@ after_create_document r u m cost call =
 
 -- ---- the reply
 
+-- the state that the document is made in; where no type is found the call is refused, and none stands for it
+abbrev pub state_made : Repository → CreateDocument → VersioningState
+state_made r call = unwrap_or (option_map (λ kind. state_of kind call) (type_in r.types (type_id_in call.properties))) states.None
+
+abbrev pub document_made : Repository → List ℕ → Moment → CreateDocument → Object
+document_made r u m call = new_document r u m call (state_made r call)
+
 -- the new document as the caller sees it after the step
-abbrev pub acknowledgement_create_document_of : Repository → List ℕ → CreateDocument → Object → ObjectReply
-acknowledgement_create_document_of after u call x = record { object = shown_object after u filters.All call.succinct x; created = true }
+abbrev pub acknowledgement_create_document : Repository → List ℕ → Moment → ℕ → CreateDocument → ObjectReply
+acknowledgement_create_document r u m cost call = record {
+  object = shown_object (after_create_document r u m cost call) u filters.All call.succinct (document_made r u m call);
+  created = true;
+}

@@ -1,4 +1,5 @@
 pub mod CreateDocument
 pub mod CreateFolder
 pub mod Delete
+pub mod DocumentParts
 pub mod Parts

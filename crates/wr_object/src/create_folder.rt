@@ -1,16 +1,18 @@
 //! createFolder (CMIS 1.1, section 2.2.4.3).
-ghost use Rattle.std.specs.Prelude.{◌≡◌, ◌+◌, ◌<◌, ◌^◌, ◌&&◌, not, [], Some, None, Ok, IfOk, filter};
+ghost use Rattle.std.specs.Prelude.{◌≡◌, ◌+◌, ◌<◌, ◌^◌, [], Some, None, Ok, IfOk};
 ghost use Rattle.cm_base.specs.Judged.{Leaves, Writes};
 ghost use Rattle.cm_types.specs.declared.given.PropertyCall.TheVariants as calls;
-ghost use Rattle.cm_types.specs.Properties.{kept_values, is_set};
+ghost use Rattle.cm_types.specs.Properties.{kept_values};
 ghost use Rattle.cm_show.specs.Addressed.{addressed};
 ghost use Rattle.cmis_spec.specs.Repository.{new_number};
-ghost use Rattle.cmis_spec.specs.Values.{is_apart, kept_beside};
+ghost use Rattle.cmis_spec.specs.Values.{kept_beside};
 ghost use Rattle.cmis_spec.specs.Well.{IsWellFormed};
 ghost use Rattle.wr_object.specs.CreateFolder.{cost_create_folder, refusal_create_folder, new_folder, after_create_folder, acknowledgement_create_folder};
 ghost use Rattle.wr_object.specs.Parts.{wanted_in, judge_found, refusal_in_parts, parent_of};
 
-use crate::folder_rules::{judge_kinds, judge_name, judge_place, judge_values};
+use crate::asked::judge_values;
+use crate::beside::kept_beside;
+use crate::folder_rules::{judge_kinds, judge_name, judge_place};
 use crate::making::made_in;
 use crate::wanted::{Wanted, wanted_by};
 use call_parts::replies::ObjectReply;
@@ -19,12 +21,10 @@ use call_parts::writes::CreateFolder;
 use cm_base::cause::Cause;
 use cm_base::copies::Copies;
 use cm_base::fail::Fail;
-use cm_base::items::Items;
 use cm_base::number::{Moment, Oid};
 use cm_base::object::Object;
 use cm_base::text::Text;
-use cm_base::value::{Slot, Values};
-use cm_rules::kept::is_set;
+use cm_base::value::Values;
 use cm_show::address::addressed;
 use cm_state::state::State;
 use cm_types::definition::TypeDef;
@@ -118,34 +118,6 @@ fn judge(
 {
     let _ = moment;
     judge_parts(alloc, state, user, cost, call, wanted)
-}
-
-fn is_apart(id: &Text) -> bool
-    ensures { result ≡ is_apart id.now }
-{
-    id.is_str("cmis:name")
-        || id.is_str("cmis:objectTypeId")
-        || id.is_str("cmis:secondaryObjectTypeIds")
-}
-
-fn is_beside(slot: &Slot) -> bool
-    ensures { result ≡ (not (is_apart slot.now.id) && is_set slot.now.value) }
-{
-    !is_apart(&slot.id) && is_set(&slot.value)
-}
-
-fn only_beside(slots: Vec<Slot>) -> Vec<Slot>
-    ensures { result.items ≡ filter (λ s. not (is_apart s.id) && is_set s.value) slots.items }
-{
-    let mut slots = slots;
-    slots.retain(|s| is_beside(s));
-    slots
-}
-
-fn kept_beside(values: Values) -> Values
-    ensures { result ≡ kept_beside values }
-{
-    Items::from_vec(only_beside(values.into_vec()))
 }
 
 fn new_folder(

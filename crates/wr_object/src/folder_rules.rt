@@ -1,40 +1,34 @@
 //! The rules of createFolder, part by part.
-ghost use Rattle.std.specs.Prelude.{◌≡◌, ◌<◌, ◌&&◌, ◌||◌, not, [], IfOk, nat_le, nat_lt, length};
-ghost use Rattle.cm_base.specs.Judged.{Meets, Leaves};
+ghost use Rattle.std.specs.Prelude.{◌≡◌, ◌||◌, not, IfOk, nat_le};
+ghost use Rattle.cm_base.specs.Judged.{Meets};
 ghost use Rattle.cm_types.specs.declared.definition.BaseType.TheVariants as bases;
-ghost use Rattle.cm_types.specs.declared.given.PropertyCall.TheVariants as calls;
 ghost use Rattle.cm_types.specs.Types.{same_base};
-ghost use Rattle.cm_types.specs.Properties.{judge_properties, kept_values};
 ghost use Rattle.cmis_spec.specs.Repository.{is_a, most_levels, depth_of};
-ghost use Rattle.wr_rules.specs.Rules.{has_other_policy, has_other_secondary, has_unknown_permission, has_entries};
+ghost use Rattle.wr_rules.specs.Rules.{has_other_policy, has_other_secondary};
 ghost use Rattle.wr_object.specs.CreateFolder.{is_uncontrollable};
 ghost use Rattle.wr_object.specs.Parts.{judge_kinds, judge_place, judge_name};
 
+use crate::asked::{bars_changes, has_unknown};
 use call_parts::writes::CreateFolder;
 use cm_base::access::Level;
 use cm_base::cause::Cause;
 use cm_base::fail::Fail;
-use cm_base::items::Items;
 use cm_base::name::name_ok;
 use cm_base::number::Oid;
 use cm_base::object::Object;
 use cm_base::text::Text;
-use cm_base::value::Values;
-use cm_rules::check::check_new;
 use cm_see::level::lacks;
 use cm_see::tree::depth_of;
 use cm_state::state::State;
 use cm_type_list::types::Types;
 use cm_types::definition::{BaseType, TypeDef};
-use cm_types::given::Givens;
-use cm_types::property::PropDefs;
 use std::alloc::{AllocError, Global};
-use wr_rules::entries::{has_entries, has_unknown_permission};
 use wr_rules::kinds::{bars_child, has_other_secondary};
 use wr_rules::policies::has_other_policy;
 
 fn is_wrong_place(state: &State, user: &Text, parent: &Object, policies: &[Text]) -> bool
-    ensures { result ≡ (not (is_a state.now bases.Folder parent.now) || has_other_policy state.now user.now policies.now) }
+    ensures { result
+        ≡ (not (is_a state.now bases.Folder parent.now) || has_other_policy state.now user.now policies.now) }
 {
     !state.is_a(BaseType::Folder, parent) || has_other_policy(state, user, policies)
 }
@@ -104,28 +98,15 @@ fn is_deep(state: &State, parent: Oid) -> bool
     most_levels() <= depth_of(state, parent)
 }
 
-fn bars_policies(kind: &TypeDef, call: &CreateFolder) -> bool
-    ensures { result ≡ (not kind.now.controllable_policy && nat_lt 0 (length call.now.policies)) }
-{
-    !kind.controllable_policy && call.policies.len() > 0
-}
-
-fn asks_entries(call: &CreateFolder) -> bool
-    ensures { result ≡ (has_entries call.now.remove || has_entries call.now.add) }
-{
-    has_entries(call.remove.as_slice()) || has_entries(call.add.as_slice())
-}
-
-fn bars_entries(kind: &TypeDef, call: &CreateFolder) -> bool
-    ensures { result ≡ (not kind.now.controllable_acl && (has_entries call.now.remove || has_entries call.now.add)) }
-{
-    !kind.controllable_acl && asks_entries(call)
-}
-
 fn is_uncontrollable(kind: &TypeDef, call: &CreateFolder) -> bool
     ensures { result ≡ is_uncontrollable kind.now call.now }
 {
-    bars_policies(kind, call) || bars_entries(kind, call)
+    bars_changes(
+        kind,
+        call.policies.as_slice(),
+        call.remove.as_slice(),
+        call.add.as_slice(),
+    )
 }
 
 /// The parent takes a folder of the type, and the type lets what is asked be applied to it. Takes no memory.
@@ -149,21 +130,6 @@ pub(crate) fn judge_place(
     Ok(())
 }
 
-/// The values of the new object, or the first fault of the given properties.
-pub(crate) fn judge_values(alloc: Global, defs: &PropDefs, given: &Givens) -> Result<Values, Fail>
-    ensures { Leaves result
-        (judge_properties calls.Create defs.now [] given.now)
-        (kept_values calls.Create defs.now [] given.now) }
-{
-    check_new(alloc, defs, &Items::new(alloc), given)
-}
-
-fn has_unknown(call: &CreateFolder) -> bool
-    ensures { result ≡ (has_unknown_permission call.now.remove || has_unknown_permission call.now.add) }
-{
-    has_unknown_permission(call.remove.as_slice()) || has_unknown_permission(call.add.as_slice())
-}
-
 /// The entries that are asked for and the name are right, and no other child of the parent has the name. Takes no memory.
 pub(crate) fn judge_name(
     state: &State,
@@ -173,7 +139,7 @@ pub(crate) fn judge_name(
 ) -> Result<(), Cause>
     ensures { result ≡ judge_name state.now call.now parent name.now }
 {
-    if has_unknown(call) {
+    if has_unknown(call.remove.as_slice(), call.add.as_slice()) {
         return Err(Cause::Permission);
     }
     if !name_ok(name.bytes()) {

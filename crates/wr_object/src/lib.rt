@@ -3,7 +3,13 @@
 
 ghost use Rattle.std.specs.Prelude.{◌≡◌};
 
+mod asked;
+mod beside;
+pub mod create_document;
 pub mod create_folder;
+mod document_rules;
 mod folder_rules;
 mod making;
+mod making_document;
+pub mod new_document;
 pub mod wanted;
