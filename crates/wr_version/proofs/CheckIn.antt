@@ -96,7 +96,7 @@ working_is : (n : Oid) (o : Option WorkingCopy) → unwrap_or (option_map (λ w.
 working_is n None h = absurd (both_ways false refl h)
 working_is n (Some c) h = (c.owner, ap (λ k. Some (record { copy = k; owner = c.owner })) (same_eq c.copy n h))
 
-last_labelled : (step : ℕ) (s : Series) → HasLabelsOf step s → IsLabel step (last_label s)
+pub last_labelled : (step : ℕ) (s : Series) → HasLabelsOf step s → IsLabel step (last_label s)
 last_labelled step s h = by (last_of s.versions) refl
   where
     of_label : (o : Option Label) → IfSome o (IsLabel step) → IsLabel step (unwrap_or o (record { major = 0; minor = 0 }))

@@ -1,5 +1,5 @@
 -- What checkOut makes: the working copy in its series is the repository after the call, and is well formed.
-use Rattle.std.specs.Prelude.{◌≡◌, ℕ, ◌+◌, ◌<◌, ◌^◌, List, [], Option, Some, None, IfSome, Ok, is_some, true, find, ◌∷◌, ◌++◌, false, All, option_map, unwrap_or}
+use Rattle.std.specs.Prelude.{◌≡◌, ℕ, ◌+◌, ◌<◌, ◌^◌, List, [], Option, Some, None, Ok, is_some, true, find, ◌∷◌, ◌++◌, false, All, option_map, unwrap_or}
 use Rattle.std.proofs.Common.{refl, sym, ap, subst, ◌∙◌, arith}
 use Rattle.std.proofs.lemmas.List.Elements.{All-weaker}
 use Rattle.cm_base.specs.declared.number.Oid.{Oid}
@@ -16,7 +16,6 @@ use Rattle.cmis_spec.specs.Documents.{with_copy, with_contents}
 use Rattle.cmis_spec.specs.Well.{HasNumbers, IsWellFormed}
 use Rattle.cmis_laws.proofs.Lists.{some_eq, find_last, same_refl}
 use Rattle.cmis_laws.proofs.Entries.{is_other}
-use Rattle.wr_rules.specs.Documents.{content_copied}
 use Rattle.wr_rules.proofs.Found.{addressed_there}
 use Rattle.wr_version.specs.CheckOut.{refusal_check_out, new_copy, new_content, after_check_out_of, after_check_out, copy_made}
 use Rattle.wr_version.proofs.CheckOut.{passes, keeps_check_out, IsIn, series_is}
@@ -39,13 +38,6 @@ series_some r x i = ap is_some i.found
 pub series_there : (r : Repository) (x : Object) (s : Series) → IsIn r x → series_of r x ≡ Some s → series_at r s.id ≡ Some s
 series_there r x s i h = subst (λ t. series_at r t.id ≡ Some t) (some_eq i.series s (sym i.found ∙ h)) i.there
 
-pub content_is_its : (r : Repository) (x copy : Object) (o : Option Content) (u : List ℕ) (m : Moment) → copy ≡ new_copy r u m x → o ≡ new_content r x → IfSome o (λ c. c.of ≡ copy.id)
-content_is_its r x copy o u m e f = subst (λ k. IfSome o (λ c. c.of ≡ k.id)) (sym e) (subst (λ q. IfSome q (λ c. c.of ≡ new_number r)) (sym f) (each _))
-  where
-    each : (q : Option Content) → IfSome (option_map (content_copied (new_number r) (r.step + 1)) q) (λ c. c.of ≡ new_number r)
-    each None = tt
-    each (Some c) = refl
-
 pub copied_is : (r : Repository) (u : List ℕ) (m : Moment) (cost : ℕ) (call : CheckOut) (x copy : Object) (s : Series) (o : Option Content) → IsIn r x → addressed r u call.place ≡ Some x → series_of r x ≡ Some s
     → copy ≡ new_copy r u m x → o ≡ new_content r x
     → noted (stepped (with_contents (with_copy r s.id copy u) o) cost) changes.Created copy.id m [] ≡ after_check_out r u m cost call
@@ -60,7 +52,7 @@ pub copied_well : (r : Repository) (u : List ℕ) (m : Moment) (cost : ℕ) (cal
 copied_well r u m cost call x copy s o w h i at found e f = subst IsWellFormed (sym (copied_is r u m cost call x copy s o i at found e f)) (keeps_check_out r u m cost call w h)
 
 -- a content changes no object
-same_objects : (r : Repository) (o : Option Content) → (with_contents r o).objects ≡ r.objects
+pub same_objects : (r : Repository) (o : Option Content) → (with_contents r o).objects ≡ r.objects
 same_objects r None = refl
 same_objects r (Some c) = refl
 

@@ -1,6 +1,8 @@
+mod Anywhere
 mod Copied
 pub mod CancelCheckOut
 pub mod CheckIn
 pub mod CheckOut
 pub mod Commented
+mod Joined
 pub mod Making

@@ -1,39 +1,33 @@
--- A working copy that is made by the changes of drafts: its series is changed in its place, and its content stands at the end.
-use Rattle.std.specs.Prelude.{◌≡◌, ℕ, ◌+◌, ◌^◌, ◌<◌, ◌≤◌, true, false, if◌then◌else◌, List, [], ◌∷◌, map, All, Option, Some, None, IfSome}
-use Rattle.std.proofs.Common.{refl, sym, ap, subst, ◌∙◌, arith}
+-- A working copy that is made by the changes of drafts: its series is changed in its place, and its content put in.
+use Rattle.std.specs.Prelude.{◌≡◌, ℕ, ◌+◌, ◌^◌, ◌<◌, if◌then◌else◌, List, [], ◌∷◌, map, All, Option, Some, None}
+use Rattle.std.proofs.Common.{refl, sym, ap, ◌∙◌, arith}
 use Rattle.std.proofs.lemmas.List.Elements.{All-head, All-tail, All-weaker}
-use Rattle.cm_base.specs.declared.number.Oid.{Oid}
 use Rattle.cm_base.specs.declared.object.Object.{Object}
 use Rattle.cm_base.specs.declared.content.Content.{Content}
 use Rattle.cm_base.specs.declared.series.Series.{Series}
-use Rattle.cm_types.specs.declared.definition.BaseType.TheVariants as bases
-use Rattle.cmis_spec.specs.Repository.{Repository, same, most_steps, series_at, new_number}
+use Rattle.cmis_spec.specs.Repository.{Repository, same, most_steps, series_at}
 use Rattle.cm_base.specs.declared.number.Moment.{Moment}
 use Rattle.cm_base.specs.declared.log.ChangeKind.TheVariants as changes
 use Rattle.cmis_spec.specs.Changes.{stepped, noted, edited_series}
 use Rattle.cmis_spec.specs.Documents.{with_member, with_copy, with_contents, checked_out}
-use Rattle.cmis_spec.specs.Well.{IsBaseAt, HasSeriesNumbers, IsWellFormed}
+use Rattle.cmis_spec.specs.Well.{HasSeriesNumbers, IsWellFormed}
 use Rattle.cmis_laws.proofs.Lists.{by_test, some_eq, same_eq, all_found}
-use Rattle.cmis_laws.proofs.Entries.{object_below}
 
 map_all : {A B : Type 0} (f g : A → B) (xs : List A) → All (λ x. f x ≡ g x) xs → map f xs ≡ map g xs
 map_all f g [] all = refl
 map_all f g (x ∷ xs) all = rw (All-head (λ x. f x ≡ g x) x xs all, map_all f g xs (All-tail (λ x. f x ≡ g x) x xs all)) refl
 
--- the series with this number is this one, so it may be put in its place
-pub copy_edits : (r : Repository) (s : Series) (x : Object) (owner : List ℕ) → HasSeriesNumbers r → series_at r s.id ≡ Some s → edited_series (with_member r x) (checked_out x.id owner s) ≡ with_copy r s.id x owner
-copy_edits r s x owner numbers there = ap (λ ss. record (with_member r x) { series = ss })
-    (map_all (λ t. if same t.id s.id then checked_out x.id owner s else t) (λ t. if same t.id s.id then checked_out x.id owner t else t) r.series
-    (All-weaker (λ t. series_at r t.id ≡ Some t) (λ t. (if same t.id s.id then checked_out x.id owner s else t) ≡ (if same t.id s.id then checked_out x.id owner t else t))
+-- the series with this number is this one, so what is made of it may be put in its place
+pub series_edits : (r : Repository) (s : Series) (f : Series → Series) → HasSeriesNumbers r → series_at r s.id ≡ Some s
+    → map (λ t. if same t.id s.id then f s else t) r.series ≡ map (λ t. if same t.id s.id then f t else t) r.series
+series_edits r s f numbers there = map_all (λ t. if same t.id s.id then f s else t) (λ t. if same t.id s.id then f t else t) r.series
+    (All-weaker (λ t. series_at r t.id ≡ Some t) (λ t. (if same t.id s.id then f s else t) ≡ (if same t.id s.id then f t else t))
     (λ t k. by_test (same t.id s.id)
-    (λ e. let it : s ≡ t = some_eq s t (sym there ∙ (ap (series_at r) (sym (same_eq t.id s.id e)) ∙ k)) in rw e (ap (checked_out x.id owner) it))
-    (λ e. rw e refl)) r.series (all_found (λ t. t.id) r.series numbers.0)))
+    (λ e. let it : s ≡ t = some_eq s t (sym there ∙ (ap (series_at r) (sym (same_eq t.id s.id e)) ∙ k)) in rw e (ap f it))
+    (λ e. rw e refl)) r.series (all_found (λ t. t.id) r.series numbers.0))
 
--- a new content stands above all others
-pub contents_above : (r : Repository) (o : Option Content) → IsWellFormed r → IfSome o (λ c. c.of ≡ new_number r) → IfSome o (λ c. All (λ d. d.of.0 < c.of.0) r.contents)
-contents_above r None w h = tt
-contents_above r (Some c) w h = subst (λ n. All (λ d. d.of.0 < n.0) r.contents) (sym h)
-    (All-weaker (λ d. IsBaseAt r bases.Document d.of × (d.step ≤ r.step)) (λ d. d.of.0 < r.next) (λ d k. object_below r d.of k.0.0 w.numbers k.0.1) r.contents w.contents.1)
+pub copy_edits : (r : Repository) (s : Series) (x : Object) (owner : List ℕ) → HasSeriesNumbers r → series_at r s.id ≡ Some s → edited_series (with_member r x) (checked_out x.id owner s) ≡ with_copy r s.id x owner
+copy_edits r s x owner numbers there = ap (λ ss. record (with_member r x) { series = ss }) (series_edits r s (checked_out x.id owner) numbers there)
 
 -- a content changes neither step nor cost
 pub kept_step : (r : Repository) (o : Option Content) → r.step + 1 < 2 ^ 64 → (with_contents r o).step + 1 < 2 ^ 64

@@ -21,7 +21,7 @@ use Rattle.call_parts.specs.declared.replies.ObjectReply.{ObjectReply}
 use Rattle.call_parts.specs.Versions.{weight_of_check_in}
 use Rattle.cm_show.specs.Addressed.{addressed}
 use Rattle.cm_show.specs.Shown.{shown_object}
-use Rattle.cmis_spec.specs.Repository.{Repository, is_a, type_of, series_of, entry_of}
+use Rattle.cmis_spec.specs.Repository.{Repository, root_folder, is_a, type_of, series_of, entry_of}
 use Rattle.cmis_spec.specs.Access.{lacks}
 use Rattle.cmis_spec.specs.Values.{kept_beside}
 use Rattle.cmis_spec.specs.Changes.{stepped, noted}
@@ -90,6 +90,13 @@ after_check_in r u m cost call = unwrap_or (option_map (after_check_in_of r u m 
 
 -- ---- the reply
 
+-- the version that is made; where nothing is addressed the call is refused, and a root stands for it
+abbrev pub version_made : Repository → List ℕ → Moment → CheckIn → Object
+version_made r u m call = new_version r u m call (unwrap_or (addressed r u call.place) (root_folder u m r.step))
+
 -- the new version as the caller sees it after the step
-abbrev pub acknowledgement_check_in_of : Repository → List ℕ → CheckIn → Object → ObjectReply
-acknowledgement_check_in_of after u call x = record { object = shown_object after u filters.All call.succinct x; created = true }
+abbrev pub acknowledgement_check_in : Repository → List ℕ → Moment → ℕ → CheckIn → ObjectReply
+acknowledgement_check_in r u m cost call = record {
+  object = shown_object (after_check_in r u m cost call) u filters.All call.succinct (version_made r u m call);
+  created = true;
+}

@@ -1,4 +1,5 @@
 pub mod CancelCheckOut
 pub mod CheckIn
+pub mod CheckInParts
 pub mod CheckOut
 pub mod Found

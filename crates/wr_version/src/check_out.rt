@@ -102,7 +102,8 @@ fn judge<'a>(state: &'a State, user: &Text, cost: u64, call: &CheckOut) -> Resul
     Ok(x)
 }
 
-fn only_others(slots: Vec<Slot>) -> Vec<Slot>
+/// The values but the comment of a check-in.
+pub(crate) fn only_others(slots: Vec<Slot>) -> Vec<Slot>
     ensures { result.items ≡ filter (λ s. not (is_comment s)) slots.items }
 {
     let mut slots = slots;

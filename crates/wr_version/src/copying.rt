@@ -1,5 +1,5 @@
 //! A working copy that is made of a document, as a draft.
-ghost use Rattle.std.specs.Prelude.{◌≡◌, ◌+◌, ◌<◌, ◌^◌, [], All, IfOk, IfSome, is_some, true};
+ghost use Rattle.std.specs.Prelude.{◌≡◌, ◌+◌, ◌<◌, ◌^◌, [], IfOk, is_some, true};
 ghost use Rattle.cm_base.specs.declared.log.ChangeKind.TheVariants.{Created};
 ghost use Rattle.cmis_spec.specs.Repository.{new_number, series_at};
 ghost use Rattle.cmis_spec.specs.Changes.{stepped, noted, edited_series};
@@ -37,14 +37,17 @@ pub(crate) fn checked_out(
     })
 }
 
-// The draft with a content at the end, if there is one.
-fn with_content(alloc: Global, draft: Draft, content: Option<Content>) -> Result<Draft, AllocError>
-    requires above { IfSome content (λ c. All (λ d. d.of.0 < c.of.0) draft.contents) }
+/// The draft with a content, if there is one.
+pub(crate) fn with_content(
+    alloc: Global,
+    draft: Draft,
+    content: Option<Content>,
+) -> Result<Draft, AllocError>
     ensures { IfOk result (λ d. d ≡ with_contents draft content) }
 {
     match content {
         Some(content) => {
-            let full = draft.with_new_content(alloc, content)?;
+            let full = draft.with_content(alloc, content)?;
             Ok(full)
         }
         None => Ok(draft),
@@ -63,7 +66,6 @@ pub(crate) fn copied_in(
 ) -> Result<Draft, AllocError>
     requires number { copy.id ≡ new_number state.now }
     requires there { is_some (series_at state.now series.id) ≡ true }
-    requires content { IfSome content (λ c. c.of ≡ new_number state.now) }
     requires next { state.now.next + 1 < 2 ^ 64 }
     requires step { state.now.step + 1 < 2 ^ 64 }
     requires cost { state.now.cost + cost < 2 ^ 64 }

@@ -3,5 +3,8 @@
 
 ghost use Rattle.std.specs.Prelude.{◌≡◌};
 
+mod after;
+pub mod check_in;
 pub mod check_out;
 mod copying;
+mod joining;

@@ -1,10 +1,10 @@
 use Rattle.std.proofs.Common.{◌≡◌, ◌+◌, ◌<◌, ◌^◌, true, Some, sym, ap, subst, ◌∙◌}
-use Rattle.std.specs.Prelude.{is_some, IfSome}
+use Rattle.std.specs.Prelude.{is_some}
 use Rattle.cmis_spec.specs.Repository.{series_at}
 use Rattle.cmis_spec.specs.Well.{IsWellFormed}
 use Rattle.wr_version.specs.CheckOut.{after_check_out}
 use Rattle.wr_version.proofs.CheckOut.{keeps_check_out}
-use Rattle.wr_version.proofs.Copied.{room_for, in_series, series_there, content_is_its, copied_is}
+use Rattle.wr_version.proofs.Copied.{room_for, in_series, series_there, copied_is}
 use Rattle.wr_version.proofs.Making.{made_so, next_room}
 use Rattle.wr_version.proofs.check_out.with_copy.Goals as goal
 use Rattle.wr_version.proofs.check_out.with_copy.Goals.{In_ok-draft}
@@ -18,7 +18,6 @@ copied_in-requires c =
     record {
       number = ap (λ x. x.id) c.in_ok-copy.ensures;
       there = subst (λ n. is_some (series_at r n) ≡ true) (sym (ap (λ s. s.id) c.in_ok-out.ensures)) (ap is_some there);
-      content = subst (λ n. IfSome c.in_ok-content.content (λ k. k.of ≡ n)) (ap (λ x. x.id) c.in_ok-copy.ensures) (content_is_its r c.args.x.now c.in_ok-copy.copy c.in_ok-content.content c.args.user.now c.args.moment c.in_ok-copy.ensures c.in_ok-content.ensures);
       next = next_room r w;
       step = room.0;
       cost = room.1;

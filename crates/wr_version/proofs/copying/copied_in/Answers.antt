@@ -1,10 +1,10 @@
 use Rattle.std.proofs.Common.{◌+◌, ◌<◌, ◌^◌, All, sym, ap, subst, ◌∙◌}
-use Rattle.std.specs.Prelude.{◌≡◌, true, is_some, IfSome}
+use Rattle.std.specs.Prelude.{◌≡◌, true, is_some}
 use Rattle.cm_base.specs.declared.log.ChangeKind.TheVariants.{Created}
 use Rattle.cmis_spec.specs.Repository.{series_at}
 use Rattle.cmis_spec.specs.Changes.{stepped, noted, edited_series}
 use Rattle.cmis_spec.specs.Documents.{with_member, with_contents}
-use Rattle.wr_version.proofs.Making.{contents_above, kept_step, kept_cost}
+use Rattle.wr_version.proofs.Making.{kept_step, kept_cost}
 use Rattle.wr_version.proofs.copying.copied_in.Goals as goal
 
 pub with_member-requires : goal.with_member-requires
@@ -21,12 +21,6 @@ pub edited_series-requires : goal.edited_series-requires
 edited_series-requires c =
     let made = c.in_ok-made.ensures ∙ ap (λ d. with_member d c.args.copy) c.in_ok-begun.ensures in
     record { there = subst (λ d. is_some (series_at d c.args.series.id) ≡ true) (sym made) c.requires.there }
-
-pub with_content-requires : goal.with_content-requires
-with_content-requires c =
-    let made = c.in_ok-made.ensures ∙ ap (λ d. with_member d c.args.copy) c.in_ok-begun.ensures in
-    let out = c.in_ok-out.ensures ∙ ap (λ d. edited_series d c.args.series) made in
-    record { above = subst (λ d. IfSome c.args.content (λ k. All (λ e. e.of.0 < k.of.0) d.contents)) (sym out) (contents_above c.args.state.now c.args.content c.step-step.ensures.well c.requires.content) }
 
 pub stepped-paid-requires : goal.stepped-paid-requires
 stepped-paid-requires c =
