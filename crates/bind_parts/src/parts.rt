@@ -52,7 +52,8 @@ fn any_given(pairs: &Pairs, names: &[Argument]) -> bool
     names.iter().any(|name| pairs.has(*name))
 }
 
-fn unserved(alloc: Global, names: &[Argument], pairs: &Pairs) -> Result<(), Fail>
+/// NotServed where one of these arguments is given, which are not served yet.
+pub fn unserved(alloc: Global, names: &[Argument], pairs: &Pairs) -> Result<(), Fail>
     ensures { Meets (λ u. u) result (unserved names.now pairs.now) }
 {
     if any_given(pairs, names) {

@@ -33,8 +33,8 @@ fn object_reply(
     })
 }
 
-// The object that is addressed, as the caller sees it.
-fn answer(
+/// The object that is addressed, as the caller sees it. What he doesn't read is not found.
+pub fn shown(
     alloc: Global,
     state: &State,
     user: &Text,
@@ -62,7 +62,7 @@ pub fn object(
 ) -> Result<ObjectReply, Fail>
     ensures { Meets (λ x. x) result (answer_object state.now user.now q.now) }
 {
-    answer(alloc, state, user, &q.place, &q.filter, q.succinct)
+    shown(alloc, state, user, &q.place, &q.filter, q.succinct)
 }
 
 /// The object's properties as the caller sees them. What he doesn't read is not found.
@@ -74,5 +74,5 @@ pub fn properties(
 ) -> Result<ObjectReply, Fail>
     ensures { Meets (λ x. x) result (answer_properties state.now user.now q.now) }
 {
-    answer(alloc, state, user, &q.place, &q.filter, q.succinct)
+    shown(alloc, state, user, &q.place, &q.filter, q.succinct)
 }

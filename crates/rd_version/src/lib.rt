@@ -1,0 +1,8 @@
+//! Readings of documents.
+#![tactic(auto)]
+
+ghost use Rattle.std.specs.Prelude.{◌≡◌};
+
+pub mod content;
+pub mod law;
+mod whole;
