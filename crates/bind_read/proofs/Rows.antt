@@ -1,6 +1,6 @@
 -- Worked rows: what small requests ask.
 use Rattle.std.proofs.Common.{◌≡◌, ℕ, List, [], ◌∷◌, ◌++◌, true, false, refl}
-use Rattle.std.specs.Prelude.{codes, Ok, Err}
+use Rattle.std.specs.Prelude.{codes, Some, None, Ok, Err}
 use Rattle.std.specs.Fmt.{digits}
 use Rattle.std.specs.Str.{is_utf8, chars}
 use Rattle.std.specs.Str.Lossy.{utf8_lossy, utf8_valid_len}
@@ -9,6 +9,7 @@ use Rattle.percent_encoding.specs.Percent.{percent_decode}
 use lib.Utf8.{encode}
 use Rattle.cm_base.specs.declared.argument.Argument.TheVariants as args
 use Rattle.cm_base.specs.declared.cause.Cause.TheVariants as causes
+use Rattle.cm_base.specs.declared.series.VersioningState.TheVariants as states
 use Rattle.call_parts.specs.declared.place.Place.TheVariants as places
 use Rattle.cm_call.specs.declared.write.Write.TheVariants as writes
 use Rattle.cm_call.specs.declared.question.Question.TheVariants as questions
@@ -48,6 +49,27 @@ row_object : call_of_request (got (codes "/cmis/main/root/a%20b?cmisselector=obj
     ≡ Ok (asks.Question (questions.Object (record { place = places.Id (codes "2"); filter = filters.QueryNames (codes "cmis:name" ∷ []); succinct = false })))
 unfolding split is_utf8 chars percent_decode encode raw_pairs utf8_lossy utf8_valid_len values_named
 row_object = refl
+
+-- a document in no folder; the object that is named is ignored there
+row_create_document : call_of_request (posted (codes "/cmis/main?objectId=2") (codes "cmisaction=createDocument&propertyId[0]=cmis:objectTypeId&propertyValue[0]=cmis:document&versioningState=minor"))
+    ≡ Ok (asks.Write (writes.CreateDocument (record {
+      place = None;
+      properties = record { id = codes "cmis:objectTypeId"; texts = codes "cmis:document" ∷ []; several = false } ∷ [];
+      policies = [];
+      remove = [];
+      add = [];
+      state = Some states.Minor;
+      stream = None;
+      succinct = false;
+    })))
+unfolding split is_utf8 chars percent_decode encode raw_pairs utf8_lossy utf8_valid_len values_named most_properties most_values digits
+row_create_document = refl
+
+-- major where nothing is said
+row_check_in : call_of_request (posted (codes "/cmis/main/root?objectId=3") (codes "cmisaction=checkIn&checkinComment=c"))
+    ≡ Ok (asks.Write (writes.CheckIn (record { place = places.Id (codes "3"); major = true; comment = Some (codes "c"); properties = []; stream = None; succinct = false })))
+unfolding split is_utf8 chars percent_decode encode raw_pairs utf8_lossy utf8_valid_len values_named most_properties most_values digits
+row_check_in = refl
 
 -- the absolute form; empty segments are skipped, and each segment is decoded
 row_children : call_of_request (got (codes "HTTP://host/%63mis//main/root/a%20b/?cmisselector=children&succinct=true&maxItems=2") ((codes "cmis-step", codes "7") ∷ []))
@@ -110,9 +132,17 @@ row_selector : call_of_request (got (codes "/cmis/main/root?cmisselector=") ((co
 unfolding split is_utf8 chars percent_decode encode raw_pairs utf8_lossy utf8_valid_len values_named
 row_selector = refl
 
-row_no_selector : call_of_request (got (codes "/cmis/main/root") []) ≡ Err (causes.NotServed (codes "form"))
+row_no_selector : call_of_request (got (codes "/cmis/main/root/a?streamId=3&maxItems=2") [])
+    ≡ Ok (asks.Question (questions.Default (record {
+      children = record { place = places.Path (codes "a" ∷ []); filter = filters.All; max_items = 2; skip_count = 0; succinct = false };
+      stream = Some (codes "3");
+    })))
 unfolding split is_utf8 chars percent_decode encode raw_pairs utf8_lossy utf8_valid_len values_named
 row_no_selector = refl
+
+row_no_selector_elsewhere : call_of_request (got (codes "/cmis/main") []) ≡ Err (causes.NotServed (codes "form"))
+unfolding split is_utf8 chars percent_decode encode raw_pairs utf8_lossy utf8_valid_len values_named
+row_no_selector_elsewhere = refl
 
 row_step : call_of_request (got (codes "/cmis/main/root?cmisselector=object&succinct=maybe") ((codes "CMIS-Step", codes "007") ∷ [])) ≡ Err (causes.BadArgument args.CmisStep)
 unfolding split is_utf8 chars percent_decode encode raw_pairs utf8_lossy utf8_valid_len values_named

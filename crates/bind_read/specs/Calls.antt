@@ -18,13 +18,20 @@ use Rattle.bind_read.specs.Words.{service_of}
 use Rattle.bind_tree.specs.CreateFolder.{create_folder_of}
 use Rattle.bind_tree.specs.Objects.{object_of, properties_of}
 use Rattle.bind_tree.specs.Children.{children_of}
+use Rattle.bind_document.specs.Writes.{create_document_of, check_out_of, check_in_of}
+use Rattle.bind_document.specs.Readings.{content_of, default_of}
 
 -- the arguments of each service
 abbrev pub bound : Service → Asking → Judged Asked
 bound services.CreateFolder asking = create_folder_of asking >>= λ call. Ok (asks.Write (writes.CreateFolder call))
+bound services.CreateDocument asking = create_document_of asking >>= λ call. Ok (asks.Write (writes.CreateDocument call))
+bound services.CheckOut asking = check_out_of asking >>= λ call. Ok (asks.Write (writes.CheckOut call))
+bound services.CheckIn asking = check_in_of asking >>= λ call. Ok (asks.Write (writes.CheckIn call))
 bound services.Object asking = object_of asking >>= λ question. Ok (asks.Question (questions.Object question))
 bound services.Properties asking = properties_of asking >>= λ question. Ok (asks.Question (questions.Properties question))
 bound services.Children asking = children_of asking >>= λ question. Ok (asks.Question (questions.Children question))
+bound services.Content asking = content_of asking >>= λ question. Ok (asks.Question (questions.Content question))
+bound services.Default asking = default_of asking >>= λ question. Ok (asks.Question (questions.Default question))
 
 -- what a request asks, in the order in which its causes come
 abbrev pub call_of_request : Request → Judged Asked

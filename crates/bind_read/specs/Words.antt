@@ -1,10 +1,9 @@
 -- The actions and selectors that are served, each at its addresses (CMIS 1.1, sections 5.4.2 and 5.4.3).
-use Rattle.std.specs.Prelude.{ℕ, List, [], ◌∷◌, Bool, true, false, not, ◌&&◌, codes, bytes_eq, find}
+use Rattle.std.specs.Prelude.{ℕ, List, [], ◌∷◌, Bool, true, false, not, ◌&&◌, codes, bytes_eq, find, Option, Some, None, Ok, Err}
 use Rattle.cm_base.specs.declared.argument.Argument.{Argument}
 use Rattle.cm_base.specs.declared.argument.Argument.TheVariants as args
-use Rattle.cm_base.specs.declared.cause.Cause.{Cause}
 use Rattle.cm_base.specs.declared.cause.Cause.TheVariants as causes
-use Rattle.cm_base.specs.Judged.{Judged, ◌>>=◌, find_or}
+use Rattle.cm_base.specs.Judged.{Judged, find_or}
 use Rattle.request_target.specs.declared.target.Target.{Target}
 use Rattle.request_target.specs.declared.target.Target.TheVariants as targets
 use Rattle.form_args.specs.declared.pairs.Pair.{Pair}
@@ -14,49 +13,74 @@ use Rattle.bind_read.specs.declared.form.Method.TheVariants as methods
 use Rattle.bind_read.specs.declared.words.Service.{Service}
 use Rattle.bind_read.specs.declared.words.Service.TheVariants as services
 
--- the word of a service
+-- the word of a service; a reading without a selector has none
 abbrev pub word_of : Service → List ℕ
 word_of services.CreateFolder = codes "createFolder"
+word_of services.CreateDocument = codes "createDocument"
+word_of services.CheckOut = codes "checkOut"
+word_of services.CheckIn = codes "checkIn"
 word_of services.Object = codes "object"
 word_of services.Properties = codes "properties"
 word_of services.Children = codes "children"
+word_of services.Content = codes "content"
+word_of services.Default = codes ""
 
 -- an action of a POST; the others are selectors of a GET
 abbrev pub is_action : Service → Bool
 is_action services.CreateFolder = true
+is_action services.CreateDocument = true
+is_action services.CheckOut = true
+is_action services.CheckIn = true
 is_action services.Object = false
 is_action services.Properties = false
 is_action services.Children = false
+is_action services.Content = false
+is_action services.Default = false
 
 abbrev pub is_by : Method → Service → Bool
 is_by methods.Get s = not (is_action s)
 is_by methods.Post s = is_action s
 
+-- a document may be made in no folder
+abbrev pub is_at_repository : Service → Bool
+is_at_repository services.CreateDocument = true
+is_at_repository s = false
+
 -- where a service is served
 abbrev pub is_at : Target → Service → Bool
 is_at targets.Service s = false
-is_at targets.Repository s = false
+is_at targets.Repository s = is_at_repository s
 is_at (targets.Object names) s = true
 
--- the services that are served
+-- the services that are named by their words
 abbrev pub all_services : List Service
-all_services = services.CreateFolder ∷ services.Object ∷ services.Properties ∷ services.Children ∷ []
+all_services =
+    services.CreateFolder ∷ services.CreateDocument ∷ services.CheckOut ∷ services.CheckIn
+    ∷ services.Object ∷ services.Properties ∷ services.Children ∷ services.Content ∷ []
 
 -- the word names this service, by this method at this address
 abbrev pub is_named : Method → Target → List ℕ → Service → Bool
 is_named method target w s = (is_by method s && is_at target s) && bytes_eq (word_of s) w
 
--- a request without a selector is not served yet, and an action is always named
-abbrev pub unnamed : Method → Cause
-unnamed methods.Get = causes.NotServed (codes "form")
-unnamed methods.Post = causes.MissingArgument args.CmisAction
+-- without a selector an object is read by its kind; nothing else is served so yet, and an action is always named
+abbrev pub unnamed : Method → Target → Judged Service
+unnamed methods.Get targets.Service = Err (causes.NotServed (codes "form"))
+unnamed methods.Get targets.Repository = Err (causes.NotServed (codes "form"))
+unnamed methods.Get (targets.Object names) = Ok services.Default
+unnamed methods.Post target = Err (causes.MissingArgument args.CmisAction)
 
 abbrev pub argument_of : Method → Argument
 argument_of methods.Get = args.CmisSelector
 argument_of methods.Post = args.CmisAction
 
+-- what the word names
+abbrev pub named : Method → Target → List ℕ → Judged Service
+named method target word = find_or (causes.NotServed word) (find (is_named method target word) all_services)
+
+abbrev pub service_by : Method → Target → Option (List ℕ) → Judged Service
+service_by method target None = unnamed method target
+service_by method target (Some word) = named method target word
+
 -- what the selector of a GET or the action of a POST names
 abbrev pub service_of : Method → Target → List Pair → Judged Service
-service_of method target pairs = do
-  word ← find_or (unnamed method) (value_of pairs (argument_of method))
-  find_or (causes.NotServed word) (find (is_named method target word) all_services)
+service_of method target pairs = service_by method target (value_of pairs (argument_of method))

@@ -6,6 +6,9 @@ ghost use Rattle.bind_read.specs.Calls.{bound, call_of_request};
 use crate::asked::Asked;
 use crate::form::{form_of, method_of};
 use crate::words::{Service, service_of};
+use bind_document::create_document::create_document_of;
+use bind_document::readings::{content_of, default_of};
+use bind_document::versioning::{check_in_of, check_out_of};
 use bind_parts::asking::{Asking, host_of, with_query};
 use bind_tree::children::children_of;
 use bind_tree::create_folder::create_folder_of;
@@ -26,6 +29,18 @@ fn bound(alloc: Global, service: Service, asking: &Asking) -> Result<Asked, Fail
             let call = create_folder_of(alloc, asking)?;
             Ok(Asked::Write(Write::CreateFolder(call)))
         }
+        Service::CreateDocument => {
+            let call = create_document_of(alloc, asking)?;
+            Ok(Asked::Write(Write::CreateDocument(call)))
+        }
+        Service::CheckOut => {
+            let call = check_out_of(alloc, asking)?;
+            Ok(Asked::Write(Write::CheckOut(call)))
+        }
+        Service::CheckIn => {
+            let call = check_in_of(alloc, asking)?;
+            Ok(Asked::Write(Write::CheckIn(call)))
+        }
         Service::Object => {
             let question = object_of(alloc, asking)?;
             Ok(Asked::Question(Question::Object(question)))
@@ -37,6 +52,14 @@ fn bound(alloc: Global, service: Service, asking: &Asking) -> Result<Asked, Fail
         Service::Children => {
             let question = children_of(alloc, asking)?;
             Ok(Asked::Question(Question::Children(question)))
+        }
+        Service::Content => {
+            let question = content_of(alloc, asking)?;
+            Ok(Asked::Question(Question::Content(question)))
+        }
+        Service::Default => {
+            let question = default_of(alloc, asking)?;
+            Ok(Asked::Question(Question::Default(question)))
         }
     }
 }

@@ -3,7 +3,7 @@ ghost use Rattle.std.specs.Prelude.{◌≡◌, find, option_map, IfOk};
 ghost use Rattle.std.specs.Option.{option_copied};
 ghost use Rattle.cm_base.specs.declared.cause.Cause.TheVariants as causes;
 ghost use Rattle.cm_base.specs.Judged.{Meets, find_or};
-ghost use Rattle.bind_read.specs.Words.{word_of, is_action, is_by, is_at, all_services, is_named, unnamed, argument_of, service_of};
+ghost use Rattle.bind_read.specs.Words.{word_of, is_action, is_by, is_at_repository, is_at, all_services, is_named, unnamed, argument_of, service_of};
 
 use crate::form::Method;
 use bind_parts::parts::unserved_form;
@@ -20,9 +20,15 @@ use std::alloc::{AllocError, Global};
 #[derive(Clone, Copy, Debug, PartialEq, Eq)]
 pub enum Service {
     CreateFolder,
+    CreateDocument,
+    CheckOut,
+    CheckIn,
     Object,
     Properties,
     Children,
+    Content,
+    /// An object without a selector.
+    Default,
 }
 
 fn word_of(service: Service) -> &'static str
@@ -30,9 +36,14 @@ fn word_of(service: Service) -> &'static str
 {
     match service {
         Service::CreateFolder => "createFolder",
+        Service::CreateDocument => "createDocument",
+        Service::CheckOut => "checkOut",
+        Service::CheckIn => "checkIn",
         Service::Object => "object",
         Service::Properties => "properties",
         Service::Children => "children",
+        Service::Content => "content",
+        Service::Default => "",
     }
 }
 
@@ -41,9 +52,14 @@ fn is_action(service: Service) -> bool
 {
     match service {
         Service::CreateFolder => true,
+        Service::CreateDocument => true,
+        Service::CheckOut => true,
+        Service::CheckIn => true,
         Service::Object => false,
         Service::Properties => false,
         Service::Children => false,
+        Service::Content => false,
+        Service::Default => false,
     }
 }
 
@@ -56,13 +72,21 @@ fn is_by(method: Method, service: Service) -> bool
     }
 }
 
+fn is_at_repository(service: Service) -> bool
+    ensures { result ≡ is_at_repository service }
+{
+    match service {
+        Service::CreateDocument => true,
+        _ => false,
+    }
+}
+
 fn is_at(target: &Target, service: Service) -> bool
     ensures { result ≡ is_at target.now service }
 {
-    let _everywhere = service;
     match target {
         Target::Service => false,
-        Target::Repository => false,
+        Target::Repository => is_at_repository(service),
         Target::Object(_) => true,
     }
 }
@@ -102,19 +126,26 @@ fn service_named(method: Method, target: &Target, word: &str) -> Option<Service>
         word,
         &[
             Service::CreateFolder,
+            Service::CreateDocument,
+            Service::CheckOut,
+            Service::CheckIn,
             Service::Object,
             Service::Properties,
             Service::Children,
+            Service::Content,
         ],
     )
 }
 
-fn unnamed(alloc: Global, method: Method) -> Result<Cause, AllocError>
-    ensures { IfOk result (λ c. c ≡ unnamed method) }
+fn unnamed(alloc: Global, method: Method, target: &Target) -> Result<Service, Fail>
+    ensures { Meets (λ s. s) result (unnamed method target.now) }
 {
     match method {
-        Method::Get => unserved_form(alloc),
-        Method::Post => Ok(Cause::MissingArgument(Argument::CmisAction)),
+        Method::Get => match target {
+            Target::Object(_) => Ok(Service::Default),
+            _ => Err(Fail::Refused(unserved_form(alloc)?)),
+        },
+        Method::Post => Err(Fail::Refused(Cause::MissingArgument(Argument::CmisAction))),
     }
 }
 
@@ -139,8 +170,8 @@ fn served(alloc: Global, word: &Text, service: Option<Service>) -> Result<Servic
     }
 }
 
-/// What the selector of a GET or the action of a POST names. A word that is not served there is NotServed; an action that is not
-/// given is MissingArgument.
+/// What the selector of a GET or the action of a POST names; without a selector, an object by its kind. A word that is not served
+/// there is NotServed; an action that is not given is MissingArgument.
 pub fn service_of(
     alloc: Global,
     method: Method,
@@ -150,10 +181,7 @@ pub fn service_of(
     ensures { Meets (λ s. s) result (service_of method target.now pairs.now) }
 {
     match pairs.first(argument_of(method).word()) {
-        None => {
-            let cause = unnamed(alloc, method)?;
-            Err(Fail::Refused(cause))
-        }
+        None => unnamed(alloc, method, target),
         Some(word) => served(alloc, word, service_named(method, target, word.as_str())),
     }
 }

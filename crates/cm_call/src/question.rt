@@ -1,5 +1,5 @@
 //! Questions (CMIS 1.1, section 2.2).
-use call_parts::readings::{ReadChildren, ReadObject, ReadProperties};
+use call_parts::readings::{ReadChildren, ReadContent, ReadDefault, ReadObject, ReadProperties};
 
 /// A call that changes nothing.
 #[derive(Drop)]
@@ -7,4 +7,6 @@ pub enum Question {
     Object(ReadObject),
     Properties(ReadProperties),
     Children(ReadChildren),
+    Content(ReadContent),
+    Default(ReadDefault),
 }

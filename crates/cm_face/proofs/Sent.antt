@@ -8,7 +8,6 @@ use Rattle.cm_base.specs.declared.cause.Cause.TheVariants as causes
 use Rattle.cm_base.specs.declared.fail.Fail.{Fail}
 use Rattle.cm_base.specs.declared.fail.Fail.TheVariants as fails
 use Rattle.cm_base.specs.declared.object.Object.{Object}
-use Rattle.cm_base.specs.declared.shown.Shown.{Shown}
 use Rattle.cm_base.specs.Judged.{Judged, Fails, ◌>>=◌, find_or}
 use Rattle.call_parts.specs.declared.place.Place.{Place}
 use Rattle.call_parts.specs.declared.readings.PropertyFilter.{PropertyFilter}

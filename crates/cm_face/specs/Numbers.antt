@@ -8,6 +8,7 @@ use Rattle.cm_base.specs.Judged.{Judged, ◌>>=◌}
 use Rattle.cm_call.specs.declared.write.Write.{Write}
 use Rattle.cm_call.specs.declared.question.Question.{Question}
 use Rattle.cm_call.specs.declared.reply.Reply.{Reply}
+use Rattle.cm_call.specs.declared.reply.Reply.TheVariants as replies
 use Rattle.bind_json.specs.Replies.{shown_reply}
 use Rattle.cmis_spec.specs.Repository.{Repository}
 use Rattle.desk_model.specs.declared.entry.Entry.{Entry}
@@ -20,6 +21,12 @@ no_cause {A} c x h = both_ways false refl (ap (λ (o : Result A Cause). elim o [
 ok_is : {A : Type 0} (x y : A) → ◌≡◌ {A = Result A Cause} (Ok x) (Ok y) → x ≡ y
 ok_is {A} x y h = ap (λ (o : Result A Cause). elim o [ Ok z ↦ z | Err d ↦ x ]) h
 
+-- a reply has the number of the step that it was made at
+reply_has_number : (reply : Reply) (step : ℕ) → (shown_reply reply step).number ≡ Some step
+reply_has_number (replies.Object reply) step = refl
+reply_has_number (replies.Children reply) step = refl
+reply_has_number (replies.Content reply) step = refl
+
 abbrev told : Repository × Reply → Judged (Repository × Shown)
 told made = Ok (made.0, shown_reply made.1 made.0.step)
 
@@ -30,11 +37,11 @@ step_has_number r t e a h = by_step (step_of r e) h
     by_step (Err c) h = absurd (no_cause {A = Repository × Shown} c (t, a) h)
     by_step (Ok made) h =
         let same = ok_is {A = Repository × Shown} (made.0, shown_reply made.1 made.0.step) (t, a) h in
-        sym (ap (λ (p : Repository × Shown). p.1.number) same) ∙ ap (λ (p : Repository × Shown). Some p.0.step) same
+        sym (ap (λ (p : Repository × Shown). p.1.number) same) ∙ (reply_has_number made.1 made.0.step ∙ ap (λ (p : Repository × Shown). Some p.0.step) same)
 
 pub answer_has_number : (r : Repository) (u : List ℕ) (q : Question) (a : Shown) → shown_answer r u q ≡ Ok a → a.number ≡ Some r.step
 answer_has_number r u q a h = by_answer (answer_of r u q) h
   where
     by_answer : (o : Judged Reply) → (o >>= λ reply. Ok (shown_reply reply r.step)) ≡ Ok a → a.number ≡ Some r.step
     by_answer (Err c) h = absurd (no_cause {A = Shown} c a h)
-    by_answer (Ok reply) h = sym (ap (λ (s : Shown). s.number) (ok_is {A = Shown} (shown_reply reply r.step) a h))
+    by_answer (Ok reply) h = sym (ap (λ (s : Shown). s.number) (ok_is {A = Shown} (shown_reply reply r.step) a h)) ∙ reply_has_number reply r.step

@@ -3,20 +3,25 @@ ghost use Rattle.std.specs.Prelude.{◌≡◌, Result};
 ghost use Rattle.cm_base.specs.Judged.{Meets};
 ghost use Rattle.desk_model.specs.Halts.{Tells};
 ghost use Rattle.cm_face.specs.Faces.{shown_step, shown_answer};
-ghost use Rattle.cm_face.specs.Sent.{sent_children, sent_object};
+ghost use Rattle.cm_face.specs.Sent.{sent_children, sent_default, sent_found, sent_object, sent_stream};
 
 use bind_json::replies::{shown_json, text_of};
 use call_parts::place::Place;
-use call_parts::readings::{PropertyFilter, ReadChildren};
+use call_parts::readings::{PropertyFilter, ReadChildren, ReadDefault};
 use cm_base::cause::Cause;
 use cm_base::fail::Fail;
+use cm_base::object::Object;
 use cm_base::shown::Shown;
 use cm_base::text::Text;
 use cm_call::question::Question;
+use cm_call::reply::Reply;
 use cm_call::write::Write;
 use cm_repo::calls::advance;
+use cm_show::address::addressed;
 use cm_state::state::State;
+use cm_types::definition::BaseType;
 use desk_model::{Entry, Halt, Machine};
+use rd_version::content::stream;
 use show_json::children::children_text;
 use show_json::one::object_text;
 use std::alloc::Global;
@@ -62,6 +67,57 @@ fn sent_object(
     Ok(shown)
 }
 
+// What is sent of a content, whose bytes are shared.
+fn sent_stream(
+    alloc: Global,
+    state: &State,
+    user: &Text,
+    place: &Place,
+    asked: &Option<Text>,
+) -> Result<Shown, Fail>
+    ensures { Meets (λ s. s) result (sent_stream state.now user.now place.now asked.now) }
+{
+    let reply = stream(alloc, state, user, place, asked)?;
+    let shown = text_of(alloc, &Reply::Content(reply), state.step())?;
+    Ok(shown)
+}
+
+fn sent_found(
+    alloc: Global,
+    state: &State,
+    user: &Text,
+    q: &ReadDefault,
+    x: &Object,
+) -> Result<Shown, Fail>
+    ensures { Meets (λ s. s) result (sent_found state.now user.now q.now x.now) }
+{
+    if state.is_a(BaseType::Folder, x) {
+        return sent_children(alloc, state, user, &q.children);
+    }
+    if state.is_a(BaseType::Document, x) {
+        return sent_stream(alloc, state, user, &q.children.place, &q.stream);
+    }
+    let asked = &q.children;
+    sent_object(
+        alloc,
+        state,
+        user,
+        &asked.place,
+        &asked.filter,
+        asked.succinct,
+    )
+}
+
+// What is sent without a selector, by the kind of what is addressed.
+fn sent_default(alloc: Global, state: &State, user: &Text, q: &ReadDefault) -> Result<Shown, Fail>
+    ensures { Meets (λ s. s) result (sent_default state.now user.now q.now) }
+{
+    match addressed(state, user, &q.children.place) {
+        Some(x) => sent_found(alloc, state, user, q, x),
+        None => Err(Fail::Refused(Cause::NotFound)),
+    }
+}
+
 fn sent(alloc: Global, state: &State, user: &Text, question: &Question) -> Result<Shown, Fail>
     ensures { Meets (λ s. s) result (shown_answer state.now user.now question.now) }
 {
@@ -69,6 +125,8 @@ fn sent(alloc: Global, state: &State, user: &Text, question: &Question) -> Resul
         Question::Object(q) => sent_object(alloc, state, user, &q.place, &q.filter, q.succinct),
         Question::Properties(q) => sent_object(alloc, state, user, &q.place, &q.filter, q.succinct),
         Question::Children(q) => sent_children(alloc, state, user, q),
+        Question::Content(q) => sent_stream(alloc, state, user, &q.place, &q.stream),
+        Question::Default(q) => sent_default(alloc, state, user, q),
     }
 }
 
@@ -89,8 +147,8 @@ fn shown_answer(
 
 /// The machine of the server: the bytes of a reply are made before its step is taken, so that a step that was taken can be told.
 ///
-/// The status is 201 where the call made an object, and else 200; the media type is application/json; the number is that of the
-/// state at which the reply was made.
+/// The status is 201 where the call made an object, and else 200; the media type is that of a content, and else application/json;
+/// the number is that of the state at which the reply was made.
 pub struct Face;
 
 impl Machine for Face {

@@ -3,21 +3,29 @@ ghost use Rattle.std.specs.Prelude.{◌≡◌, Result, IfOk};
 ghost use Rattle.cm_base.specs.Judged.{Meets, Writes};
 ghost use Rattle.cmis_spec.specs.Well.{IsWellFormed};
 ghost use Rattle.desk_model.specs.Halts.{Tells};
-ghost use Rattle.cm_repo.specs.Calls.{refusal_of, after, acknowledgement, answer_of, step_of};
+ghost use Rattle.cm_repo.specs.Calls.{refusal_of, after, acknowledgement, answer_default, answer_of, default_of, step_of};
 
+use call_parts::readings::ReadDefault;
 use cm_base::cause::Cause;
 use cm_base::fail::Fail;
 use cm_base::number::Moment;
+use cm_base::object::Object;
 use cm_base::text::Text;
 use cm_call::question::Question;
 use cm_call::reply::Reply;
 use cm_call::write::Write;
+use cm_show::address::addressed;
 use cm_state::state::State;
+use cm_types::definition::BaseType;
 use desk_model::{Entry, Halt};
 use rd_nav::children::children;
-use rd_object::object::{object, properties};
+use rd_object::object::{object, properties, shown};
+use rd_version::content::{content, stream};
 use std::alloc::Global;
+use wr_object::create_document::create_document;
 use wr_object::create_folder::create_folder;
+use wr_version::check_in::check_in;
+use wr_version::check_out::check_out;
 
 fn write(
     alloc: Global,
@@ -26,11 +34,26 @@ fn write(
     moment: Moment,
     call: &Write,
 ) -> Result<(State, Reply), Fail>
-    ensures { Writes result (refusal_of state.now user.now moment call.now) (after state.now user.now moment call.now) (acknowledgement state.now user.now moment call.now) }
+    ensures { Writes result
+        (refusal_of state.now user.now moment call.now)
+        (after state.now user.now moment call.now)
+        (acknowledgement state.now user.now moment call.now) }
 {
     match call {
         Write::CreateFolder(call) => {
             let (next, reply) = create_folder(alloc, state, user, moment, call)?;
+            Ok((next, Reply::Object(reply)))
+        }
+        Write::CreateDocument(call) => {
+            let (next, reply) = create_document(alloc, state, user, moment, call)?;
+            Ok((next, Reply::Object(reply)))
+        }
+        Write::CheckOut(call) => {
+            let (next, reply) = check_out(alloc, state, user, moment, call)?;
+            Ok((next, Reply::Object(reply)))
+        }
+        Write::CheckIn(call) => {
+            let (next, reply) = check_in(alloc, state, user, moment, call)?;
             Ok((next, Reply::Object(reply)))
         }
     }
@@ -57,6 +80,45 @@ pub fn advance(
     }
 }
 
+// What is answered without a selector about what was found.
+fn default_of(
+    alloc: Global,
+    state: &State,
+    user: &Text,
+    q: &ReadDefault,
+    x: &Object,
+) -> Result<Reply, Fail>
+    ensures { Meets (λ y. y) result (default_of state.now user.now q.now x.now) }
+{
+    if state.is_a(BaseType::Folder, x) {
+        let reply = children(alloc, state, user, &q.children)?;
+        return Ok(Reply::Children(reply));
+    }
+    if state.is_a(BaseType::Document, x) {
+        let reply = stream(alloc, state, user, &q.children.place, &q.stream)?;
+        return Ok(Reply::Content(reply));
+    }
+    let asked = &q.children;
+    let reply = shown(
+        alloc,
+        state,
+        user,
+        &asked.place,
+        &asked.filter,
+        asked.succinct,
+    )?;
+    Ok(Reply::Object(reply))
+}
+
+fn default(alloc: Global, state: &State, user: &Text, q: &ReadDefault) -> Result<Reply, Fail>
+    ensures { Meets (λ y. y) result (answer_default state.now user.now q.now) }
+{
+    match addressed(state, user, &q.children.place) {
+        Some(x) => default_of(alloc, state, user, q, x),
+        None => Err(Fail::Refused(Cause::NotFound)),
+    }
+}
+
 fn read(alloc: Global, state: &State, user: &Text, question: &Question) -> Result<Reply, Fail>
     ensures { Meets (λ x. x) result (answer_of state.now user.now question.now) }
 {
@@ -73,6 +135,11 @@ fn read(alloc: Global, state: &State, user: &Text, question: &Question) -> Resul
             let reply = children(alloc, state, user, q)?;
             Ok(Reply::Children(reply))
         }
+        Question::Content(q) => {
+            let reply = content(alloc, state, user, q)?;
+            Ok(Reply::Content(reply))
+        }
+        Question::Default(q) => default(alloc, state, user, q),
     }
 }
 

@@ -1,19 +1,34 @@
 //! The answers follow from what the caller sees: one law for all questions, as a function that does nothing.
 ghost use Rattle.std.specs.Prelude.{ℕ, List};
+ghost use Rattle.call_parts.specs.declared.readings.ReadDefault.{ReadDefault};
 ghost use Rattle.cm_call.specs.declared.question.Question.{Question};
 ghost use Rattle.cmis_spec.specs.Repository.{Repository};
 ghost use Rattle.cmis_spec.specs.Seen.{OfSeen};
 ghost use Rattle.cmis_spec.specs.Well.{IsWellFormed};
-ghost use Rattle.cm_repo.specs.Calls.{answer_of};
+ghost use Rattle.cm_repo.specs.Calls.{answer_default, answer_of};
 
 use rd_nav::law::children_of_seen;
 use rd_object::law::{object_of_seen, properties_of_seen};
+use rd_version::law::stream_of_seen;
+
+// What is answered without a selector, by the kind of what is addressed.
+fn default_of_seen()
+    ensures { (r : Repository) (u : List ℕ) (q : ReadDefault) → IsWellFormed r
+        → OfSeen (λ s. answer_default s u q) r u (answer_default r u q) }
+{
+    properties_of_seen();
+    children_of_seen();
+    stream_of_seen();
+}
 
 /// In two well-formed repositories in which the caller sees the same, he is answered the same, whatever he asks.
 pub fn answer_of_seen()
-    ensures { (r : Repository) (u : List ℕ) (q : Question) → IsWellFormed r → OfSeen (λ s. answer_of s u q) r u (answer_of r u q) }
+    ensures { (r : Repository) (u : List ℕ) (q : Question) → IsWellFormed r
+        → OfSeen (λ s. answer_of s u q) r u (answer_of r u q) }
 {
     object_of_seen();
     properties_of_seen();
     children_of_seen();
+    stream_of_seen();
+    default_of_seen();
 }
