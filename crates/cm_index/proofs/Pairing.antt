@@ -5,7 +5,6 @@ use Rattle.core.specs.List.{AllByRecursion}
 use Rattle.core.specs.Ordering.{eq_by_cmp, nat_cmp, ordering_then, MatchOrdering}
 use Rattle.core.specs.Cmp.{both_ways, ranks, unsigned_tied}
 use Rattle.std.proofs.lemmas.Map.Text.{is_eq-slice_cmp}
-use Rattle.core.specs.Cmp.Lexicographic.{slice_cmp}
 use Rattle.cm_base.specs.declared.number.Oid.{Oid}
 use Rattle.map_keys.specs.Parts.{within}
 use Rattle.cm_map.specs.Sets.{IsRising, has_key, with_key, all_but_key}
@@ -22,13 +21,13 @@ tied_then Greater b = refl
 
 key_same : (k l : IndexKey) → is_eq (ghosts.cmp k l) ≡ same_key k l
 key_same (keys.Kind s) (keys.Kind t) = is_eq-slice_cmp s t
-key_same (keys.Kind s) (keys.Child g t) = refl
+key_same (keys.Kind s) (keys.End y) = refl
 key_same (keys.Kind s) (keys.Series y) = refl
-key_same (keys.Child f s) (keys.Kind t) = refl
-key_same (keys.Child f s) (keys.Child g t) = tied_then (nat_cmp f.0 g.0) (slice_cmp nat_cmp s t) ∙ (λ i. unsigned_tied f.0 g.0 i && is_eq-slice_cmp s t i)
-key_same (keys.Child f s) (keys.Series y) = refl
+key_same (keys.End x) (keys.Kind t) = refl
+key_same (keys.End x) (keys.End y) = unsigned_tied x.0 y.0
+key_same (keys.End x) (keys.Series y) = refl
 key_same (keys.Series x) (keys.Kind t) = refl
-key_same (keys.Series x) (keys.Child g t) = refl
+key_same (keys.Series x) (keys.End y) = refl
 key_same (keys.Series x) (keys.Series y) = unsigned_tied x.0 y.0
 
 equal_of : (r : Ordering) → is_eq r ≡ true → r ≡ Equal

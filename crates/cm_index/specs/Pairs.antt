@@ -11,7 +11,7 @@ use Rattle.cm_index.specs.contracts.index_key.IndexKeyOrd.TheImpl.{ghosts}
 
 abbrev pub same_key : IndexKey → IndexKey → Bool
 same_key (keys.Kind s) (keys.Kind t) = bytes_eq s t
-same_key (keys.Child f s) (keys.Child g t) = f.0 == g.0 && bytes_eq s t
+same_key (keys.End x) (keys.End y) = x.0 == y.0
 same_key (keys.Series x) (keys.Series y) = x.0 == y.0
 same_key _ _ = false
 

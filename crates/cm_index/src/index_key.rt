@@ -13,8 +13,8 @@ use std::alloc::{AllocError, Global};
 pub enum IndexKey {
     /// The id of a type: the objects of it.
     Kind(Text),
-    /// A folder and a name: the child of that name in it.
-    Child(Oid, Text),
+    /// An object: those that name it as an end, as relationships do (CMIS 1.1, section 2.1.6).
+    End(Oid),
     /// A version series: its documents.
     Series(Oid),
 }
@@ -27,7 +27,7 @@ impl Copies for IndexKey {
     fn copied(&self, alloc: Global) -> Result<IndexKey, AllocError> {
         match self {
             IndexKey::Kind(kind) => Ok(IndexKey::Kind(kind.copied(alloc)?)),
-            IndexKey::Child(folder, name) => Ok(IndexKey::Child(*folder, name.copied(alloc)?)),
+            IndexKey::End(end) => Ok(IndexKey::End(*end)),
             IndexKey::Series(series) => Ok(IndexKey::Series(*series)),
         }
     }

@@ -16,7 +16,7 @@ use Rattle.cmis_spec.specs.Well.{Apart, Differ, IsWellFormed}
 use Rattle.cmis_laws.proofs.Lists.{by_test, some_eq, find_yes, find_no, find_none, find_alike, found_holds, found_passes, none_some, same_eq, same_refl, differ}
 use Rattle.cmis_laws.proofs.Entries.{all_there}
 use Rattle.cm_state.specs.Looks.{entries_in, child_in, standing_at, has_number, numbers_in}
-use Rattle.cm_state.proofs.Others.{flip}
+use Rattle.cm_state.proofs.Numbers.{flip}
 use Rattle.cm_state.proofs.Stands.{number_stands, none_stands, tells, bool_same}
 
 -- ---- lists of numbers that rise

@@ -1,10 +1,4 @@
 mod Among
-mod Bounds
-mod Drafts
-pub mod Each
-mod Entries
-pub mod Laws
 mod Looked
-mod Numbers
-mod Others
+pub mod Numbers
 mod Stands

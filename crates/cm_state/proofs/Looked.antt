@@ -1,13 +1,11 @@
 -- What is looked up in the filing is what is looked up in the pairs.
-use Rattle.std.specs.Prelude.{◌≡◌, ◌&&◌, ◌||◌, not, Bool, false, List, [], ◌∷◌, Ok, map, filter, find, Option, option_map, bytes_eq, ℕ}
+use Rattle.std.specs.Prelude.{◌≡◌, ◌&&◌, ◌||◌, not, Bool, List, [], ◌∷◌, map, filter, find, option_map, bytes_eq, ℕ}
 use Rattle.std.specs.List.{list_any}
 use Rattle.std.proofs.Common.{refl, sym, ap, ◌∙◌}
 use Rattle.cm_base.specs.declared.number.Oid.{Oid}
 use Rattle.cm_base.specs.declared.filing.Filed.{Filed}
-use Rattle.cm_base.specs.declared.cause.Cause.TheVariants as causes
-use Rattle.cm_base.specs.Judged.{◌>>◌, refuse}
 use Rattle.cm_folder.specs.declared.entry.FilingEntry.{FilingEntry}
-use Rattle.cm_folder.specs.Filings.{pair_of, pairs_of, is_entry, is_filed_in, is_name_taken, child_named, children_in, folders_in as folders_of, refusal_file}
+use Rattle.cm_folder.specs.Filings.{pair_of, pairs_of, is_filed_in, is_name_taken, child_named, children_in, folders_in as folders_of}
 use Rattle.cmis_spec.specs.Repository.{Repository, same, is_filed, is_taken}
 use Rattle.cmis_laws.proofs.Lists.{by_test}
 use Rattle.cm_state.specs.Told.{name_by, entry_by, entries_of}
@@ -38,12 +36,3 @@ named_same r es f name e = ap (λ es. child_named es f name) e ∙ by r.filed
     by : (ps : List Filed) → option_map (λ e. e.child) (find (λ e. same e.folder f && bytes_eq e.name name) (map (entry_by r.types r.series r.objects) ps)) ≡ option_map (λ p. p.child) (find (λ p. same p.folder f && bytes_eq (name_by r.series r.objects p.child) name) ps)
     by [] = refl
     by (p ∷ ps) = by_test (same p.folder f && bytes_eq (name_by r.series r.objects p.child) name) (λ t. rw t refl) (λ t. rw t (by ps))
-
--- ---- what a write's lines rule out
-
--- of the causes of filing: the child is in the folder, or its name is taken there
-pub file_passes : (r : Repository) (p : Filed) → is_filed r p.folder p.child ≡ false → is_taken r p.folder p.child (name_by r.series r.objects p.child) ≡ false
-    → refusal_file (entries_of r) (entry_by r.types r.series r.objects p) ≡ Ok tt
-file_passes r p a b =
-    (λ i. refuse causes.AlreadyFiled ((any_map (is_entry p.folder p.child) (entry_by r.types r.series r.objects) r.filed ∙ a) i)
-    >> refuse causes.NameTaken ((taken_same r (entries_of r) p.folder p.child (name_by r.series r.objects p.child) refl ∙ b) i))

@@ -10,7 +10,9 @@ use Rattle.cm_base.specs.declared.number.Oid.{Oid}
 use Rattle.cmis_spec.specs.Repository.{same}
 use Rattle.cmis_laws.proofs.Lists.{by_test}
 use Rattle.cm_lists.specs.Keyed.{Rises}
-use Rattle.cm_state.proofs.Others.{flip}
+
+pub flip : (a b : ℕ) → (b == a) ≡ (a == b)
+flip a b = grind arith
 
 -- a number more
 pub more_numbers : (n k : ℕ) (es : List (ℕ × Unit {0})) → is_some (find nat_cmp n (put nat_cmp k tt es)) ≡ ((k == n) || is_some (find nat_cmp n es))

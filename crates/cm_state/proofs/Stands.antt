@@ -14,7 +14,7 @@ use Rattle.cmis_spec.specs.Well.{Apart, Belongs, members, copy_in, HasSome, IsMe
 use Rattle.cmis_laws.proofs.Lists.{by_test, some_eq, none_some, found_holds, same_eq, same_refl, differ}
 use Rattle.cmis_laws.proofs.Entries.{number_found, series_found, one_there}
 use Rattle.cm_state.specs.Looks.{own_at, standing_by, standing_at, has_number}
-use Rattle.cm_state.proofs.Others.{flip}
+use Rattle.cm_state.proofs.Numbers.{flip}
 
 -- the last of a list is one of it
 last_holds : (P : Oid → Type 0) (vs : List DocumentVersion) (rest : List Oid) (v : DocumentVersion) → All P (map (λ v. v.object) vs ++ rest) → last_of vs ≡ Some v → P v.object

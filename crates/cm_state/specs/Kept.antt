@@ -1,10 +1,10 @@
--- The repository that the parts of a draft are, and what they keep.
+-- The repository that the parts are, and what they keep.
 use Rattle.std.specs.Prelude.{◌≡◌, []}
 use Rattle.std.specs.Arc.{arc_value}
 use Rattle.cmis_spec.specs.Repository.{Repository}
 use Rattle.cm_folder.specs.Filings.{pairs_of}
 use Rattle.cm_state.specs.Told.{entries_of}
-use Rattle.cm_state.specs.declared.draft.Draft.TheInside.{Inside}
+use Rattle.cm_state.specs.declared.parts.Parts.TheInside.{Inside}
 
 -- no call makes groups yet
 abbrev pub repository_of : Inside → Repository
@@ -26,6 +26,6 @@ repository_of s = record {
 }
 
 -- all that the indexes need: the filing tells what its children are
-pub record IsDraft (s : Inside) : Type 0 where
+pub record IsParts (s : Inside) : Type 0 where
   pub told : s.filing ≡ entries_of (repository_of s)
   pub no_groups : (arc_value s.people).no_groups ≡ []

@@ -1,5 +1,6 @@
--- What is looked up in a draft or a state.
+-- What is looked up in a repository.
 use Rattle.std.specs.Prelude.{ℕ, ◌==◌, Bool, false, ◌&&◌, if◌then◌else◌, List, map, filter, find, Option, Some, None, is_none, option_map, option_and_then, unwrap_or, bytes_eq}
+use Rattle.std.specs.List.{list_any}
 use Rattle.cm_base.specs.declared.number.Oid.{Oid}
 use Rattle.cm_base.specs.declared.object.Object.{Object}
 use Rattle.cm_base.specs.declared.series.Series.{Series}
@@ -8,6 +9,7 @@ use Rattle.cm_base.specs.declared.content.Content.{Content}
 use Rattle.cm_base.specs.declared.content.Rendition.{Rendition}
 use Rattle.cmis_spec.specs.Repository.{Repository, same, object_at, series_at, latest_version, entry_of, entry_name, is_filed}
 use Rattle.cmis_spec.specs.Access.{stands}
+use Rattle.cmis_spec.specs.Removal.{ends_of, is_id_of}
 
 -- the access control list that is kept under the number, if there is one
 abbrev pub list_at : Repository → Oid → Option AccessList
@@ -51,6 +53,10 @@ has_number n o = unwrap_or (option_map (λ x. x.id.0 == n) o) false
 -- the objects that stand in the folder under their names, in the order of their numbers
 abbrev pub standing_in : Repository → Oid → List Object
 standing_in r f = filter (λ x. is_filed r f (entry_of x) && stands r x) r.objects
+
+-- the objects that name this one as an end, as relationships do (CMIS 1.1, section 2.1.6), in the order of their numbers
+abbrev pub tied_to : Repository → Oid → List Oid
+tied_to r n = map (λ x. x.id) (filter (λ x. list_any (is_id_of n) (ends_of x)) r.objects)
 
 abbrev pub numbers_in : Repository → Oid → List Oid
 numbers_in r f = map (λ x. x.id) (standing_in r f)

@@ -1,20 +1,12 @@
-//! The state of a repository, and the drafts of which states are made.
+//! The state of a repository: its parts, what is looked up in them, and the states that they make.
 #![tactic(auto)]
 
 ghost use Rattle.std.specs.Prelude.{◌≡◌};
 
-pub mod access;
-pub mod change;
-pub mod documents;
-pub mod draft;
-pub mod filing;
 pub mod lists;
 pub mod look;
 pub mod open;
-pub mod removal;
-pub mod series;
-pub mod several;
+pub mod parts;
 mod standing;
 pub mod state;
-mod told;
-pub mod typing;
+pub mod told;

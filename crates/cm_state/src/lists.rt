@@ -12,12 +12,13 @@ use cm_base::object::Object;
 use cm_base::series::Series;
 use cm_lists::sequence::Sequence;
 use cm_lists::table::Table;
+use cm_objects::objects::Objects;
 use std::alloc::{AllocError, Global};
 
 /// What a repository has of each kind, but the filing. A changed list shares with the old one all that stays.
 #[derive(Drop)]
 pub struct Lists {
-    pub objects: Table<Object>,
+    pub objects: Objects,
     pub series: Table<Series>,
     pub access: Table<AccessList>,
     pub applied: Sequence<Applied>,

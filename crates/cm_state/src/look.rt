@@ -1,23 +1,27 @@
-//! Look-ups in a draft. None takes memory.
+//! Look-ups in the parts of a repository. None takes memory.
 ghost use Rattle.std.specs.Prelude.{◌≡◌, Option, Some, None, map, length, unwrap_or};
-ghost use Rattle.std.specs.Prelude.{[], is_none, if◌then◌else◌};
+ghost use Rattle.std.specs.Prelude.{[], is_none, if◌then◌else◌, IfOk};
 ghost use Rattle.std.specs.Option.{option_copied};
 ghost use Rattle.cm_types.specs.Types.{type_in};
 ghost use Rattle.cmis_spec.specs.Repository.{object_at, series_at, series_of, owner_of, is_latest, latest_version, is_a, parent_in, is_filed, entry_of, entry_name, is_taken};
 ghost use Rattle.cmis_spec.specs.Access.{stands, groups_of};
-ghost use Rattle.cm_state.specs.Looks.{list_at, content_at, rendition_at, entries_in, folders_in, child_in, own_at, standing_at};
+ghost use Rattle.cm_state.specs.Looks.{list_at, content_at, rendition_at, entries_in, folders_in, child_in, own_at, standing_at, tied_to};
 
-use crate::draft::Draft;
+use crate::parts::Parts;
 use crate::told::is_of_base;
 use cm_base::access::AccessList;
 use cm_base::content::{Content, Rendition};
-use cm_base::number::Oid;
+use cm_base::filing::Applied;
+use cm_base::log::Change;
+use cm_base::number::{Oid, Oids};
 use cm_base::object::Object;
 use cm_base::series::Series;
 use cm_base::text::{Text, Texts};
+use cm_lists::sequence::Sequence;
 use cm_map::map::Map;
 use cm_type_list::types::Types;
 use cm_types::definition::{BaseType, TypeDef};
+use std::alloc::{AllocError, Global};
 
 /// Whether the object is the latest version of the series (CMIS 1.1, section 2.1.13.1). Takes no memory.
 pub fn is_latest(series: &Series, n: Oid) -> bool
@@ -36,7 +40,7 @@ pub fn entry_of(x: &Object) -> Oid
     x.series.unwrap_or(x.id)
 }
 
-impl Draft {
+impl Parts {
     /// The object of this number.
     pub fn object(&self, n: Oid) -> Option<&Object>
         ensures { option_copied result ≡ object_at self.now n }
@@ -159,6 +163,13 @@ impl Draft {
         self.lists.renditions.get(n.0)
     }
 
+    /// The numbers of the objects that name this one as an end, rising.
+    pub fn tied(&self, alloc: Global, n: Oid) -> Result<Oids, AllocError>
+        ensures { IfOk result (λ ns. ns ≡ tied_to self.now n) }
+    {
+        self.lists.objects.tied(alloc, n)
+    }
+
     /// The number of objects.
     pub fn len(&self) -> u64
         ensures { result ≡ length self.now.objects }
@@ -234,6 +245,20 @@ impl Draft {
         ensures { result ≡ self.now.step }
     {
         self.step
+    }
+
+    /// The applied policies: pairs of a policy and an object (CMIS 1.1, section 2.1.9.1).
+    pub fn applied(&self) -> &Sequence<Applied>
+        ensures { result.now ≡ self.now.applied }
+    {
+        &self.lists.applied
+    }
+
+    /// The change log (CMIS 1.1, section 2.1.15).
+    pub fn log(&self) -> &Sequence<Change>
+        ensures { result.now ≡ self.now.log }
+    {
+        &self.lists.log
     }
 
     /// The number of events in the change log.

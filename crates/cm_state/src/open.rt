@@ -3,8 +3,8 @@ ghost use Rattle.std.specs.Prelude.{◌≡◌, [], ◌∷◌, IfOk, map};
 ghost use Rattle.cmis_spec.specs.Repository.{opening, root, root_folder, root_aces, administrator_of};
 ghost use Rattle.cmis_spec.specs.Well.{IsWellFormed};
 
-use crate::draft::{Draft, People};
 use crate::lists::Lists;
+use crate::parts::{Parts, People};
 use crate::state::State;
 use cm_base::access::{AccessList, Ace, Aces, Level};
 use cm_base::copies::Copies;
@@ -16,6 +16,7 @@ use cm_base::user::{User, Users};
 use cm_folder::filing::Filing;
 use cm_lists::sequence::Sequence;
 use cm_lists::table::Table;
+use cm_objects::objects::Objects;
 use cm_type_list::types::Types;
 use std::alloc::{AllocError, Global};
 use std::sync::Arc;
@@ -103,7 +104,7 @@ fn first_lists(alloc: Global, folder: Object, aces: Aces) -> Result<Lists, Alloc
       log = [];
     }) }
 {
-    let objects = Table::empty(alloc).with_last(alloc, folder)?;
+    let objects = Objects::empty(alloc).with_last(alloc, folder)?;
     let access = Table::empty(alloc).with_last(alloc, AccessList { at: ROOT, aces })?;
     Ok(Lists {
         objects,
@@ -139,7 +140,7 @@ impl State {
             no_groups: Items::new(alloc),
         };
         let people = Arc::new(alloc, people)?;
-        let draft = Draft {
+        let parts = Parts {
             types,
             people,
             filing: Filing::empty(alloc),
@@ -148,6 +149,6 @@ impl State {
             step: first_step,
             cost: 0,
         };
-        Ok(draft.seal())
+        Ok(parts.seal())
     }
 }

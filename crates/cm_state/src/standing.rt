@@ -9,7 +9,7 @@ ghost use Rattle.cmis_spec.specs.Repository.{same};
 ghost use Rattle.cm_base.specs.declared.number.Oid.{Oid};
 ghost use Rattle.cm_state.specs.Looks.{standing_at, has_number};
 
-use crate::draft::Draft;
+use crate::parts::Parts;
 use cm_base::items::Items;
 use cm_base::number::{Oid, Oids};
 use cm_base::object::Object;
@@ -47,15 +47,15 @@ fn with_number(
 // The numbers of what stands for these entries.
 fn numbers_among(
     alloc: Global,
-    draft: &Draft,
+    parts: &Parts,
     entries: &Map<u64, Oid>,
 ) -> Result<Map<u64, ()>, AllocError>
-    ensures { IfOk result (λ m. (n : ℕ) → is_some (find nat_cmp n m) ≡ list_any (λ e. has_number n (standing_at draft.now e.1)) entries.now) }
+    ensures { IfOk result (λ m. (n : ℕ) → is_some (find nat_cmp n m) ≡ list_any (λ e. has_number n (standing_at parts.now e.1)) entries.now) }
 {
     let mut all = Map::empty(alloc);
     for entry in entries.iter() {
         let at: &(u64, Oid) = entry;
-        all = with_number(alloc, &all, draft.standing(at.1))?;
+        all = with_number(alloc, &all, parts.standing(at.1))?;
     }
     Ok(all)
 }
@@ -71,13 +71,13 @@ fn push_number(numbers: &mut Oids, x: Option<&Object>) -> Result<(), AllocError>
 }
 
 // The numbers of what stands for these entries, in the order of the entries.
-fn gathered(alloc: Global, draft: &Draft, entries: &Map<u64, Oid>) -> Result<Oids, AllocError>
-    ensures { IfOk result (λ ns. (n : Oid) → list_any (same n) ns ≡ list_any (λ e. has_number n.0 (standing_at draft.now e.1)) entries.now) }
+fn gathered(alloc: Global, parts: &Parts, entries: &Map<u64, Oid>) -> Result<Oids, AllocError>
+    ensures { IfOk result (λ ns. (n : Oid) → list_any (same n) ns ≡ list_any (λ e. has_number n.0 (standing_at parts.now e.1)) entries.now) }
 {
     let mut numbers = Items::new(alloc);
     for entry in entries.iter() {
         let at: &(u64, Oid) = entry;
-        push_number(&mut numbers, draft.standing(at.1))?;
+        push_number(&mut numbers, parts.standing(at.1))?;
     }
     Ok(numbers)
 }
@@ -97,11 +97,11 @@ fn are_rising(numbers: &[Oid]) -> bool
 }
 
 // The numbers of what stands for these entries, put in order by a set.
-fn sorted_among(alloc: Global, draft: &Draft, entries: &Map<u64, Oid>) -> Result<Oids, AllocError>
+fn sorted_among(alloc: Global, parts: &Parts, entries: &Map<u64, Oid>) -> Result<Oids, AllocError>
     ensures rising { IfOk result (λ ns. Rises (λ n. n.0) ns) }
-    ensures members { IfOk result (λ ns. (n : Oid) → list_any (same n) ns ≡ list_any (λ e. has_number n.0 (standing_at draft.now e.1)) entries.now) }
+    ensures members { IfOk result (λ ns. (n : Oid) → list_any (same n) ns ≡ list_any (λ e. has_number n.0 (standing_at parts.now e.1)) entries.now) }
 {
-    let all = numbers_among(alloc, draft, entries)?;
+    let all = numbers_among(alloc, parts, entries)?;
     let _sorted = all.len();
     let numbers = numbers(alloc, &all)?;
     Ok(numbers)
@@ -110,15 +110,15 @@ fn sorted_among(alloc: Global, draft: &Draft, entries: &Map<u64, Oid>) -> Result
 /// The numbers of what stands for these entries, rising.
 pub(crate) fn standing_among(
     alloc: Global,
-    draft: &Draft,
+    parts: &Parts,
     entries: &Map<u64, Oid>,
 ) -> Result<Oids, AllocError>
     ensures rising { IfOk result (λ ns. Rises (λ n. n.0) ns) }
-    ensures members { IfOk result (λ ns. (n : Oid) → list_any (same n) ns ≡ list_any (λ e. has_number n.0 (standing_at draft.now e.1)) entries.now) }
+    ensures members { IfOk result (λ ns. (n : Oid) → list_any (same n) ns ≡ list_any (λ e. has_number n.0 (standing_at parts.now e.1)) entries.now) }
 {
-    let numbers = gathered(alloc, draft, entries)?;
+    let numbers = gathered(alloc, parts, entries)?;
     if are_rising(numbers.as_slice()) {
         return Ok(numbers);
     }
-    sorted_among(alloc, draft, entries)
+    sorted_among(alloc, parts, entries)
 }

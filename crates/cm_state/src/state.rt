@@ -1,23 +1,27 @@
 //! A repository that is well formed.
-ghost use Rattle.std.specs.Prelude.{◌≡◌, Bool, if◌then◌else◌, option_and_then, ◌+◌, ◌<◌, ◌&&◌, Option, Some, None, IfOk, find, bytes_eq, length};
+ghost use Rattle.std.specs.Prelude.{◌≡◌, Bool, if◌then◌else◌, option_and_then, unwrap_or, ◌+◌, ◌<◌, ◌&&◌, Option, Some, None, IfOk, [], map, find, bytes_eq, length};
 ghost use Rattle.std.specs.Option.{option_copied};
 ghost use Rattle.cm_base.specs.declared.object.Object.{Object};
 ghost use Rattle.cm_types.specs.Types.{type_in};
 ghost use Rattle.cmis_spec.specs.Repository.{object_at, series_at, series_of, owner_of, is_a, parent_in, is_filed, entry_of, entry_name, is_taken};
 ghost use Rattle.cmis_spec.specs.Access.{stands, groups_of};
 ghost use Rattle.cmis_spec.specs.Well.{IsWellFormed};
-ghost use Rattle.cm_state.specs.Looks.{list_at, content_at, rendition_at, numbers_in};
+ghost use Rattle.cm_state.specs.Looks.{list_at, content_at, rendition_at, folders_in, numbers_in, tied_to};
 
-use crate::draft::Draft;
+use crate::parts::Parts;
 use crate::standing::standing_among;
 use cm_base::access::AccessList;
 use cm_base::content::{Content, Rendition};
+use cm_base::filing::Applied;
 use cm_base::items::Items;
+use cm_base::log::Change;
 use cm_base::number::{Oid, Oids};
 use cm_base::object::Object;
 use cm_base::series::Series;
 use cm_base::steps::Steps;
 use cm_base::text::{Text, Texts};
+use cm_lists::sequence::Sequence;
+use cm_map::map::Map;
 use cm_type_list::types::Types;
 use cm_types::definition::{BaseType, TypeDef};
 use std::alloc::{AllocError, Global};
@@ -27,7 +31,7 @@ use std::sync::ledger::Ledger;
 /// A repository that is well formed, seen as the record of its lists.
 #[derive(Drop)]
 pub struct State {
-    draft: Draft,
+    parts: Parts,
 }
 
 impl Model for State {
@@ -36,43 +40,42 @@ impl Model for State {
 
     ghost Value = { Repository };
 
-    ghost view = { λ s. s.draft };
+    ghost view = { λ s. s.parts };
 
-    ghost invariant = { λ s. IsWellFormed s.draft };
+    ghost invariant = { λ s. IsWellFormed s.parts };
 }
 
-impl Draft {
-    /// The state that the draft is, where it is well formed.
+impl Parts {
+    /// The state that the parts are, where they are well formed.
     pub fn seal(self) -> State
         requires well { IsWellFormed self }
         ensures { result ≡ self }
     {
-        State { draft: self }
+        State { parts: self }
     }
 }
 
 impl State {
-    /// A draft of what the state is now, which shares all with it.
-    pub fn draft(&self, alloc: Global) -> Result<Draft, AllocError>
-        ensures { IfOk result (λ d. d ≡ self.now) }
+    /// The parts of the state.
+    pub fn parts(&self) -> &Parts
+        ensures { result.now ≡ self.now }
     {
-        let draft = self.draft.share(alloc)?;
-        Ok(draft)
+        &self.parts
     }
 
     /// The same state once more. All that it holds is shared with this one.
     pub fn copy(&self, alloc: Global) -> Result<State, AllocError>
         ensures { IfOk result (λ s. s ≡ self.now) }
     {
-        let draft = self.draft.share(alloc)?;
-        Ok(State { draft })
+        let parts = self.parts.share(alloc)?;
+        Ok(State { parts })
     }
 
     /// The object of this number.
     pub fn object(&self, n: Oid) -> Option<&Object>
         ensures { option_copied result ≡ object_at self.now n }
     {
-        self.draft.object(n)
+        self.parts.object(n)
     }
 
     /// The object of this number, and one step more on the counter of fetches.
@@ -88,112 +91,126 @@ impl State {
     pub fn types(&self) -> &Types
         ensures { result.now ≡ self.now.types }
     {
-        self.draft.types()
+        self.parts.types()
     }
 
     /// The definition of a type.
     pub fn type_named(&self, id: &Text) -> Option<&TypeDef>
         ensures { option_copied result ≡ type_in self.now.types id.now }
     {
-        self.draft.type_named(id)
+        self.parts.type_named(id)
     }
 
     /// The base type of x is this one.
     pub fn is_a(&self, base: BaseType, x: &Object) -> bool
         ensures { result ≡ is_a self.now base x.now }
     {
-        self.draft.is_a(base, x)
+        self.parts.is_a(base, x)
     }
 
     /// The names of the users; the first is the administrator.
     pub fn users(&self) -> &Texts
         ensures { result.now ≡ self.now.users }
     {
-        self.draft.users()
+        self.parts.users()
     }
 
     /// The names of the groups that have the user as a member.
     pub fn groups_of(&self, user: &Text) -> &Texts
         ensures { result.now ≡ groups_of self.now user.now }
     {
-        self.draft.groups_of(user)
+        self.parts.groups_of(user)
     }
 
     /// The series of this number.
     pub fn series(&self, n: Oid) -> Option<&Series>
         ensures { option_copied result ≡ series_at self.now n }
     {
-        self.draft.series(n)
+        self.parts.series(n)
     }
 
     /// The series of a document.
     pub fn series_of(&self, x: &Object) -> Option<&Series>
         ensures { option_copied result ≡ series_of self.now x.now }
     {
-        self.draft.series_of(x)
+        self.parts.series_of(x)
     }
 
     /// The owner of the working copy that x is, if it is one.
     pub fn owner_of(&self, x: &Object) -> Option<&Text>
         ensures { option_copied result ≡ owner_of self.now x.now }
     {
-        self.draft.owner_of(x)
+        self.parts.owner_of(x)
     }
 
     /// A folder, an item, or the latest version of a series.
     pub fn stands(&self, x: &Object) -> bool
         ensures { result ≡ stands self.now x.now }
     {
-        self.draft.stands(x)
+        self.parts.stands(x)
     }
 
     /// The content of a document.
     pub fn content(&self, n: Oid) -> Option<&Content>
         ensures { option_copied result ≡ content_at self.now n }
     {
-        self.draft.content(n)
+        self.parts.content(n)
     }
 
     /// The rendition with this number.
     pub fn rendition(&self, n: Oid) -> Option<&Rendition>
         ensures { option_copied result ≡ rendition_at self.now n }
     {
-        self.draft.rendition(n)
+        self.parts.rendition(n)
+    }
+
+    /// The numbers of the objects that name this one as an end, rising.
+    pub fn tied(&self, alloc: Global, n: Oid) -> Result<Oids, AllocError>
+        ensures { IfOk result (λ ns. ns ≡ tied_to self.now n) }
+    {
+        self.parts.tied(alloc, n)
     }
 
     /// The number of objects.
     pub fn len(&self) -> u64
         ensures { result ≡ length self.now.objects }
     {
-        self.draft.len()
+        self.parts.len()
     }
 
     /// The access control list of an object that is no document, or of a series.
     pub fn access_list(&self, n: Oid) -> Option<&AccessList>
         ensures { option_copied result ≡ list_at self.now n }
     {
-        self.draft.access_list(n)
+        self.parts.access_list(n)
     }
 
     /// The parent of a folder.
     pub fn parent(&self, n: Oid) -> Option<Oid>
         ensures { result ≡ parent_in self.now.filed n }
     {
-        self.draft.parent(n)
+        self.parts.parent(n)
     }
 
     /// Whether the entry is filed in the folder.
     pub fn is_filed(&self, folder: Oid, n: Oid) -> bool
         ensures { result ≡ is_filed self.now folder n }
     {
-        self.draft.is_filed(folder, n)
+        self.parts.is_filed(folder, n)
+    }
+
+    /// The folders of a child, by the places of its pairs.
+    pub fn folders(&self, n: Oid) -> Option<&Map<u64, Oid>>
+        ensures { map (λ e. e.1) (unwrap_or (option_copied result) []) ≡ folders_in self.now n }
+    {
+        self.parts.folders(n)
     }
 
     /// The name of a folder, an item or a series.
     pub fn entry_text(&self, n: Oid) -> &str
         ensures { result.now ≡ entry_name self.now n }
     {
-        self.draft.entry_text(n)
+        self.parts.entry_text(n)
     }
 
     /// The bytes of the name of a folder, an item or a series.
@@ -207,7 +224,7 @@ impl State {
     pub fn is_taken(&self, folder: Oid, but: Oid, name: &Text) -> bool
         ensures { result ≡ is_taken self.now folder but name.now }
     {
-        self.draft.is_taken(folder, but, name)
+        self.parts.is_taken(folder, but, name)
     }
 
     /// The object that stands in the folder under the name.
@@ -215,8 +232,8 @@ impl State {
         ensures { (keep : Object → Bool) → find (λ x. (is_filed self.now folder (entry_of x) && stands self.now x && keep x) && bytes_eq (entry_name self.now (entry_of x)) name.now) self.now.objects
             ≡ option_and_then (λ x. if keep x then Some x else None) (option_copied result) }
     {
-        match self.draft.child_named(folder, name) {
-            Some(child) => self.draft.standing(child),
+        match self.parts.child_named(folder, name) {
+            Some(child) => self.parts.standing(child),
             None => None,
         }
     }
@@ -225,9 +242,9 @@ impl State {
     pub fn children(&self, alloc: Global, folder: Oid) -> Result<Oids, AllocError>
         ensures { IfOk result (λ all. all ≡ numbers_in self.now folder) }
     {
-        match self.draft.entries(folder) {
+        match self.parts.entries(folder) {
             Some(entries) => {
-                let all = standing_among(alloc, &self.draft, entries)?;
+                let all = standing_among(alloc, &self.parts, entries)?;
                 Ok(all)
             }
             None => Ok(Items::new(alloc)),
@@ -238,7 +255,7 @@ impl State {
     pub fn next_number(&self) -> u64
         ensures { result ≡ self.now.next }
     {
-        self.draft.next_number()
+        self.parts.next_number()
     }
 
     /// The number of accepted writes.
@@ -246,20 +263,34 @@ impl State {
         ensures value { result ≡ self.now.step }
         ensures well { IsWellFormed self.now }
     {
-        self.draft.step()
+        self.parts.step()
+    }
+
+    /// The applied policies: pairs of a policy and an object (CMIS 1.1, section 2.1.9.1).
+    pub fn applied(&self) -> &Sequence<Applied>
+        ensures { result.now ≡ self.now.applied }
+    {
+        self.parts.applied()
+    }
+
+    /// The change log (CMIS 1.1, section 2.1.15).
+    pub fn log(&self) -> &Sequence<Change>
+        ensures { result.now ≡ self.now.log }
+    {
+        self.parts.log()
     }
 
     /// The number of events in the change log.
     pub fn events(&self) -> u64
         ensures { result ≡ length self.now.log }
     {
-        self.draft.events()
+        self.parts.events()
     }
 
     /// What they cost.
     pub fn cost(&self) -> u64
         ensures { result ≡ self.now.cost }
     {
-        self.draft.cost()
+        self.parts.cost()
     }
 }

@@ -1,17 +1,10 @@
-//! What the filing tells of a child.
-ghost use Rattle.std.specs.Prelude.{◌≡◌, IfOk};
+//! The base type of a type.
+ghost use Rattle.std.specs.Prelude.{◌≡◌};
 ghost use Rattle.cm_types.specs.Types.{is_of_base, same_base};
-ghost use Rattle.cm_folder.specs.Filings.{retold as told_anew};
-ghost use Rattle.cm_state.specs.Told.{folder_by, name_by, entry_by};
 
-use crate::lists::Lists;
-use cm_base::number::Oid;
 use cm_base::text::Text;
-use cm_folder::entry::FilingEntry;
-use cm_folder::filing::Filing;
 use cm_type_list::types::Types;
 use cm_types::definition::BaseType;
-use std::alloc::{AllocError, Global};
 
 fn same_base_type(a: BaseType, b: BaseType) -> bool
     ensures { result ≡ same_base a b }
@@ -28,53 +21,11 @@ fn same_base_type(a: BaseType, b: BaseType) -> bool
 }
 
 /// The type of this id has this base type.
-pub(crate) fn is_of_base(types: &Types, base: BaseType, kind: &Text) -> bool
+pub fn is_of_base(types: &Types, base: BaseType, kind: &Text) -> bool
     ensures { result ≡ is_of_base types.now base kind.now }
 {
     match types.find(kind) {
         Some(def) => same_base_type(base, def.base),
         None => false,
     }
-}
-
-fn is_folder(types: &Types, lists: &Lists, n: Oid) -> bool
-    ensures { result ≡ folder_by types.now lists.now.objects n }
-{
-    match lists.object(n) {
-        Some(x) => is_of_base(types, BaseType::Folder, &x.kind),
-        None => false,
-    }
-}
-
-/// The entry of a child in a folder.
-pub(crate) fn entry(
-    alloc: Global,
-    types: &Types,
-    lists: &Lists,
-    folder: Oid,
-    child: Oid,
-) -> Result<FilingEntry, AllocError>
-    ensures { IfOk result (λ e. e ≡ entry_by types.now lists.now.series lists.now.objects (record { folder = folder; child = child })) }
-{
-    Ok(FilingEntry {
-        folder,
-        child,
-        is_folder: is_folder(types, lists, child),
-        name: Text::from_str(alloc, lists.entry_text(child))?,
-    })
-}
-
-/// The filing with what these lists tell of the entry.
-pub(crate) fn retold(
-    alloc: Global,
-    filing: &Filing,
-    types: &Types,
-    lists: &Lists,
-    n: Oid,
-) -> Result<Filing, AllocError>
-    ensures { IfOk result (λ f. f ≡ told_anew filing.now n (folder_by types.now lists.now.objects n) (name_by lists.now.series lists.now.objects n)) }
-{
-    let name = Text::from_str(alloc, lists.entry_text(n))?;
-    let told = filing.retold(alloc, n, is_folder(types, lists, n), &name)?;
-    Ok(told)
 }

@@ -1,5 +1,5 @@
 -- The rows of queries (CMIS 1.1, section 2.1.14.2): which objects are rows for a caller, and what a condition may test of them.
-use Rattle.std.specs.Prelude.{ℕ, Bool, true, false, ◌&&◌, ◌||◌, not, List, map, filter, Option, Some, None, is_some, unwrap_or, option_map, option_and_then, bytes_eq, if◌then◌else◌}
+use Rattle.std.specs.Prelude.{ℕ, Bool, false, ◌&&◌, ◌||◌, not, List, map, filter, Option, Some, None, is_some, unwrap_or, option_map, option_and_then, bytes_eq, if◌then◌else◌}
 use Rattle.std.specs.List.{list_any, flat_map}
 use Rattle.cm_base.specs.declared.number.Oid.{Oid}
 use Rattle.cm_base.specs.declared.object.Object.{Object}

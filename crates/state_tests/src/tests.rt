@@ -8,8 +8,8 @@ use cm_base::number::{Moment, Oid};
 use cm_base::object::Object;
 use cm_base::text::Text;
 use cm_base::users::read_users;
+use cm_draft::draft::Draft;
 use cm_opening::open::open;
-use cm_state::draft::Draft;
 use cm_state::open::ROOT;
 use cm_state::state::State;
 use std::alloc::{AllocError, Global};
@@ -44,7 +44,7 @@ fn filed(alloc: Global, state: &State, object: Object) -> Result<Draft, AllocErr
 {
     let number = object.id;
     let _step = state.step();
-    let begun = state.draft(alloc)?;
+    let begun = Draft::of(alloc, state)?;
     let policies = Items::new(alloc);
     let made = begun.with_object(alloc, object, Items::new(alloc), policies.as_slice())?;
     made.with_pair(alloc, ROOT, number)
@@ -66,7 +66,7 @@ fn moved(alloc: Global) -> Option<Draft> {
 }
 
 fn edited(alloc: Global, draft: Draft, object: Object) -> Result<Option<Draft>, AllocError> {
-    if draft.object(object.id).is_none() {
+    if draft.parts().object(object.id).is_none() {
         return Ok(None);
     }
     let edited = draft.edited(alloc, object)?;
@@ -75,7 +75,7 @@ fn edited(alloc: Global, draft: Draft, object: Object) -> Result<Option<Draft>, 
 
 fn renamed(alloc: Global) -> Option<Draft> {
     let draft = made(alloc)?;
-    let object = like(alloc, draft.object(MADE)?, MADE, "b").ok()?;
+    let object = like(alloc, draft.parts().object(MADE)?, MADE, "b").ok()?;
     edited(alloc, draft, object).ok()?
 }
 
@@ -83,7 +83,8 @@ fn renamed(alloc: Global) -> Option<Draft> {
 fn lies_in(alloc: Global, draft: &Draft, folder: Oid, other: Oid, name: &str) -> bool {
     match Text::from_str(alloc, name) {
         Ok(name) => {
-            draft.child_named(folder, &name) == Some(MADE) && !draft.is_filed(other, MADE)
+            draft.parts().child_named(folder, &name) == Some(MADE)
+                && !draft.parts().is_filed(other, MADE)
         }
         Err(_) => false,
     }

@@ -1,6 +1,5 @@
 pub mod CreateFolder
 pub mod CreatedDocument
-pub mod Deleted
 pub mod DocumentParted
 pub mod Made
 pub mod MadeDocument

@@ -10,7 +10,6 @@ ghost use Rattle.wr_object.specs.Parts.{wanted_in};
 ghost use Rattle.wr_object.specs.DocumentParts.{judge_found, refusal_in_parts, number_of, allowed_in, object_of, parts_of, parts_made};
 
 use crate::asked::judge_values;
-use crate::beside::kept_beside;
 use crate::document_rules::{folder_of, judge_kinds, judge_name, judge_place, state_of};
 use crate::making_document::{document_in, new_content, new_series, own_name};
 use crate::new_document::{Allowed, NewDocument};
@@ -28,6 +27,7 @@ use cm_base::value::Values;
 use cm_state::state::State;
 use cm_types::definition::TypeDef;
 use std::alloc::{AllocError, Global};
+use wr_rules::beside::kept_beside;
 use wr_rules::costs::with_defaults;
 use wr_rules::entries::new_aces;
 use wr_rules::kinds::judge_types;

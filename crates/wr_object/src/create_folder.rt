@@ -11,7 +11,6 @@ ghost use Rattle.wr_object.specs.CreateFolder.{cost_create_folder, refusal_creat
 ghost use Rattle.wr_object.specs.Parts.{wanted_in, judge_found, refusal_in_parts, parent_of};
 
 use crate::asked::judge_values;
-use crate::beside::kept_beside;
 use crate::folder_rules::{judge_kinds, judge_name, judge_place};
 use crate::making::made_in;
 use crate::wanted::{Wanted, wanted_by};
@@ -29,6 +28,7 @@ use cm_show::address::addressed;
 use cm_state::state::State;
 use cm_types::definition::TypeDef;
 use std::alloc::{AllocError, Global};
+use wr_rules::beside::kept_beside;
 use wr_rules::costs::with_defaults;
 use wr_rules::entries::new_aces;
 use wr_rules::kinds::judge_types;

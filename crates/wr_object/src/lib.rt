@@ -4,7 +4,6 @@
 ghost use Rattle.std.specs.Prelude.{◌≡◌};
 
 mod asked;
-mod beside;
 pub mod create_document;
 pub mod create_folder;
 mod document_rules;

@@ -9,7 +9,7 @@ use cm_base::items::Items;
 use cm_base::log::ChangeKind;
 use cm_base::number::{Moment, Oid};
 use cm_base::object::Object;
-use cm_state::draft::Draft;
+use cm_draft::draft::Draft;
 use cm_state::state::State;
 use std::alloc::{AllocError, Global};
 
@@ -34,7 +34,7 @@ pub(crate) fn made_in(
 {
     let number = object.id;
     let _step = state.step();
-    let begun = state.draft(alloc)?;
+    let begun = Draft::of(alloc, state)?;
     let made = begun.with_object(alloc, object, aces, policies)?;
     let filed = made.with_pair(alloc, folder, number)?;
     let paid = filed.stepped(cost);

@@ -19,7 +19,7 @@ use cm_base::number::{Moment, Oid};
 use cm_base::object::Object;
 use cm_base::series::{DocumentVersion, Label, Series, VersioningState, WorkingCopy};
 use cm_base::text::Text;
-use cm_state::draft::Draft;
+use cm_draft::draft::Draft;
 use cm_state::state::State;
 use std::alloc::{AllocError, Global};
 use wr_rules::content::content_of_stream;
@@ -149,7 +149,7 @@ fn begun_with(
 {
     let number = series.id;
     let _step = state.step();
-    let begun = state.draft(alloc)?;
+    let begun = Draft::of(alloc, state)?;
     let made = begun.with_member(alloc, object)?;
     let entered = made.with_series(alloc, series)?;
     let listed = entered.with_list(alloc, AccessList { at: number, aces })?;

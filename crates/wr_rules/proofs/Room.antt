@@ -1,5 +1,5 @@
 -- A write that Storage does not refuse has room.
-use Rattle.std.specs.Prelude.{◌≡◌, ℕ, ◌+◌, Ok, nat_lt}
+use Rattle.std.specs.Prelude.{◌≡◌, ℕ, ◌+◌, ◌<◌, ◌^◌, Ok, nat_lt}
 use Rattle.std.proofs.Common.{arith}
 use Rattle.std.proofs.lemmas.Bool.{ltb-false}
 use Rattle.cm_base.specs.declared.cause.Cause.TheVariants as causes
@@ -15,3 +15,8 @@ room_of r cost h =
       steps = omega (arith, ltb-false most_steps (r.step + 1) s.0);
       bytes = omega (arith, ltb-false most_cost (r.cost + cost) (refused_not (causes.Storage r.cost cost most_cost) (nat_lt most_cost (r.cost + cost)) s.1));
     }
+
+-- one more step and its cost stay numbers of 64 bits
+pub fits_of : (r : Repository) (cost : ℕ) → HasRoom r cost → (r.step + 1 < 2 ^ 64) × (r.cost + cost < 2 ^ 64)
+unfolding most_steps most_cost
+fits_of r cost room = (omega (arith, room.steps), omega (arith, room.bytes))

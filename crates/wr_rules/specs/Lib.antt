@@ -1,4 +1,5 @@
 pub mod Documents
-pub mod Rules
 pub mod Firsts
+pub mod Found
 pub mod Named
+pub mod Rules

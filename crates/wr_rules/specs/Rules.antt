@@ -1,6 +1,7 @@
 -- What the refusals and effects of writes share.
-use Rattle.std.specs.Prelude.{ℕ, ◌+◌, nat_lt, sum, Bool, ◌&&◌, not, if◌then◌else◌, List, [], ◌∷◌, map, filter, filter_map, length, Option, Some, None, is_none, bytes_eq, codes}
+use Rattle.std.specs.Prelude.{ℕ, ◌+◌, ◌==◌, nat_lt, sum, Bool, false, ◌&&◌, not, if◌then◌else◌, List, [], ◌∷◌, map, filter, filter_map, length, Option, Some, None, is_none, option_map, unwrap_or, Ok, bytes_eq, codes}
 use Rattle.std.specs.List.{list_any, flat_map}
+use Rattle.cm_base.specs.Decimals.{decimal_u64}
 use Rattle.cm_base.specs.declared.number.Oid.{Oid}
 use Rattle.cm_base.specs.declared.object.Object.{Object}
 use Rattle.cm_base.specs.declared.access.Ace.{Ace}
@@ -30,6 +31,17 @@ abbrev pub judge_storage : Repository → ℕ → Judged (Unit {0})
 judge_storage r cost = do
   refuse (causes.Storage r.step 1 most_steps) (nat_lt most_steps (r.step + 1))
   refuse (causes.Storage r.cost cost most_cost) (nat_lt most_cost (r.cost + cost))
+
+-- ---- change tokens (section 2.2.1.3)
+
+-- the text is the number of the step that last changed x
+abbrev pub is_token : Object → List ℕ → Bool
+is_token x text = unwrap_or (option_map (λ n. n == x.token) (decimal_u64 text)) false
+
+-- no token is asked for, but one that is given must be the kept one
+abbrev pub judge_token : Object → Option (List ℕ) → Judged (Unit {0})
+judge_token x None = Ok tt
+judge_token x (Some text) = refuse (causes.Token text x.token) (not (is_token x text))
 
 -- ---- given properties
 

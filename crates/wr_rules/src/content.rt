@@ -13,14 +13,16 @@ use cm_base::text::Text;
 use cm_types::definition::{ContentAllowed, TypeDef};
 use std::alloc::{AllocError, Global};
 
+/// How many bytes the content of a document has at most (CMIS 1.1, section 2.1.4.1).
 #[tactic(auto, unfolding(cmis_spec::specs::Repository::longest_stream))]
-fn longest_stream() -> u64
+pub fn longest_stream() -> u64
     ensures { result ≡ longest_stream }
 {
     33554432
 }
 
-fn bars_content(kind: &TypeDef) -> bool
+/// Whether the documents of this type have no content (CMIS 1.1, section 2.1.4.3.2, contentStreamAllowed). Takes no memory.
+pub fn bars_content(kind: &TypeDef) -> bool
     ensures { result ≡ bars_content kind.now }
 {
     match kind.content_allowed {
@@ -30,7 +32,8 @@ fn bars_content(kind: &TypeDef) -> bool
     }
 }
 
-fn needs_content(kind: &TypeDef) -> bool
+/// Whether the documents of this type must have content (CMIS 1.1, section 2.1.4.3.2, contentStreamAllowed). Takes no memory.
+pub fn needs_content(kind: &TypeDef) -> bool
     ensures { result ≡ needs_content kind.now }
 {
     match kind.content_allowed {
@@ -40,7 +43,8 @@ fn needs_content(kind: &TypeDef) -> bool
     }
 }
 
-fn is_too_long(stream: &GivenStream) -> bool
+/// Whether the stream that is given is longer than content may be (CMIS 1.1, section 2.1.4.1). Takes no memory.
+pub fn is_too_long(stream: &GivenStream) -> bool
     ensures { result ≡ is_too_long stream.now }
 {
     longest_stream() < stream.pieces.len()

@@ -3,6 +3,7 @@
 
 ghost use Rattle.std.specs.Prelude.{◌≡◌};
 
+pub mod beside;
 pub mod content;
 pub mod copied;
 pub mod costs;
@@ -13,3 +14,5 @@ pub mod made;
 pub mod policies;
 pub mod properties;
 pub mod storage;
+pub mod token;
+pub mod versions;

@@ -1,5 +1,5 @@
 //! What a call gives for the properties that every object has.
-ghost use Rattle.std.specs.Prelude.{◌≡◌, [], ◌∷◌, IfOk};
+ghost use Rattle.std.specs.Prelude.{◌≡◌, [], ◌∷◌, IfOk, is_some};
 ghost use Rattle.std.specs.Option.{option_copied};
 ghost use Rattle.cm_types.specs.Properties.{given_of, given_texts};
 ghost use Rattle.wr_rules.specs.Rules.{first_text, given_text, name_in, type_id_in, secondary_in};
@@ -14,6 +14,13 @@ fn find_given<'a>(given: &'a [Given], id: &str) -> Option<&'a Given>
     ensures { option_copied result ≡ given_of given.now id.now }
 {
     given.iter().find(|g| g.id.is_str(id))
+}
+
+/// Whether something is given for the property of this id.
+pub fn is_given(given: &[Given], id: &str) -> bool
+    ensures { result ≡ is_some (given_of given.now id.now) }
+{
+    find_given(given, id).is_some()
 }
 
 /// The texts that are given for the property of this id.

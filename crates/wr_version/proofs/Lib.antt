@@ -1,6 +1,5 @@
 mod Anywhere
 mod Copied
-pub mod CancelCheckOut
 pub mod CheckIn
 pub mod CheckOut
 pub mod Commented

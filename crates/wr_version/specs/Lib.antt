@@ -1,5 +1,3 @@
-pub mod CancelCheckOut
 pub mod CheckIn
 pub mod CheckInParts
 pub mod CheckOut
-pub mod Found

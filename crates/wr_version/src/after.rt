@@ -1,12 +1,10 @@
 //! What a check-in leaves of a working copy: its name, its secondary types and its values.
-ghost use Rattle.std.specs.Prelude.{◌≡◌, ◌∷◌, ◌++◌, ◌&&◌, ◌||◌, not, IfOk, is_some, filter, map, codes};
+ghost use Rattle.std.specs.Prelude.{◌≡◌, ◌∷◌, ◌++◌, ◌&&◌, ◌||◌, IfOk, map, codes};
 ghost use Rattle.std.specs.List.{list_any};
-ghost use Rattle.std.specs.Option.{option_copied};
 ghost use Rattle.cm_base.specs.declared.value.Slot.{Slot};
 ghost use Rattle.cm_base.specs.declared.value.Scalar.TheVariants.{Words};
-ghost use Rattle.cm_types.specs.Properties.{given_of, is_set};
 ghost use Rattle.cmis_spec.specs.Repository.{is_taken};
-ghost use Rattle.cmis_spec.specs.Values.{words, texts, is_apart, kept_beside};
+ghost use Rattle.cmis_spec.specs.Values.{words, texts, kept_beside};
 ghost use Rattle.cmis_spec.specs.Documents.{with_comment};
 ghost use Rattle.wr_rules.specs.Documents.{form_slots, name_after, secondary_after, is_taken_anywhere};
 
@@ -18,25 +16,12 @@ use cm_base::object::Object;
 use cm_base::text::{Text, Texts};
 use cm_base::value::{Scalar, Scalars, Slot, Value, Values};
 use cm_map::map::Map;
-use cm_rules::kept::is_set;
-use cm_state::draft::Draft;
 use cm_state::state::State;
 use cm_types::given::Given;
 use std::alloc::{AllocError, Global};
+use wr_rules::beside::kept_beside;
 use wr_rules::copied::name_of;
-use wr_rules::properties::{name_in, secondary_in};
-
-fn find_given<'a>(given: &'a [Given], id: &str) -> Option<&'a Given>
-    ensures { option_copied result ≡ given_of given.now id.now }
-{
-    given.iter().find(|g| g.id.is_str(id))
-}
-
-fn is_given(given: &[Given], id: &str) -> bool
-    ensures { result ≡ is_some (given_of given.now id.now) }
-{
-    find_given(given, id).is_some()
-}
+use wr_rules::properties::{is_given, name_in, secondary_in};
 
 /// The name that is given, else the one that the object has.
 pub(crate) fn name_after(
@@ -150,28 +135,6 @@ pub(crate) fn form_slots(alloc: Global, state: &State, x: &Object) -> Result<Val
     Ok(Items::from_vec(all))
 }
 
-fn is_apart(id: &Text) -> bool
-    ensures { result ≡ is_apart id.now }
-{
-    id.is_str("cmis:name")
-        || id.is_str("cmis:objectTypeId")
-        || id.is_str("cmis:secondaryObjectTypeIds")
-}
-
-fn is_beside(slot: &Slot) -> bool
-    ensures { result ≡ (not (is_apart slot.now.id) && is_set slot.now.value) }
-{
-    !is_apart(&slot.id) && is_set(&slot.value)
-}
-
-fn only_beside(slots: Vec<Slot>) -> Vec<Slot>
-    ensures { result.items ≡ filter (λ s. not (is_apart s.id) && is_set s.value) slots.items }
-{
-    let mut slots = slots;
-    slots.retain(|s| is_beside(s));
-    slots
-}
-
 // The slots with the comment of a check-in in place of an older one.
 fn commented(
     alloc: Global,
@@ -198,41 +161,29 @@ pub(crate) fn kept_with_comment(
 ) -> Result<Values, AllocError>
     ensures { IfOk result (λ v. v ≡ with_comment (kept_beside values) comment.now) }
 {
-    let kept = only_beside(values.into_vec());
-    let all = commented(alloc, kept, comment)?;
+    let kept = kept_beside(values);
+    let all = commented(alloc, kept.into_vec(), comment)?;
     Ok(Items::from_vec(all))
 }
 
 // Another child has the name in one of these folders of the entry.
-fn is_taken_among(draft: &Draft, folders: &Map<u64, Oid>, n: Oid, name: &Text) -> bool
-    ensures { result ≡ list_any (λ e. is_taken draft.now e.1 n name.now) folders.now }
+fn is_taken_among(state: &State, folders: &Map<u64, Oid>, n: Oid, name: &Text) -> bool
+    ensures { result ≡ list_any (λ e. is_taken state.now e.1 n name.now) folders.now }
 {
     let mut found = false;
     for entry in folders.iter() {
         let at: &(u64, Oid) = entry;
-        found = draft.is_taken(at.1, n, name) || found;
+        found = state.is_taken(at.1, n, name) || found;
     }
     found
 }
 
-fn is_taken_in(draft: &Draft, n: Oid, name: &Text) -> bool
-    ensures { result ≡ is_taken_anywhere draft.now n name.now }
+/// Whether another child has the name in one of the folders in which the entry is filed.
+pub(crate) fn is_taken_anywhere(state: &State, n: Oid, name: &Text) -> bool
+    ensures { result ≡ is_taken_anywhere state.now n name.now }
 {
-    match draft.folders(n) {
-        Some(folders) => is_taken_among(draft, folders, n, name),
+    match state.folders(n) {
+        Some(folders) => is_taken_among(state, folders, n, name),
         None => false,
     }
-}
-
-/// Whether another child has the name in one of the folders in which the entry is filed.
-pub(crate) fn is_taken_anywhere(
-    alloc: Global,
-    state: &State,
-    n: Oid,
-    name: &Text,
-) -> Result<bool, AllocError>
-    ensures { IfOk result (λ b. b ≡ is_taken_anywhere state.now n name.now) }
-{
-    let draft = state.draft(alloc)?;
-    Ok(is_taken_in(&draft, n, name))
 }

@@ -11,7 +11,7 @@ ghost use Rattle.cmis_spec.specs.Documents.{is_copy_of, is_working_copy, last_la
 ghost use Rattle.cmis_spec.specs.Well.{IsWellFormed};
 ghost use Rattle.wr_rules.specs.Rules.{secondary_in, unknown_type, has_other_secondary};
 ghost use Rattle.wr_rules.specs.Documents.{form_slots, name_after, secondary_after};
-ghost use Rattle.wr_version.specs.Found.{FindsWith};
+ghost use Rattle.wr_rules.specs.Found.{FindsWith};
 ghost use Rattle.wr_version.specs.CheckIn.{cost_check_in, props_after, judge_new_name, refusal_check_in, new_version, given_content, after_check_in, acknowledgement_check_in};
 ghost use Rattle.wr_version.specs.CheckInParts.{judge_given, judge_copy, judge_found, values_after};
 
@@ -99,8 +99,7 @@ fn judge_new_name(alloc: Global, state: &State, call: &CheckIn, x: &Object) -> R
     if !name_ok(name.bytes()) {
         return Err(Fail::Refused(Cause::BadName));
     }
-    let is_taken = is_taken_anywhere(alloc, state, entry_of(x), &name)?;
-    if is_taken {
+    if is_taken_anywhere(state, entry_of(x), &name) {
         return Err(Fail::Refused(Cause::NameTaken));
     }
     Ok(())

@@ -7,9 +7,8 @@ ghost use Rattle.cmis_spec.specs.Documents.{is_comment, without_comment};
 ghost use Rattle.cmis_spec.specs.Well.{IsWellFormed};
 ghost use Rattle.call_parts.specs.Weight.{bounded};
 ghost use Rattle.cm_show.specs.Addressed.{addressed};
-ghost use Rattle.wr_rules.specs.Documents.{is_versionable, is_checked_out};
 ghost use Rattle.cm_show.specs.Shown.{is_latest_version};
-ghost use Rattle.wr_version.specs.Found.{Finds};
+ghost use Rattle.wr_rules.specs.Found.{Finds};
 ghost use Rattle.wr_version.specs.CheckOut.{copies_cost, cost_check_out, judge_latest, refusal_check_out, new_copy, new_content, after_check_out, acknowledgement_check_out};
 
 use crate::copying::{checked_out, copied_in};
@@ -36,24 +35,7 @@ use std::alloc::{AllocError, Global};
 use wr_rules::copied::{is_comment, name_of, with_copied};
 use wr_rules::made::with_reply;
 use wr_rules::storage::judge_storage;
-
-fn is_versionable(state: &State, x: &Object) -> bool
-    ensures { result ≡ is_versionable state.now x.now }
-{
-    match state.type_named(&x.kind) {
-        Some(def) => def.versionable,
-        None => false,
-    }
-}
-
-fn is_checked_out(state: &State, x: &Object) -> bool
-    ensures { result ≡ is_checked_out state.now x.now }
-{
-    match state.series_of(x) {
-        Some(series) => series.working.is_some(),
-        None => false,
-    }
-}
+use wr_rules::versions::{is_checked_out, is_versionable};
 
 fn is_latest_version(state: &State, x: &Object) -> bool
     ensures { result ≡ is_latest_version state.now x.now }

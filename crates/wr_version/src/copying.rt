@@ -13,7 +13,7 @@ use cm_base::number::{Moment, Oid};
 use cm_base::object::Object;
 use cm_base::series::{Series, WorkingCopy};
 use cm_base::text::Text;
-use cm_state::draft::Draft;
+use cm_draft::draft::Draft;
 use cm_state::state::State;
 use std::alloc::{AllocError, Global};
 
@@ -75,7 +75,7 @@ pub(crate) fn copied_in(
 {
     let number = copy.id;
     let _step = state.step();
-    let begun = state.draft(alloc)?;
+    let begun = Draft::of(alloc, state)?;
     let made = begun.with_member(alloc, copy)?;
     let out = made.edited_series(alloc, series)?;
     let full = with_content(alloc, out, content)?;

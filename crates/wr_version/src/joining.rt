@@ -14,7 +14,7 @@ use cm_base::number::Oid;
 use cm_base::object::Object;
 use cm_base::series::{DocumentVersion, Label, Series};
 use cm_base::text::Text;
-use cm_state::draft::Draft;
+use cm_draft::draft::Draft;
 use cm_state::state::State;
 use std::alloc::{AllocError, Global};
 
@@ -98,7 +98,7 @@ pub(crate) fn joined_in(
 {
     let number = version.id;
     let moment = version.changed;
-    let begun = state.draft(alloc)?;
+    let begun = Draft::of(alloc, state)?;
     let put = begun.edited(alloc, version)?;
     let joined = put.edited_series(alloc, series)?;
     let full = with_content(alloc, joined, content)?;

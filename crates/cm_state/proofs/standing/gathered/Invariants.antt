@@ -7,4 +7,4 @@ use Rattle.cm_state.specs.Looks.{standing_at, has_number}
 use Rattle.cm_state.proofs.standing.gathered.Given as goal
 
 abbrev pub invariant-loop-entry : goal.invariant-loop-entry
-invariant-loop-entry l = (n : Oid) → list_any (same n) l.numbers ≡ list_any (λ e. has_number n.0 (standing_at l.draft e.1)) (map pointee l.yielded)
+invariant-loop-entry l = (n : Oid) → list_any (same n) l.numbers ≡ list_any (λ e. has_number n.0 (standing_at l.parts e.1)) (map pointee l.yielded)

@@ -9,7 +9,7 @@ use Rattle.cm_state.proofs.standing.numbers_among.Goals as goal
 
 pub loop-entry-preserved : goal.loop-entry-preserved
 loop-entry-preserved c n =
-    let t : ℕ × Oid → Bool = λ e. has_number n (standing_at c.args.draft.now e.1) in
+    let t : ℕ × Oid → Bool = λ e. has_number n (standing_at c.args.parts.now e.1) in
     c.in_ok-all.ensures n
     ∙ ((λ i. has_number n (c.standing.ensures i) || c.loop-entry.invariant n i)
     ∙ (sym (any_last t (map pointee c.loop-entry.yielded) c.in-Some.entry.now) ∙ ap (list_any t) (sym (map-append pointee c.loop-entry.yielded (c.in-Some.entry ∷ [])))))

@@ -7,4 +7,4 @@ use Rattle.cm_state.specs.Looks.{standing_at, has_number}
 use Rattle.cm_state.proofs.standing.numbers_among.Given as goal
 
 abbrev pub invariant-loop-entry : goal.invariant-loop-entry
-invariant-loop-entry l = (n : ℕ) → is_some (find nat_cmp n l.all) ≡ list_any (λ e. has_number n (standing_at l.draft e.1)) (map pointee l.yielded)
+invariant-loop-entry l = (n : ℕ) → is_some (find nat_cmp n l.all) ≡ list_any (λ e. has_number n (standing_at l.parts e.1)) (map pointee l.yielded)

@@ -5,4 +5,4 @@ use Rattle.cmis_spec.specs.Repository.{is_taken}
 use Rattle.wr_version.proofs.after.is_taken_among.Given as goal
 
 abbrev pub invariant-loop-entry : goal.invariant-loop-entry
-invariant-loop-entry l = l.found ≡ list_any (λ e. is_taken l.draft e.1 l.n l.name) (map pointee l.yielded)
+invariant-loop-entry l = l.found ≡ list_any (λ e. is_taken l.state e.1 l.n l.name) (map pointee l.yielded)

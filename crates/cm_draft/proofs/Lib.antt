@@ -1,0 +1,3 @@
+mod Changed
+mod Entries
+mod Others

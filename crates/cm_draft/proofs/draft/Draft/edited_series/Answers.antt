@@ -1,0 +1,20 @@
+use Rattle.std.proofs.Common.{refl, ap, ◌∙◌}
+use Rattle.std.specs.Arc.{arc_value}
+use Rattle.cmis_spec.specs.Changes.{edited_series}
+use Rattle.cm_draft.proofs.Entries.{series_agrees}
+use Rattle.cm_draft.proofs.Others.{other_put}
+use Rattle.cm_draft.proofs.Changed.{retold_is, retold_parts}
+use Rattle.cm_draft.proofs.draft.Draft.edited_series.Goals as goal
+
+pub invariant_of-result : goal.invariant_of-result
+invariant_of-result c =
+    let s = c.parts.inside in
+    retold_parts s _ c.deref.ensures c.in_ok-lists.lists _ c.in_ok-lists.ensures s.next c.in_ok-filing.filing c.args.series.id c.in_ok-filing.ensures c.parts.invariant
+    (λ m o. series_agrees (arc_value s.types) s.lists.series s.lists.objects _ m (other_put (λ y. y.id) c.args.series c.args.series.id m refl o s.lists.series))
+
+pub returns : goal.returns
+returns c =
+    let s = c.parts.inside in
+    retold_is s _ c.deref.ensures c.in_ok-lists.lists _ c.in_ok-lists.ensures s.next c.in_ok-filing.filing c.args.series.id c.in_ok-filing.ensures c.parts.invariant
+    (λ m o. series_agrees (arc_value s.types) s.lists.series s.lists.objects _ m (other_put (λ y. y.id) c.args.series c.args.series.id m refl o s.lists.series))
+    ∙ ap (λ r. edited_series r c.args.series) (c.parts.view_is ∙ c.self.view_is)

@@ -1,0 +1,110 @@
+-- What an index of a list of objects has, after an object more, one less, and one in the place of another.
+use Rattle.std.specs.Prelude.{◌≡◌, ◌<◌, Bool, true, false, ◌||◌, ◌&&◌, not, if◌then◌else◌, List, [], ◌∷◌, ◌++◌, map, filter, find, All, is_some}
+use Rattle.std.specs.List.{list_any}
+use Rattle.std.proofs.Common.{refl, sym, ap, subst, ◌∙◌, arith}
+use Rattle.std.proofs.lemmas.Bool.{both_ways}
+use Rattle.std.proofs.lemmas.List.Folds.{list_any-append}
+use Rattle.std.proofs.lemmas.List.Elements.{All-head, All-tail}
+use Rattle.cm_base.specs.declared.number.Oid.{Oid}
+use Rattle.cm_base.specs.declared.object.Object.{Object}
+use Rattle.cm_lists.specs.Keyed.{Rises}
+use Rattle.cmis_spec.specs.Repository.{same}
+use Rattle.cmis_spec.specs.Removal.{ends_of, is_id_of}
+use Rattle.cm_index.specs.declared.index_key.IndexKey.{IndexKey}
+use Rattle.cm_index.specs.declared.index_key.IndexKey.TheVariants as keys
+use Rattle.cm_index.specs.Pairs.{same_key}
+use Rattle.cm_objects.specs.Indexed.{keys_of, keys_at, is_pair_of, is_keyed}
+use Rattle.cm_objects.proofs.Ends.{is_end}
+use Rattle.cm_objects.proofs.Rising.{by_test, same_eq, same_refl, differ}
+
+-- ---- booleans
+
+or_false : (b : Bool) → (b || false) ≡ b
+or_false b = grind arith
+
+-- ---- one more
+
+pub keyed_last : (xs : List Object) (m : Object) (p : IndexKey × Oid) → is_keyed (xs ++ m ∷ []) p ≡ (is_keyed xs p || is_pair_of m.id (keys_of m) p)
+keyed_last xs m p = list_any-append (λ x. is_pair_of x.id (keys_of x) p) xs (m ∷ []) ∙ ap (λ b. is_keyed xs p || b) (or_false (is_pair_of m.id (keys_of m) p))
+
+-- ---- one less
+
+pub keyed_less : (n : Oid) (p : IndexKey × Oid) (xs : List Object) → is_keyed (filter (λ x. not (same x.id n)) xs) p ≡ (is_keyed xs p && not (same n p.1))
+keyed_less n p [] = refl
+keyed_less n p (x ∷ xs) = by_test (same x.id n)
+    (λ e. rw e (keyed_less n p xs ∙ gone (list_any (same_key p.0) (keys_of x)) (is_keyed xs p) (same n p.1) (same x.id p.1) (ap (λ m. same m p.1) (same_eq x.id n e))))
+    (λ e. rw e (ap (λ b. is_pair_of x.id (keys_of x) p || b) (keyed_less n p xs) ∙ by_test (same x.id p.1)
+    (λ d. let o : same n p.1 ≡ false = differ n p.1 (λ k. both_ways (same x.id n) e (subst (λ m. same x.id m ≡ true) (sym k) d)) in
+    rw (d, o) (kept (list_any (same_key p.0) (keys_of x)) (is_keyed xs p)))
+    (λ d. rw d refl)))
+  where
+    gone : (k rest mine its : Bool) → its ≡ mine → (rest && not mine) ≡ ((its && k || rest) && not mine)
+    gone k rest mine its e = grind (arith, e)
+
+    kept : (k rest : Bool) → (k || rest && true) ≡ ((k || rest) && true)
+    kept k rest = grind arith
+
+-- with numbers apart, the keys under a number are those of its object
+none_at : (n : Oid) (p : IndexKey × Oid) (xs : List Object) → All (λ x. n.0 < x.id.0) xs → same n p.1 ≡ true → is_keyed xs p ≡ false
+none_at n p [] all h = refl
+none_at n p (x ∷ xs) all h =
+    let l : n.0 < x.id.0 = All-head (λ x. n.0 < x.id.0) x xs all in
+    let o : same x.id p.1 ≡ false = differ x.id p.1 (λ k. let e : n.0 ≡ x.id.0 = ap (λ i. i.0) (same_eq n p.1 h ∙ sym k) in omega (arith, e, l)) in
+    rw o (none_at n p xs (All-tail (λ x. n.0 < x.id.0) x xs all) h)
+
+keyed_at : (n : Oid) (p : IndexKey × Oid) (xs : List Object) → Rises (λ x. x.id.0) xs → same n p.1 ≡ true → is_keyed xs p ≡ list_any (same_key p.0) (keys_at xs n)
+keyed_at n p [] rises h = refl
+keyed_at n p (x ∷ xs) rises h = by_test (same x.id n)
+    (λ e. let at : same x.id p.1 ≡ true = subst (λ m. same m p.1 ≡ true) (sym (same_eq x.id n e)) h in
+    rw (e, at) (ap (λ b. list_any (same_key p.0) (keys_of x) || b) (none_at x.id p xs rises.0 at) ∙ or_false (list_any (same_key p.0) (keys_of x))))
+    (λ e. let o : same x.id p.1 ≡ false = differ x.id p.1 (λ k. both_ways (same x.id n) e (subst (λ m. same m n ≡ true) (sym k) (subst (λ m. same p.1 m ≡ true) (sym (same_eq n p.1 h)) (same_refl p.1)))) in
+    rw (e, o) (keyed_at n p xs rises.1 h))
+
+pub keyed_without : (n : Oid) (p : IndexKey × Oid) (xs : List Object) → Rises (λ x. x.id.0) xs → (is_keyed xs p && not (is_pair_of n (keys_at xs n) p)) ≡ is_keyed (filter (λ x. not (same x.id n)) xs) p
+keyed_without n p xs rises = by_test (same n p.1)
+    (λ e. rw e (ap (λ b. b && not (list_any (same_key p.0) (keys_at xs n))) (keyed_at n p xs rises e) ∙ never (list_any (same_key p.0) (keys_at xs n)) (is_keyed xs p)))
+    (λ e. rw e refl) ∙ sym (keyed_less n p xs)
+  where
+    never : (a b : Bool) → (a && not a) ≡ (b && false)
+    never a b = grind arith
+
+-- ---- one in the place of another
+
+-- the new one counts, wherever the list goes on
+put_beside : (m : Object) (p : IndexKey × Oid) (xs : List Object)
+    → (is_pair_of m.id (keys_of m) p || is_keyed (map (λ x. if same x.id m.id then m else x) xs) p) ≡ (is_keyed (filter (λ x. not (same x.id m.id)) xs) p || is_pair_of m.id (keys_of m) p)
+put_beside m p [] = or_false (is_pair_of m.id (keys_of m) p)
+put_beside m p (x ∷ xs) = by_test (same x.id m.id)
+    (λ e. rw e (once (is_pair_of m.id (keys_of m) p) (is_keyed (map (λ x. if same x.id m.id then m else x) xs) p) (is_keyed (filter (λ x. not (same x.id m.id)) xs) p) (put_beside m p xs)))
+    (λ e. rw e (over (is_pair_of m.id (keys_of m) p) (is_pair_of x.id (keys_of x) p) (is_keyed (map (λ x. if same x.id m.id then m else x) xs) p) (is_keyed (filter (λ x. not (same x.id m.id)) xs) p) (put_beside m p xs)))
+  where
+    once : (new put rest : Bool) → (new || put) ≡ (rest || new) → (new || (new || put)) ≡ (rest || new)
+    once new put rest h = grind (arith, h)
+
+    over : (new x put rest : Bool) → (new || put) ≡ (rest || new) → (new || (x || put)) ≡ ((x || rest) || new)
+    over new x put rest h = grind (arith, h)
+
+pub keyed_put : (m : Object) (p : IndexKey × Oid) (xs : List Object) → is_some (find (λ x. same x.id m.id) xs) ≡ true
+    → is_keyed (map (λ x. if same x.id m.id then m else x) xs) p ≡ (is_keyed (filter (λ x. not (same x.id m.id)) xs) p || is_pair_of m.id (keys_of m) p)
+keyed_put m p [] there = absurd (both_ways false refl there)
+keyed_put m p (x ∷ xs) there = by_test (same x.id m.id)
+    (λ e. rw e (put_beside m p xs))
+    (λ e. let still : is_some (find (λ x. same x.id m.id) xs) ≡ true = rw e at there in
+    rw e (over (is_pair_of x.id (keys_of x) p) (is_keyed (map (λ x. if same x.id m.id then m else x) xs) p) (is_keyed (filter (λ x. not (same x.id m.id)) xs) p) (is_pair_of m.id (keys_of m) p) (keyed_put m p xs still)))
+  where
+    over : (x put rest new : Bool) → put ≡ (rest || new) → (x || put) ≡ ((x || rest) || new)
+    over x put rest new h = grind (arith, h)
+
+-- ---- those that name an object as an end
+
+pub tied_members : (n m : Oid) (xs : List Object) → is_keyed xs (keys.End n, m) ≡ list_any (same m) (map (λ x. x.id) (filter (λ x. list_any (is_id_of n) (ends_of x)) xs))
+tied_members n m [] = refl
+tied_members n m (x ∷ xs) = (λ i. turned x.id m i && is_end n (ends_of x) i || tied_members n m xs i) ∙ by (list_any (is_id_of n) (ends_of x))
+  where
+    turned : (a b : Oid) → same a b ≡ same b a
+    turned a b = grind arith
+
+    by : (b : Bool) → (same m x.id && b || list_any (same m) (map (λ x. x.id) (filter (λ x. list_any (is_id_of n) (ends_of x)) xs)))
+        ≡ list_any (same m) (map (λ x. x.id) (if b then x ∷ filter (λ x. list_any (is_id_of n) (ends_of x)) xs else filter (λ x. list_any (is_id_of n) (ends_of x)) xs))
+    by true = grind arith
+    by false = grind arith

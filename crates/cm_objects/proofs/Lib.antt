@@ -1,0 +1,3 @@
+mod Indexing
+mod Ends
+mod Rising

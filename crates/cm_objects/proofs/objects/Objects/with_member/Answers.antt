@@ -1,0 +1,13 @@
+use Rattle.std.proofs.Common.{◌==◌, ◌||◌, sym, ap, ◌∙◌, map, if◌then◌else◌}
+use Rattle.cm_objects.specs.Indexed.{is_pair_of, is_keyed}
+use Rattle.cm_objects.proofs.Indexing.{keyed_put}
+use Rattle.cm_objects.proofs.objects.Objects.with_member.Goals as goal
+
+pub invariant_of-result : goal.invariant_of-result
+invariant_of-result c pair =
+    let m = c.args.member in
+    c.in_ok-index.ensures pair
+    ∙ (λ i. c.in_ok-less.ensures pair i || is_pair_of m.id (c.in_ok-keys.ensures i) pair)
+    ∙ sym (keyed_put m pair c.args.self.now c.requires.there)
+    ∙ ap (λ l. is_keyed (map (λ x. if x.id.0 == m.id.0 then m else x) l) pair) (sym c.self.view_is)
+    ∙ ap (λ l. is_keyed l pair) (sym c.in_ok-table.ensures)

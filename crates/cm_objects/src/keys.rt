@@ -1,0 +1,91 @@
+//! What an object is looked up by.
+ghost use Rattle.std.specs.Prelude.{◌≡◌, ◌++◌, [], ◌∷◌, OnOk, IfOk, find, bytes_eq};
+ghost use Rattle.std.specs.Option.{option_copied};
+ghost use Rattle.std.specs.List.{filter_map};
+ghost use Rattle.cm_types.specs.Properties.{value_in, scalars_of};
+ghost use Rattle.cm_objects.specs.Indexed.{end_key, scalar_key, keys_of};
+
+use cm_base::decimal::read_u64;
+use cm_base::items::Items;
+use cm_base::number::Oid;
+use cm_base::object::Object;
+use cm_base::text::Text;
+use cm_base::value::{Scalar, Slot, Value};
+use cm_index::index_key::IndexKey;
+use std::alloc::{AllocError, Global};
+
+/// Keys of an index.
+pub type Keys = Items<IndexKey>;
+
+// The end that an id names.
+fn end_key(id: &Text) -> Option<IndexKey>
+    ensures { result ≡ end_key id.now }
+{
+    match read_u64(id.bytes()) {
+        Some(number) => Some(IndexKey::End(Oid(number))),
+        None => None,
+    }
+}
+
+fn scalar_key(scalar: &Scalar) -> Option<IndexKey>
+    ensures { result ≡ scalar_key scalar.now }
+{
+    match scalar {
+        Scalar::Words(id) => end_key(id),
+        _ => None,
+    }
+}
+
+fn push_key(keys: &mut Keys, scalar: &Scalar) -> Result<(), AllocError>
+    ensures { OnOk result (keys.new ≡ keys.old ++ filter_map scalar_key (scalar.now ∷ [])) }
+{
+    match scalar_key(scalar) {
+        Some(key) => keys.push(key),
+        None => Ok(()),
+    }
+}
+
+fn push_scalars(keys: &mut Keys, scalars: &[Scalar]) -> Result<(), AllocError>
+    ensures { OnOk result (keys.new ≡ keys.old ++ filter_map scalar_key scalars.now) }
+{
+    for scalar in scalars {
+        push_key(keys, scalar)?;
+    }
+    Ok(())
+}
+
+fn push_value(keys: &mut Keys, value: &Value) -> Result<(), AllocError>
+    ensures { OnOk result (keys.new ≡ keys.old ++ filter_map scalar_key (scalars_of value.now)) }
+{
+    match value {
+        Value::Unset => Ok(()),
+        Value::One(scalar) => push_key(keys, scalar),
+        Value::Many(scalars) => push_scalars(keys, scalars.as_slice()),
+    }
+}
+
+fn slot_of<'a>(slots: &'a [Slot], id: &str) -> Option<&'a Slot>
+    ensures { option_copied result ≡ find (λ s. bytes_eq s.id id.now) slots.now }
+{
+    slots.iter().find(|s| s.id.is_str(id))
+}
+
+// The ends that the property names.
+fn push_named(keys: &mut Keys, x: &Object, id: &str) -> Result<(), AllocError>
+    ensures { OnOk result (keys.new ≡ keys.old ++ filter_map scalar_key (scalars_of (value_in x.now.values id.now))) }
+{
+    match slot_of(x.values.as_slice(), id) {
+        Some(slot) => push_value(keys, &slot.value),
+        None => Ok(()),
+    }
+}
+
+/// The keys of the object. For an object that names no ends it takes no memory.
+pub fn keys_of(alloc: Global, x: &Object) -> Result<Keys, AllocError>
+    ensures { IfOk result (λ ks. ks ≡ keys_of x.now) }
+{
+    let mut keys = Items::new(alloc);
+    push_named(&mut keys, x, "cmis:sourceId")?;
+    push_named(&mut keys, x, "cmis:targetId")?;
+    Ok(keys)
+}

@@ -1,0 +1,62 @@
+//! The parts of a repository.
+ghost use Rattle.std.specs.Prelude.{◌≡◌, IfOk};
+
+use crate::lists::Lists;
+use cm_base::text::Texts;
+use cm_folder::filing::Filing;
+use cm_type_list::types::Types;
+use std::alloc::{AllocError, Global};
+use std::marker::Model;
+use std::sync::Arc;
+
+/// The users.
+#[derive(Drop)]
+pub struct People {
+    pub users: Texts,
+    /// The names of no groups: the empty list.
+    pub no_groups: Texts,
+}
+
+/// The parts of a repository, which need not be well formed, seen as the record of its lists.
+#[derive(Drop)]
+pub struct Parts {
+    pub types: Arc<Types>,
+    pub people: Arc<People>,
+    pub filing: Filing,
+    pub lists: Lists,
+    pub next: u64,
+    pub step: u64,
+    pub cost: u64,
+}
+
+impl Model for Parts {
+    ghost use Rattle.cmis_spec.specs.Repository.{Repository};
+    ghost use Rattle.cm_state.specs.Kept.{repository_of, IsParts};
+
+    ghost Value = { Repository };
+
+    ghost view = { repository_of };
+
+    ghost invariant = { IsParts };
+}
+
+impl Parts {
+    /// The same parts once more. All that they hold is shared with these.
+    pub fn share(&self, alloc: Global) -> Result<Parts, AllocError>
+        ensures { IfOk result (λ p. p ≡ self.now) }
+    {
+        let types = Arc::try_clone(&self.types)?;
+        let people = Arc::try_clone(&self.people)?;
+        let filing = self.filing.share(alloc)?;
+        let lists = self.lists.share(alloc)?;
+        Ok(Parts {
+            types,
+            people,
+            filing,
+            lists,
+            next: self.next,
+            step: self.step,
+            cost: self.cost,
+        })
+    }
+}

@@ -1,0 +1,2 @@
+pub mod CancelCheckOut
+pub mod Delete
