@@ -7,4 +7,3 @@ pub mod create_document;
 pub mod delete;
 pub mod readings;
 pub mod versioning;
-mod words;

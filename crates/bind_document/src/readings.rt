@@ -4,9 +4,8 @@ ghost use Rattle.cm_base.specs.Judged.{Meets};
 ghost use Rattle.bind_parts.specs.Parts.{unserved};
 ghost use Rattle.bind_document.specs.Readings.{unserved_of_versions, content_of, versions_of, default_of};
 
-use crate::words::text_of;
 use bind_parts::asking::Asking;
-use bind_parts::parts::{place_of, unserved, unserved_of_properties};
+use bind_parts::parts::{place_of, text_of, unserved, unserved_of_properties};
 use bind_tree::children::children_of;
 use call_parts::readings::{ReadContent, ReadDefault, ReadVersions};
 use cm_base::argument::Argument;

@@ -3,9 +3,8 @@ ghost use Rattle.std.specs.Prelude.{◌≡◌};
 ghost use Rattle.cm_base.specs.Judged.{Meets};
 ghost use Rattle.bind_document.specs.Writes.{check_out_of, cancel_check_out_of, check_in_of};
 
-use crate::words::text_of;
 use bind_parts::asking::Asking;
-use bind_parts::parts::place_of;
+use bind_parts::parts::{place_of, text_of};
 use call_parts::versions::{CancelCheckOut, CheckIn, CheckOut};
 use cm_base::argument::Argument;
 use cm_base::copies::Copies;

@@ -3,7 +3,7 @@ ghost use Rattle.std.specs.Prelude.{◌≡◌, codes, IfOk};
 ghost use Rattle.cm_base.specs.declared.cause.Cause.TheVariants as causes;
 ghost use Rattle.std.specs.List.{list_any};
 ghost use Rattle.cm_base.specs.Judged.{Meets};
-ghost use Rattle.form_args.specs.Pairs.{is_given};
+ghost use Rattle.form_args.specs.Pairs.{is_given, value_of};
 ghost use Rattle.bind_parts.specs.Parts.{names_in, place_of, unserved, unserved_of_object, unserved_of_properties, unserved_of_children};
 
 use crate::asking::Asking;
@@ -33,6 +33,16 @@ fn names_in(alloc: Global, target: &Target) -> Result<Texts, AllocError>
         Target::Service => Ok(Items::new(alloc)),
         Target::Repository => Ok(Items::new(alloc)),
         Target::Object(names) => names.copied(alloc),
+    }
+}
+
+/// The text of an argument, where it is given.
+pub fn text_of(alloc: Global, pairs: &Pairs, name: Argument) -> Result<Option<Text>, AllocError>
+    ensures { IfOk result (λ t. t ≡ value_of pairs.now name) }
+{
+    match pairs.first(name.word()) {
+        None => Ok(None),
+        Some(text) => Ok(Some(text.copied(alloc)?)),
     }
 }
 

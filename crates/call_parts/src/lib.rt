@@ -3,6 +3,7 @@
 
 ghost use Rattle.std.specs.Prelude.{◌≡◌};
 
+pub mod changes;
 pub mod names;
 pub mod place;
 pub mod readings;

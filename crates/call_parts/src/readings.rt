@@ -46,7 +46,7 @@ pub struct ReadDefault {
     pub stream: Option<Text>,
 }
 
-/// The content of a document, or its rendition with this stream id (section 2.2.4.10).
+/// The content of a document, or its rendition with this stream id (section 2.2.4.11).
 #[derive(Drop)]
 pub struct ReadContent {
     pub place: Place,
@@ -61,10 +61,32 @@ pub struct ReadVersions {
     pub succinct: bool,
 }
 
-/// The parent of a folder (section 2.2.3.4).
+/// The parent of a folder (section 2.2.3.4), with its properties alone.
 #[derive(Drop)]
 pub struct ReadParent {
     pub place: Place,
-    pub filter: PropertyFilter,
     pub succinct: bool,
+}
+
+/// The folders of an object (section 2.2.3.5).
+#[derive(Drop)]
+pub struct ReadParents {
+    pub place: Place,
+    pub filter: PropertyFilter,
+    /// Whether each folder is shown with the name that the object has in it.
+    pub segments: bool,
+    pub succinct: bool,
+}
+
+/// The policies that are applied to an object (section 2.2.9.3), each with its properties alone.
+#[derive(Drop)]
+pub struct ReadPolicies {
+    pub place: Place,
+    pub succinct: bool,
+}
+
+/// The access control list of an object (section 2.2.10.2).
+#[derive(Drop)]
+pub struct ReadAcl {
+    pub place: Place,
 }

@@ -2,7 +2,7 @@
 use bytes::Bytes;
 use cm_base::items::Items;
 use cm_base::media::MediaType;
-use cm_base::text::Text;
+use cm_base::text::{Text, Texts};
 use cm_base::value::{Value, Values};
 use cm_types::property::{Cardinality, PropertyKind};
 
@@ -50,6 +50,44 @@ pub struct ChildrenReply {
     pub objects: ShownObjects,
     pub has_more_items: bool,
     pub num_items: u64,
+}
+
+/// A list that is not paged.
+#[derive(Drop)]
+pub struct ObjectsReply {
+    pub objects: ShownObjects,
+}
+
+/// A folder of an object, and the name that the object has in it where that is asked for.
+#[derive(Drop)]
+pub struct ShownParent {
+    pub object: ShownObject,
+    pub segment: Option<Text>,
+}
+
+/// Folders in the order of the reply.
+pub type ShownParents = Items<ShownParent>;
+
+/// The folders of an object.
+#[derive(Drop)]
+pub struct ParentsReply {
+    pub parents: ShownParents,
+}
+
+/// A principal with all the permissions that a list gives him.
+#[derive(Drop)]
+pub struct ShownAce {
+    pub principal: Text,
+    pub permissions: Texts,
+}
+
+/// Principals in the order of the reply.
+pub type ShownAces = Items<ShownAce>;
+
+/// An access control list (section 2.1.12.2).
+#[derive(Drop)]
+pub struct AclReply {
+    pub aces: ShownAces,
 }
 
 /// Bytes with their media type.

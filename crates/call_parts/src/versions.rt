@@ -43,7 +43,7 @@ pub struct CheckIn {
     pub succinct: bool,
 }
 
-/// Deletes the addressed object (section 2.2.4.13).
+/// Deletes the addressed object (section 2.2.4.16).
 #[derive(Drop)]
 pub struct Delete {
     pub place: Place,

@@ -1,9 +1,14 @@
 //! What a write adds to the cost of the repository.
-ghost use Rattle.std.specs.Prelude.{◌≡◌, ◌+◌, ◌++◌, [], unwrap_or, option_map};
+ghost use Rattle.std.specs.Prelude.{◌≡◌, ◌+◌, ◌++◌, [], Some, unwrap_or, option_map};
 ghost use Rattle.std.specs.List.{flat_map};
+ghost use Rattle.call_parts.specs.Changes.{weight_of_update, weight_of_move, weight_of_set_content, weight_of_append, weight_of_delete_content, weight_of_add, weight_of_remove};
 ghost use Rattle.call_parts.specs.Weight.{weight_of_create_folder, weight_of_texts, bounded, text_weight, texts_of_place, texts_of_given, texts_of_ace, texts_of_create_folder};
 ghost use Rattle.call_parts.specs.Versions.{maybe, texts_of_stream, bytes_of_stream, weight_of_create_document, weight_of_check_out, weight_of_cancel, weight_of_check_in, weight_of_delete};
 
+use crate::changes::{
+    AddToFolder, AppendContent, DeleteContent, MoveObject, RemoveFromFolder, SetContent,
+    UpdateProperties,
+};
 use crate::place::Place;
 use crate::stream::GivenStream;
 use crate::versions::{CancelCheckOut, CheckIn, CheckOut, CreateDocument, Delete};
@@ -92,16 +97,20 @@ fn with_maybe_place(so_far: u64, place: &Option<Place>) -> u64
 }
 
 // The media type, the file name where one is given, and the bytes.
+fn with_given_stream(so_far: u64, stream: &GivenStream) -> u64
+    ensures { result ≡ bounded (so_far + weight_of_texts (texts_of_stream (Some stream.now)) + bytes_of_stream (Some stream.now)) }
+{
+    let typed = so_far
+        .saturating_add(stream.kind.as_str().len() as u64)
+        .saturating_add(64);
+    with_maybe(typed, &stream.file).saturating_add(stream.pieces.len())
+}
+
 fn with_stream(so_far: u64, stream: &Option<GivenStream>) -> u64
     ensures { result ≡ bounded (so_far + weight_of_texts (texts_of_stream stream.now) + bytes_of_stream stream.now) }
 {
     match stream {
-        Some(stream) => {
-            let typed = so_far
-                .saturating_add(stream.kind.as_str().len() as u64)
-                .saturating_add(64);
-            with_maybe(typed, &stream.file).saturating_add(stream.pieces.len())
-        }
+        Some(stream) => with_given_stream(so_far, stream),
         None => so_far,
     }
 }
@@ -158,4 +167,60 @@ pub fn weight_of_delete(call: &Delete) -> u64
     ensures { result ≡ weight_of_delete call.now }
 {
     with_place(64, &call.place)
+}
+
+/// What an updateProperties weighs.
+pub fn weight_of_update(call: &UpdateProperties) -> u64
+    ensures { result ≡ weight_of_update call.now }
+{
+    let placed = with_place(64, &call.place);
+    let given = with_givens(placed, &call.properties);
+    let less = with_texts(given, &call.remove_secondary);
+    let typed = with_texts(less, &call.add_secondary);
+    with_maybe(typed, &call.token)
+}
+
+/// What a moveObject weighs.
+pub fn weight_of_move(call: &MoveObject) -> u64
+    ensures { result ≡ weight_of_move call.now }
+{
+    let placed = with_place(64, &call.place);
+    with_text(with_text(placed, &call.source), &call.target)
+}
+
+/// What a setContentStream weighs, its stream's bytes among it.
+pub fn weight_of_set_content(call: &SetContent) -> u64
+    ensures { result ≡ weight_of_set_content call.now }
+{
+    let told = with_maybe(with_place(64, &call.place), &call.token);
+    with_given_stream(told, &call.stream)
+}
+
+/// What an appendContentStream weighs, its stream's bytes among it.
+pub fn weight_of_append(call: &AppendContent) -> u64
+    ensures { result ≡ weight_of_append call.now }
+{
+    let told = with_maybe(with_place(64, &call.place), &call.token);
+    with_given_stream(told, &call.stream)
+}
+
+/// What a deleteContentStream weighs.
+pub fn weight_of_delete_content(call: &DeleteContent) -> u64
+    ensures { result ≡ weight_of_delete_content call.now }
+{
+    with_maybe(with_place(64, &call.place), &call.token)
+}
+
+/// What an addObjectToFolder weighs.
+pub fn weight_of_add(call: &AddToFolder) -> u64
+    ensures { result ≡ weight_of_add call.now }
+{
+    with_text(with_place(64, &call.place), &call.folder)
+}
+
+/// What a removeObjectFromFolder weighs.
+pub fn weight_of_remove(call: &RemoveFromFolder) -> u64
+    ensures { result ≡ weight_of_remove call.now }
+{
+    with_maybe(with_place(64, &call.place), &call.folder)
 }
