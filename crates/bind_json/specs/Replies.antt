@@ -1,16 +1,17 @@
 -- The JSON of replies, and what is sent of them (CMIS 1.1, sections 5.2.10 and 5.2.11).
-use Rattle.std.specs.Prelude.{ℕ, List, codes, Some, if◌then◌else◌}
+use Rattle.std.specs.Prelude.{ℕ, Bool, List, codes, Some, if◌then◌else◌}
 use Rattle.serde_json.specs.Written.{compact_text}
 use Rattle.cm_base.specs.declared.shown.Shown.{Shown}
-use Rattle.call_parts.specs.declared.replies.ObjectReply.{ObjectReply}
 use Rattle.cm_call.specs.declared.reply.Reply.{Reply}
 use Rattle.cm_call.specs.declared.reply.Reply.TheVariants as replies
 use Rattle.object_json.specs.Objects.{shown_data}
 use Rattle.object_json.specs.Pages.{children_data}
+use Rattle.type_replies.specs.Infos.{infos_data}
+use Rattle.type_replies.specs.Types.{definition_data, types_data, type_tree_data}
 
--- 201 where the call made the object
-abbrev pub status_of_object : ObjectReply → ℕ
-status_of_object reply = if reply.created then 201 else 200
+-- 201 where the call made what is shown
+abbrev pub status_of : Bool → ℕ
+status_of created = if created then 201 else 200
 
 -- what is sent of a text of JSON that was made at this step
 abbrev pub shown_json : ℕ → List ℕ → ℕ → Shown
@@ -18,6 +19,10 @@ shown_json status text step = record { status = status; kind = codes "applicatio
 
 -- what is sent of a reply that was made at this step: compact JSON, or bytes with their type
 abbrev pub shown_reply : Reply → ℕ → Shown
-shown_reply (replies.Object reply) step = shown_json (status_of_object reply) (compact_text (shown_data reply.object)) step
+shown_reply (replies.Object reply) step = shown_json (status_of reply.created) (compact_text (shown_data reply.object)) step
+shown_reply (replies.Type reply) step = shown_json (status_of reply.created) (compact_text (definition_data reply)) step
+shown_reply (replies.Types reply) step = shown_json 200 (compact_text (types_data reply)) step
+shown_reply (replies.TypeTree reply) step = shown_json 200 (compact_text (type_tree_data reply)) step
+shown_reply (replies.Info reply) step = shown_json 200 (compact_text (infos_data reply)) step
 shown_reply (replies.Children reply) step = shown_json 200 (compact_text (children_data reply)) step
 shown_reply (replies.Content reply) step = record { status = 200; kind = reply.kind; body = reply.body; number = Some step }

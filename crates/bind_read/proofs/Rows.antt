@@ -140,7 +140,7 @@ row_no_selector : call_of_request (got (codes "/cmis/main/root/a?streamId=3&maxI
 unfolding split is_utf8 chars percent_decode encode raw_pairs utf8_lossy utf8_valid_len values_named
 row_no_selector = refl
 
-row_no_selector_elsewhere : call_of_request (got (codes "/cmis/main") []) ≡ Err (causes.NotServed (codes "form"))
+row_no_selector_elsewhere : call_of_request (got (codes "/cmis/main") []) ≡ Ok (asks.Question (questions.Info (record { host = codes "localhost"; all = false })))
 unfolding split is_utf8 chars percent_decode encode raw_pairs utf8_lossy utf8_valid_len values_named
 row_no_selector_elsewhere = refl
 

@@ -20,6 +20,7 @@ use Rattle.bind_tree.specs.Objects.{object_of, properties_of}
 use Rattle.bind_tree.specs.Children.{children_of}
 use Rattle.bind_document.specs.Writes.{create_document_of, check_out_of, check_in_of}
 use Rattle.bind_document.specs.Readings.{content_of, default_of}
+use Rattle.bind_types.specs.Types.{type_definition_of, type_children_of, type_descendants_of, info_of}
 
 -- the arguments of each service
 abbrev pub bound : Service → Asking → Judged Asked
@@ -31,6 +32,10 @@ bound services.Object asking = object_of asking >>= λ question. Ok (asks.Questi
 bound services.Properties asking = properties_of asking >>= λ question. Ok (asks.Question (questions.Properties question))
 bound services.Children asking = children_of asking >>= λ question. Ok (asks.Question (questions.Children question))
 bound services.Content asking = content_of asking >>= λ question. Ok (asks.Question (questions.Content question))
+bound services.TypeDefinition asking = type_definition_of asking >>= λ question. Ok (asks.Question (questions.TypeDefinition question))
+bound services.TypeChildren asking = type_children_of asking >>= λ question. Ok (asks.Question (questions.TypeChildren question))
+bound services.TypeDescendants asking = type_descendants_of asking >>= λ question. Ok (asks.Question (questions.TypeDescendants question))
+bound services.Info asking = info_of asking >>= λ question. Ok (asks.Question (questions.Info question))
 bound services.Default asking = default_of asking >>= λ question. Ok (asks.Question (questions.Default question))
 
 -- what a request asks, in the order in which its causes come

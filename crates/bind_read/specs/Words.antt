@@ -23,6 +23,10 @@ word_of services.Object = codes "object"
 word_of services.Properties = codes "properties"
 word_of services.Children = codes "children"
 word_of services.Content = codes "content"
+word_of services.TypeDefinition = codes "typeDefinition"
+word_of services.TypeChildren = codes "typeChildren"
+word_of services.TypeDescendants = codes "typeDescendants"
+word_of services.Info = codes "repositoryInfo"
 word_of services.Default = codes ""
 
 -- an action of a POST; the others are selectors of a GET
@@ -31,41 +35,46 @@ is_action services.CreateFolder = true
 is_action services.CreateDocument = true
 is_action services.CheckOut = true
 is_action services.CheckIn = true
-is_action services.Object = false
-is_action services.Properties = false
-is_action services.Children = false
-is_action services.Content = false
-is_action services.Default = false
+is_action s = false
 
 abbrev pub is_by : Method → Service → Bool
 is_by methods.Get s = not (is_action s)
 is_by methods.Post s = is_action s
 
+-- types, and the repository itself, are no objects
+abbrev pub is_of_repository : Service → Bool
+is_of_repository services.TypeDefinition = true
+is_of_repository services.TypeChildren = true
+is_of_repository services.TypeDescendants = true
+is_of_repository services.Info = true
+is_of_repository s = false
+
 -- a document may be made in no folder
 abbrev pub is_at_repository : Service → Bool
 is_at_repository services.CreateDocument = true
-is_at_repository s = false
+is_at_repository s = is_of_repository s
 
--- where a service is served
+-- where a service is served under its word
 abbrev pub is_at : Target → Service → Bool
 is_at targets.Service s = false
 is_at targets.Repository s = is_at_repository s
-is_at (targets.Object names) s = true
+is_at (targets.Object names) s = not (is_of_repository s)
 
 -- the services that are named by their words
 abbrev pub all_services : List Service
 all_services =
     services.CreateFolder ∷ services.CreateDocument ∷ services.CheckOut ∷ services.CheckIn
-    ∷ services.Object ∷ services.Properties ∷ services.Children ∷ services.Content ∷ []
+    ∷ services.Object ∷ services.Properties ∷ services.Children ∷ services.Content
+    ∷ services.TypeDefinition ∷ services.TypeChildren ∷ services.TypeDescendants ∷ services.Info ∷ []
 
 -- the word names this service, by this method at this address
 abbrev pub is_named : Method → Target → List ℕ → Service → Bool
 is_named method target w s = (is_by method s && is_at target s) && bytes_eq (word_of s) w
 
--- without a selector an object is read by its kind; nothing else is served so yet, and an action is always named
+-- without a selector an object is read by its kind, and the others are told of; an action is always named
 abbrev pub unnamed : Method → Target → Judged Service
-unnamed methods.Get targets.Service = Err (causes.NotServed (codes "form"))
-unnamed methods.Get targets.Repository = Err (causes.NotServed (codes "form"))
+unnamed methods.Get targets.Service = Ok services.Info
+unnamed methods.Get targets.Repository = Ok services.Info
 unnamed methods.Get (targets.Object names) = Ok services.Default
 unnamed methods.Post target = Err (causes.MissingArgument args.CmisAction)
 

@@ -13,6 +13,8 @@ use bind_parts::asking::{Asking, host_of, with_query};
 use bind_tree::children::children_of;
 use bind_tree::create_folder::create_folder_of;
 use bind_tree::object::{object_of, properties_of};
+use bind_types::info::info_of;
+use bind_types::types::{type_children_of, type_definition_of, type_descendants_of};
 use cm_base::fail::Fail;
 use cm_call::question::Question;
 use cm_call::write::Write;
@@ -56,6 +58,22 @@ fn bound(alloc: Global, service: Service, asking: &Asking) -> Result<Asked, Fail
         Service::Content => {
             let question = content_of(alloc, asking)?;
             Ok(Asked::Question(Question::Content(question)))
+        }
+        Service::TypeDefinition => {
+            let question = type_definition_of(alloc, asking)?;
+            Ok(Asked::Question(Question::TypeDefinition(question)))
+        }
+        Service::TypeChildren => {
+            let question = type_children_of(alloc, asking)?;
+            Ok(Asked::Question(Question::TypeChildren(question)))
+        }
+        Service::TypeDescendants => {
+            let question = type_descendants_of(alloc, asking)?;
+            Ok(Asked::Question(Question::TypeDescendants(question)))
+        }
+        Service::Info => {
+            let question = info_of(alloc, asking)?;
+            Ok(Asked::Question(Question::Info(question)))
         }
         Service::Default => {
             let question = default_of(alloc, asking)?;

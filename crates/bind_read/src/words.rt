@@ -1,12 +1,11 @@
 //! The words of actions and selectors.
-ghost use Rattle.std.specs.Prelude.{◌≡◌, find, option_map, IfOk};
+ghost use Rattle.std.specs.Prelude.{◌≡◌, find};
 ghost use Rattle.std.specs.Option.{option_copied};
 ghost use Rattle.cm_base.specs.declared.cause.Cause.TheVariants as causes;
 ghost use Rattle.cm_base.specs.Judged.{Meets, find_or};
-ghost use Rattle.bind_read.specs.Words.{word_of, is_action, is_by, is_at_repository, is_at, all_services, is_named, unnamed, argument_of, service_of};
+ghost use Rattle.bind_read.specs.Words.{word_of, is_action, is_by, is_of_repository, is_at_repository, is_at, all_services, is_named, unnamed, argument_of, service_of};
 
 use crate::form::Method;
-use bind_parts::parts::unserved_form;
 use cm_base::argument::Argument;
 use cm_base::cause::Cause;
 use cm_base::copies::Copies;
@@ -14,7 +13,7 @@ use cm_base::fail::Fail;
 use cm_base::text::Text;
 use form_args::pairs::Pairs;
 use request_target::target::Target;
-use std::alloc::{AllocError, Global};
+use std::alloc::Global;
 
 /// The services that are served.
 #[derive(Clone, Copy, Debug, PartialEq, Eq)]
@@ -27,6 +26,10 @@ pub enum Service {
     Properties,
     Children,
     Content,
+    TypeDefinition,
+    TypeChildren,
+    TypeDescendants,
+    Info,
     /// An object without a selector.
     Default,
 }
@@ -43,6 +46,10 @@ fn word_of(service: Service) -> &'static str
         Service::Properties => "properties",
         Service::Children => "children",
         Service::Content => "content",
+        Service::TypeDefinition => "typeDefinition",
+        Service::TypeChildren => "typeChildren",
+        Service::TypeDescendants => "typeDescendants",
+        Service::Info => "repositoryInfo",
         Service::Default => "",
     }
 }
@@ -55,11 +62,7 @@ fn is_action(service: Service) -> bool
         Service::CreateDocument => true,
         Service::CheckOut => true,
         Service::CheckIn => true,
-        Service::Object => false,
-        Service::Properties => false,
-        Service::Children => false,
-        Service::Content => false,
-        Service::Default => false,
+        _ => false,
     }
 }
 
@@ -72,12 +75,24 @@ fn is_by(method: Method, service: Service) -> bool
     }
 }
 
+fn is_of_repository(service: Service) -> bool
+    ensures { result ≡ is_of_repository service }
+{
+    match service {
+        Service::TypeDefinition => true,
+        Service::TypeChildren => true,
+        Service::TypeDescendants => true,
+        Service::Info => true,
+        _ => false,
+    }
+}
+
 fn is_at_repository(service: Service) -> bool
     ensures { result ≡ is_at_repository service }
 {
     match service {
         Service::CreateDocument => true,
-        _ => false,
+        _ => is_of_repository(service),
     }
 }
 
@@ -87,7 +102,7 @@ fn is_at(target: &Target, service: Service) -> bool
     match target {
         Target::Service => false,
         Target::Repository => is_at_repository(service),
-        Target::Object(_) => true,
+        Target::Object(_) => !is_of_repository(service),
     }
 }
 
@@ -133,19 +148,23 @@ fn service_named(method: Method, target: &Target, word: &str) -> Option<Service>
             Service::Properties,
             Service::Children,
             Service::Content,
+            Service::TypeDefinition,
+            Service::TypeChildren,
+            Service::TypeDescendants,
+            Service::Info,
         ],
     )
 }
 
-fn unnamed(alloc: Global, method: Method, target: &Target) -> Result<Service, Fail>
-    ensures { Meets (λ s. s) result (unnamed method target.now) }
+fn unnamed(method: Method, target: &Target) -> Result<Service, Cause>
+    ensures { result ≡ unnamed method target.now }
 {
     match method {
         Method::Get => match target {
             Target::Object(_) => Ok(Service::Default),
-            _ => Err(Fail::Refused(unserved_form(alloc)?)),
+            _ => Ok(Service::Info),
         },
-        Method::Post => Err(Fail::Refused(Cause::MissingArgument(Argument::CmisAction))),
+        Method::Post => Err(Cause::MissingArgument(Argument::CmisAction)),
     }
 }
 
@@ -170,8 +189,8 @@ fn served(alloc: Global, word: &Text, service: Option<Service>) -> Result<Servic
     }
 }
 
-/// What the selector of a GET or the action of a POST names; without a selector, an object by its kind. A word that is not served
-/// there is NotServed; an action that is not given is MissingArgument.
+/// What the selector of a GET or the action of a POST names; without a selector, an object by its kind, or else the repository's
+/// information. A word that is not served there is NotServed; an action that is not given is MissingArgument.
 pub fn service_of(
     alloc: Global,
     method: Method,
@@ -181,7 +200,10 @@ pub fn service_of(
     ensures { Meets (λ s. s) result (service_of method target.now pairs.now) }
 {
     match pairs.first(argument_of(method).word()) {
-        None => unnamed(alloc, method, target),
+        None => match unnamed(method, target) {
+            Ok(service) => Ok(service),
+            Err(cause) => Err(Fail::Refused(cause)),
+        },
         Some(word) => served(alloc, word, service_named(method, target, word.as_str())),
     }
 }

@@ -25,6 +25,10 @@ ok_is {A} x y h = ap (λ (o : Result A Cause). elim o [ Ok z ↦ z | Err d ↦ x
 reply_has_number : (reply : Reply) (step : ℕ) → (shown_reply reply step).number ≡ Some step
 reply_has_number (replies.Object reply) step = refl
 reply_has_number (replies.Children reply) step = refl
+reply_has_number (replies.Type reply) step = refl
+reply_has_number (replies.Types reply) step = refl
+reply_has_number (replies.TypeTree reply) step = refl
+reply_has_number (replies.Info reply) step = refl
 reply_has_number (replies.Content reply) step = refl
 
 abbrev told : Repository × Reply → Judged (Repository × Shown)

@@ -16,7 +16,7 @@ use cm_base::text::Text;
 use cm_call::question::Question;
 use cm_call::reply::Reply;
 use cm_call::write::Write;
-use cm_repo::calls::advance;
+use cm_repo::calls::{advance, read};
 use cm_show::address::addressed;
 use cm_state::state::State;
 use cm_types::definition::BaseType;
@@ -118,6 +118,15 @@ fn sent_default(alloc: Global, state: &State, user: &Text, q: &ReadDefault) -> R
     }
 }
 
+// What is sent of a reply that is made first.
+fn sent_reply(alloc: Global, state: &State, user: &Text, question: &Question) -> Result<Shown, Fail>
+    ensures { Meets (λ s. s) result (shown_answer state.now user.now question.now) }
+{
+    let reply = read(alloc, state, user, question)?;
+    let shown = text_of(alloc, &reply, state.step())?;
+    Ok(shown)
+}
+
 fn sent(alloc: Global, state: &State, user: &Text, question: &Question) -> Result<Shown, Fail>
     ensures { Meets (λ s. s) result (shown_answer state.now user.now question.now) }
 {
@@ -125,8 +134,8 @@ fn sent(alloc: Global, state: &State, user: &Text, question: &Question) -> Resul
         Question::Object(q) => sent_object(alloc, state, user, &q.place, &q.filter, q.succinct),
         Question::Properties(q) => sent_object(alloc, state, user, &q.place, &q.filter, q.succinct),
         Question::Children(q) => sent_children(alloc, state, user, q),
-        Question::Content(q) => sent_stream(alloc, state, user, &q.place, &q.stream),
         Question::Default(q) => sent_default(alloc, state, user, q),
+        _ => sent_reply(alloc, state, user, question),
     }
 }
 

@@ -23,6 +23,8 @@ use Rattle.wr_version.specs.CheckIn.{cost_check_in, refusal_check_in, after_chec
 use Rattle.rd_version.specs.Content.{answer_content, answer_stream}
 use Rattle.rd_object.specs.ReadObject.{answer_addressed, answer_object, answer_properties}
 use Rattle.rd_nav.specs.ReadChildren.{answer_children}
+use Rattle.rd_types.specs.ReadInfo.{answer_info}
+use Rattle.rd_types.specs.ReadTypes.{answer_type_definition, answer_type_children, answer_type_descendants}
 
 -- what the user's write costs
 abbrev pub cost_of : Repository → List ℕ → Write → ℕ
@@ -69,6 +71,10 @@ answer_of r u (questions.Properties q) = answer_properties r u q >>= λ reply. O
 answer_of r u (questions.Children q) = answer_children r u q >>= λ reply. Ok (replies.Children reply)
 answer_of r u (questions.Content q) = answer_content r u q >>= λ reply. Ok (replies.Content reply)
 answer_of r u (questions.Default q) = answer_default r u q
+answer_of r u (questions.TypeDefinition q) = answer_type_definition r u q >>= λ reply. Ok (replies.Type reply)
+answer_of r u (questions.TypeChildren q) = answer_type_children r u q >>= λ reply. Ok (replies.Types reply)
+answer_of r u (questions.TypeDescendants q) = answer_type_descendants r u q >>= λ reply. Ok (replies.TypeTree reply)
+answer_of r u (questions.Info q) = answer_info r u q >>= λ reply. Ok (replies.Info reply)
 
 -- the step of an entry: the cause that refuses it, or the repository after it and its answer
 abbrev pub step_of : Repository → Entry Write → Result (Repository × Reply) Cause

@@ -20,6 +20,10 @@ use cm_types::definition::BaseType;
 use desk_model::{Entry, Halt};
 use rd_nav::children::children;
 use rd_object::object::{object, properties, shown};
+use rd_types::children::type_children;
+use rd_types::definition::type_definition;
+use rd_types::descendants::type_descendants;
+use rd_types::info::info;
 use rd_version::content::{content, stream};
 use std::alloc::Global;
 use wr_object::create_document::create_document;
@@ -119,7 +123,8 @@ fn default(alloc: Global, state: &State, user: &Text, q: &ReadDefault) -> Result
     }
 }
 
-fn read(alloc: Global, state: &State, user: &Text, question: &Question) -> Result<Reply, Fail>
+/// Answers a user's question at a state, or says why it is refused, or that memory is wanting.
+pub fn read(alloc: Global, state: &State, user: &Text, question: &Question) -> Result<Reply, Fail>
     ensures { Meets (λ x. x) result (answer_of state.now user.now question.now) }
 {
     match question {
@@ -139,11 +144,27 @@ fn read(alloc: Global, state: &State, user: &Text, question: &Question) -> Resul
             let reply = content(alloc, state, user, q)?;
             Ok(Reply::Content(reply))
         }
+        Question::TypeDefinition(q) => {
+            let reply = type_definition(alloc, state, user, q)?;
+            Ok(Reply::Type(reply))
+        }
+        Question::TypeChildren(q) => {
+            let reply = type_children(alloc, state, user, q)?;
+            Ok(Reply::Types(reply))
+        }
+        Question::TypeDescendants(q) => {
+            let reply = type_descendants(alloc, state, user, q)?;
+            Ok(Reply::TypeTree(reply))
+        }
+        Question::Info(q) => {
+            let reply = info(alloc, state, user, q)?;
+            Ok(Reply::Info(reply))
+        }
         Question::Default(q) => default(alloc, state, user, q),
     }
 }
 
-/// Answers a user's question at a state, or says why it is refused.
+/// Answers a user's question at a state, or says why it halts.
 pub fn answer(
     alloc: Global,
     state: &State,

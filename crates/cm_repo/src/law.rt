@@ -9,6 +9,9 @@ ghost use Rattle.cm_repo.specs.Calls.{answer_default, answer_of};
 
 use rd_nav::law::children_of_seen;
 use rd_object::law::{object_of_seen, properties_of_seen};
+use rd_types::law::{
+    info_of_seen, type_children_of_seen, type_definition_of_seen, type_descendants_of_seen,
+};
 use rd_version::law::stream_of_seen;
 
 // What is answered without a selector, by the kind of what is addressed.
@@ -30,5 +33,9 @@ pub fn answer_of_seen()
     properties_of_seen();
     children_of_seen();
     stream_of_seen();
+    type_definition_of_seen();
+    type_children_of_seen();
+    type_descendants_of_seen();
+    info_of_seen();
     default_of_seen();
 }
