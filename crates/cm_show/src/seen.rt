@@ -1,5 +1,5 @@
 //! The values of properties, seen where they stand: what the state holds is not copied.
-ghost use Rattle.std.specs.Prelude.{◌≡◌, decimal, IfOk, option_map};
+ghost use Rattle.std.specs.Prelude.{◌≡◌, IfOk, option_map};
 ghost use Rattle.cm_base.specs.declared.value.Value.TheVariants.{Unset};
 ghost use Rattle.cm_types.specs.Changes.{base_id};
 ghost use Rattle.cm_types.specs.Properties.{value_in};

@@ -26,9 +26,12 @@ pub fn serve<H: Host, C: Clock + Send, G: Gate + Sync, R: Threads + Wait + Sync>
 ) -> Result<Closing<Face, H::Link>, AllocError>
 where
     H::Link: Send,
-    ensures served { IfOk result (λ c. ServedAll H.Link.Source.told H.Link.Sink.told users.now (C.words clock.old) (H.left host.old) c.last c.ended) }
-    ensures taken { IfOk result (λ c. Taken (H.told host.old) (H.left host.old) (H.told host.new) (H.left host.new) (length c.ended)) }
-    ensures end { IfOk result (λ c. EndsFor (H.told host.old) (H.told host.new) (H.left host.new) (length c.ended) c.end) }
+    ensures served { IfOk result (λ c. ServedAll H.Link.Source.told H.Link.Sink.told users.now (C.words clock.old)
+        (H.left host.old) c.last c.ended) }
+    ensures taken { IfOk result (λ c. Taken (H.told host.old) (H.left host.old) (H.told host.new) (H.left host.new)
+        (length c.ended)) }
+    ensures end { IfOk result (λ c. EndsFor (H.told host.old) (H.told host.new) (H.left host.new)
+        (length c.ended) c.end) }
     ensures unasked { OnErr result (host.new ≡ host.old) }
 {
     let root = moment_of_word(clock.now());

@@ -1,5 +1,5 @@
 //! One run of the program in one thread.
-ghost use Rattle.std.specs.Prelude.{◌≡◌, ◌⊎◌, ◌≤◌, ℕ, map, codes, string_bytes, Option, Some, None, IfSome};
+ghost use Rattle.std.specs.Prelude.{◌≡◌, ◌⊎◌, ◌≤◌, ℕ, map, string_bytes, Some, None, IfSome};
 ghost use Rattle.cm_types.specs.BaseTypes.{base_types};
 ghost use Rattle.cmis_spec.specs.Repository.{opening};
 ghost use Rattle.desk_model.specs.Clocks.{moment_of};
@@ -72,8 +72,10 @@ fn serve<L: Link, C: Clock + Drop>(
     users: &Users,
     link: &mut L,
 ) -> u8
-    ensures ran { Unbegun (L.Source.told link.old) (L.Sink.told link.old) (L.Source.told link.new) (L.Sink.told link.new) result
-        ⊎ Served opening users.now (C.words clock) (L.Source.told link.old) (L.Sink.told link.old) (L.Source.told link.new) (L.Sink.told link.new) result }
+    ensures ran { Unbegun (L.Source.told link.old) (L.Sink.told link.old) (L.Source.told link.new)
+        (L.Sink.told link.new) result
+        ⊎ Served opening users.now (C.words clock) (L.Source.told link.old) (L.Sink.told link.old)
+        (L.Source.told link.new) (L.Sink.told link.new) result }
     ensures stands_for { L.stands_for link.new ≡ L.stands_for link.old }
 {
     match run_alone::<Face, C, L, OpenGate>(alloc, opening, clock, users, link, &OpenGate) {
@@ -96,9 +98,11 @@ fn word_of(moment: Moment) -> u64
 fn at_moment<L: Link>(alloc: Global, users: &Users, moment: Moment, from: u64, link: &mut L) -> u8
     requires moment { IsMoment moment }
     requires from { from ≤ 1048576 }
-    ensures ran { Unbegun (L.Source.told link.old) (L.Sink.told link.old) (L.Source.told link.new) (L.Sink.told link.new) result
+    ensures ran { Unbegun (L.Source.told link.old) (L.Sink.told link.old) (L.Source.told link.new)
+        (L.Sink.told link.new) result
         ⊎ ((word : ℕ) × (moment ≡ moment_of word)
-        × Served (opening base_types users.now moment from) users.now (Some (always word)) (L.Source.told link.old) (L.Sink.told link.old) (L.Source.told link.new) (L.Sink.told link.new) result) }
+        × Served (opening base_types users.now moment from) users.now (Some (always word)) (L.Source.told link.old)
+        (L.Sink.told link.old) (L.Source.told link.new) (L.Sink.told link.new) result) }
     ensures stands_for { L.stands_for link.new ≡ L.stands_for link.old }
 {
     let word = word_of(moment);
@@ -118,8 +122,10 @@ fn by_clock<L: Link, C: Clock>(
     clock: &mut C,
 ) -> u8
     requires from { from ≤ 1048576 }
-    ensures ran { Unbegun (L.Source.told link.old) (L.Sink.told link.old) (L.Source.told link.new) (L.Sink.told link.new) result
-        ⊎ Piped users.now None from (C.words clock.old) (L.Source.told link.old) (L.Sink.told link.old) (L.Source.told link.new) (L.Sink.told link.new) result }
+    ensures ran { Unbegun (L.Source.told link.old) (L.Sink.told link.old) (L.Source.told link.new)
+        (L.Sink.told link.new) result
+        ⊎ Piped users.now None from (C.words clock.old) (L.Source.told link.old) (L.Sink.told link.old)
+        (L.Source.told link.new) (L.Sink.told link.new) result }
     ensures stands_for { L.stands_for link.new ≡ L.stands_for link.old }
 {
     let root = moment_of_word(clock.now());
@@ -133,8 +139,10 @@ fn by_clock<L: Link, C: Clock>(
 fn piped<L: Link, C: Clock>(alloc: Global, asked: &Pipe, link: &mut L, clock: &mut C) -> u8
     requires at { IfSome asked.now.at IsMoment }
     requires from { asked.now.from ≤ 1048576 }
-    ensures ran { Unbegun (L.Source.told link.old) (L.Sink.told link.old) (L.Source.told link.new) (L.Sink.told link.new) result
-        ⊎ Piped asked.now.users asked.now.at asked.now.from (C.words clock.old) (L.Source.told link.old) (L.Sink.told link.old) (L.Source.told link.new) (L.Sink.told link.new) result }
+    ensures ran { Unbegun (L.Source.told link.old) (L.Sink.told link.old) (L.Source.told link.new)
+        (L.Sink.told link.new) result
+        ⊎ Piped asked.now.users asked.now.at asked.now.from (C.words clock.old) (L.Source.told link.old)
+        (L.Sink.told link.old) (L.Source.told link.new) (L.Sink.told link.new) result }
     ensures stands_for { L.stands_for link.new ≡ L.stands_for link.old }
 {
     match asked.at {
@@ -145,7 +153,8 @@ fn piped<L: Link, C: Clock>(alloc: Global, asked: &Pipe, link: &mut L, clock: &m
 
 // Runs the program with these words.
 fn run_words<L: Link, C: Clock>(alloc: Global, words: &[String], link: &mut L, clock: &mut C) -> u8
-    ensures ran { Ran (words_of (map string_bytes words.now)) (C.words clock.old) (L.Source.told link.old) (L.Sink.told link.old) (L.Source.told link.new) (L.Sink.told link.new) result }
+    ensures ran { Ran (words_of (map string_bytes words.now)) (C.words clock.old)
+        (L.Source.told link.old) (L.Sink.told link.old) (L.Source.told link.new) (L.Sink.told link.new) result }
     ensures stands_for { L.stands_for link.new ≡ L.stands_for link.old }
 {
     words_are_bounded();
@@ -158,8 +167,10 @@ fn run_words<L: Link, C: Clock>(alloc: Global, words: &[String], link: &mut L, c
 
 // The same, and what the statuses of the sides that failed say.
 fn run_link<L: Link, C: Clock>(alloc: Global, words: &[String], link: &mut L, clock: &mut C) -> u8
-    ensures ran { Ran (words_of (map string_bytes words.now)) (C.words clock.old) (L.Source.told link.old) (L.Sink.told link.old) (L.Source.told link.new) (L.Sink.told link.new) result }
-    ensures failed { OnlyWhereFailed (L.Source.told link.old) (L.Sink.told link.old) (L.Source.told link.new) (L.Sink.told link.new) result }
+    ensures ran { Ran (words_of (map string_bytes words.now)) (C.words clock.old)
+        (L.Source.told link.old) (L.Sink.told link.old) (L.Source.told link.new) (L.Sink.told link.new) result }
+    ensures failed { OnlyWhereFailed (L.Source.told link.old) (L.Sink.told link.old)
+        (L.Source.told link.new) (L.Sink.told link.new) result }
     ensures stands_for { L.stands_for link.new ≡ L.stands_for link.old }
 {
     run_words(alloc, words, link, clock)
@@ -176,8 +187,10 @@ pub fn run_once<I: Source, O: Sink, C: Clock>(
     output: &mut O,
     clock: &mut C,
 ) -> u8
-    ensures ran { Ran (words_of (map string_bytes words.now)) (C.words clock.old) (I.told input.old) (O.told output.old) (I.told input.new) (O.told output.new) result }
-    ensures failed { OnlyWhereFailed (I.told input.old) (O.told output.old) (I.told input.new) (O.told output.new) result }
+    ensures ran { Ran (words_of (map string_bytes words.now)) (C.words clock.old)
+        (I.told input.old) (O.told output.old) (I.told input.new) (O.told output.new) result }
+    ensures failed { OnlyWhereFailed (I.told input.old) (O.told output.old)
+        (I.told input.new) (O.told output.new) result }
 {
     let mut link = Lent { input, output };
     run_link(alloc, words, &mut link, clock)

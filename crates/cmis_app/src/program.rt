@@ -1,5 +1,5 @@
 //! One run of the program, with one connection or with many.
-ghost use Rattle.std.specs.Prelude.{◌≡◌, ◌⊎◌, ℕ, map, string_bytes, length, Some, None, IfSome, MatchOption};
+ghost use Rattle.std.specs.Prelude.{◌≡◌, ◌⊎◌, map, string_bytes, length, Some, None, IfSome, MatchOption};
 ghost use Rattle.desk_model.specs.Histories.{state_of};
 ghost use Rattle.cm_face.specs.Faces.{shown_step};
 ghost use Rattle.cmis_words.specs.Programs.{words_of};
@@ -78,9 +78,12 @@ where
     H::Link: Send,
     ensures served { MatchOption result.closing (Unserved (H.told host.old) (H.told host.new) result.status
         × (O.told output.new ≡ O.told output.old))
-        (λ c. ServedAll H.Link.Source.told H.Link.Sink.told asked.now.users (C.words clock.old) (H.left host.old) c.last c.ended
-        × Hosted asked.now (H.told host.old) (H.left host.old) (H.told host.new) (H.left host.new) (length c.ended) c.end
-        × Summed c.end (summary (length c.ended) (state_of shown_step c.last).step) (O.told output.old) (O.told output.new) result.status) }
+        (λ c. ServedAll H.Link.Source.told H.Link.Sink.told asked.now.users (C.words clock.old)
+        (H.left host.old) c.last c.ended
+        × Hosted asked.now (H.told host.old) (H.left host.old) (H.told host.new) (H.left host.new)
+        (length c.ended) c.end
+        × Summed c.end (summary (length c.ended) (state_of shown_step c.last).step) (O.told output.old)
+        (O.told output.new) result.status) }
 {
     match host.begin(asked.port, asked.links) {
         Ok(()) => {}
@@ -126,12 +129,16 @@ where
     H::Link: Send,
     ensures once { serve_of (map string_bytes words.now) ≡ None → (result.closing ≡ None)
         × ((result.status ≡ 7) × (I.told input.new ≡ I.told input.old) × (O.told output.new ≡ O.told output.old)
-        ⊎ RunsOnce (words_of (map string_bytes words.now)) (C.words clock.old) (I.told input.old) (O.told output.old) (I.told input.new) (O.told output.new) result.status
+        ⊎ RunsOnce (words_of (map string_bytes words.now)) (C.words clock.old) (I.told input.old)
+        (O.told output.old) (I.told input.new) (O.told output.new) result.status
         × OnlyWhereFailed (I.told input.old) (O.told output.old) (I.told input.new) (O.told output.new) result.status) }
-    ensures served { IfSome (serve_of (map string_bytes words.now)) (λ asked. MatchOption result.closing (Unserved (H.told host.old) (H.told host.new) result.status × (O.told output.new ≡ O.told output.old))
-        (λ c. ServedAll H.Link.Source.told H.Link.Sink.told asked.users (C.words clock.old) (H.left host.old) c.last c.ended
+    ensures served { IfSome (serve_of (map string_bytes words.now)) (λ asked. MatchOption result.closing
+        (Unserved (H.told host.old) (H.told host.new) result.status × (O.told output.new ≡ O.told output.old))
+        (λ c. ServedAll H.Link.Source.told H.Link.Sink.told asked.users (C.words clock.old)
+        (H.left host.old) c.last c.ended
         × Hosted asked (H.told host.old) (H.left host.old) (H.told host.new) (H.left host.new) (length c.ended) c.end
-        × Summed c.end (summary (length c.ended) (state_of shown_step c.last).step) (O.told output.old) (O.told output.new) result.status)) }
+        × Summed c.end (summary (length c.ended) (state_of shown_step c.last).step) (O.told output.old)
+        (O.told output.new) result.status)) }
     ensures unasked { serve_of (map string_bytes words.now) ≡ None → host.new ≡ host.old }
     ensures unread { IfSome (serve_of (map string_bytes words.now)) (λ asked. I.told input.new ≡ I.told input.old) }
 {

@@ -1,5 +1,5 @@
 //! The next delimiter.
-ghost use Rattle.std.specs.Prelude.{◌≡◌, ◌⊎◌, ℕ, ◌+◌, ◌-◌, ◌<◌, ◌≤◌, ◌==◌, ◌∷◌, ◌++◌, [], length, take, drop, Some, None, IfSome, IfNone, option_map, if◌then◌else◌};
+ghost use Rattle.std.specs.Prelude.{◌≡◌, ◌⊎◌, ◌+◌, ◌-◌, ◌<◌, ◌≤◌, ◌==◌, ◌∷◌, ◌++◌, [], length, take, drop, Some, None, IfSome, IfNone, if◌then◌else◌};
 ghost use Rattle.form_parts.specs.Reading.{lines_of, inside, outside, parts_after, part_before};
 
 use crate::mark::{Mark, line_mark};

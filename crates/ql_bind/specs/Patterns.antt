@@ -1,5 +1,5 @@
 -- The patterns of LIKE (CMIS 1.1, section 2.1.14.2.1).
-use Rattle.std.specs.Prelude.{ℕ, ◌==◌, Bool, true, false, List, [], ◌∷◌, ◌++◌, fold, if◌then◌else◌}
+use Rattle.std.specs.Prelude.{ℕ, ◌==◌, true, false, List, [], ◌∷◌, ◌++◌, fold, if◌then◌else◌}
 use Rattle.ql_bind.specs.declared.bound.Piece.{Piece}
 use Rattle.ql_bind.specs.declared.bound.Piece.TheVariants.{Run, Character, Byte}
 use Rattle.ql_bind.specs.declared.pattern.Reading.{Reading}

@@ -1,5 +1,5 @@
 -- What the names of a query stand for: its table, the columns, and the types whose objects are rows (CMIS 1.1, sections 2.1.14.1 and 2.1.14.2.2).
-use Rattle.std.specs.Prelude.{ℕ, Bool, true, false, ◌&&◌, ◌||◌, not, List, [], ◌∷◌, map, filter, find, Option, Some, None, Ok, bytes_eq, codes, if◌then◌else◌}
+use Rattle.std.specs.Prelude.{ℕ, Bool, false, ◌&&◌, ◌||◌, not, List, [], ◌∷◌, map, filter, find, Option, Some, None, Ok, bytes_eq, codes, if◌then◌else◌}
 use Rattle.std.specs.List.{list_any, flat_map}
 use Rattle.cm_base.specs.declared.cause.Cause.TheVariants.{QueryName}
 use Rattle.cm_base.specs.Judged.{Judged, ◌>>◌, refuse, find_or}

@@ -11,7 +11,7 @@ use cm_base::fail::Fail;
 use cm_base::items::Items;
 use cm_base::text::Text;
 use cm_types::property::PropDef;
-use ql_tree::tree::{Column, Item, Key, Selection};
+use ql_tree::tree::{Item, Key, Selection};
 use std::alloc::{AllocError, Global};
 
 fn whole_column(alloc: Global, def: &PropDef) -> Result<ShownColumn, AllocError>

@@ -1,5 +1,5 @@
 -- What a bound condition says of a row (CMIS 1.1, section 2.1.14.2).
-use Rattle.std.specs.Prelude.{ℕ, Bool, true, false, not, List, [], ◌∷◌, Option, Some, None, if◌then◌else◌}
+use Rattle.std.specs.Prelude.{Bool, true, false, not, List, [], ◌∷◌, Option, Some, None, if◌then◌else◌}
 use Rattle.std.specs.List.{list_any}
 use Rattle.core.specs.declared.cmp.Ordering.{Ordering}
 use Rattle.core.specs.Ordering.{is_eq, is_ne, is_lt, is_gt, is_le, is_ge}
@@ -9,7 +9,7 @@ use Rattle.cm_base.specs.declared.value.Scalar.TheVariants.{Words}
 use Rattle.cm_base.specs.declared.value.Value.{Value}
 use Rattle.cm_base.specs.declared.value.Value.TheVariants.{Unset, One, Many}
 use Rattle.cm_base.specs.Orders.{scalar_order}
-use Rattle.cm_types.specs.Properties.{value_in, is_set, scalars_of}
+use Rattle.cm_types.specs.Properties.{value_in, is_set}
 use Rattle.cmis_spec.specs.Repository.{same}
 use Rattle.ql_tree.specs.declared.tree.Comparison.{Comparison}
 use Rattle.ql_tree.specs.declared.tree.Comparison.TheVariants as comparisons
@@ -20,7 +20,7 @@ use Rattle.ql_bind.specs.declared.bound.Condition.TheFolds.{fold-Condition}
 use Rattle.ql_bind.specs.declared.bound.Bound.{Bound}
 use Rattle.ql_eval.specs.declared.row.Row.{Row}
 use Rattle.ql_eval.specs.declared.truth.Truth.{Truth}
-use Rattle.ql_eval.specs.declared.truth.Truth.TheVariants.{Holds, Fails, Unknown}
+use Rattle.ql_eval.specs.declared.truth.Truth.TheVariants.{Fails, Unknown}
 use Rattle.ql_eval.specs.Truths.{truth_of, opposite, opposite_if, both, either, holds}
 use Rattle.ql_eval.specs.Likes.{likes}
 

@@ -1,5 +1,5 @@
 -- What a planner may choose from: sets of objects among which every row of a query is.
-use Rattle.std.specs.Prelude.{ℕ, min, Bool, true, false, List, [], ◌∷◌, ◌++◌, map, filter, fold, length, Option, Some, None, bytes_eq, codes, if◌then◌else◌}
+use Rattle.std.specs.Prelude.{ℕ, min, Bool, false, List, [], ◌∷◌, ◌++◌, map, filter, fold, length, Option, Some, None, bytes_eq, codes, if◌then◌else◌}
 use Rattle.cm_base.specs.declared.number.Oid.{Oid}
 use Rattle.cm_base.specs.declared.object.Object.{Object}
 use Rattle.cm_base.specs.declared.value.Scalar.{Scalar}

@@ -1,6 +1,5 @@
 -- The rows that a query finds (CMIS 1.1, section 2.1.14.2): a filter over all objects, put in order.
 use Rattle.std.specs.Prelude.{ℕ, Bool, ◌&&◌, List, map, filter}
-use Rattle.cm_base.specs.declared.object.Object.{Object}
 use Rattle.cmis_spec.specs.Repository.{Repository}
 use Rattle.ql_bind.specs.declared.bound.Bound.{Bound}
 use Rattle.ql_eval.specs.declared.row.Row.{Row}

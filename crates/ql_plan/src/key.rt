@@ -1,5 +1,5 @@
 //! Keys: what a condition says of the objects at which it is true, so that they can be looked up.
-ghost use Rattle.std.specs.Prelude.{◌≡◌, ◌∷◌, ◌++◌, All, IfOk, OnOk, bytes_eq, codes};
+ghost use Rattle.std.specs.Prelude.{◌≡◌, ◌∷◌, ◌++◌, All, IfOk, OnOk};
 ghost use Rattle.cmis_spec.specs.Access.{oid_named};
 ghost use Rattle.ql_plan.specs.Candidates.{key_of_compare, key_of_scalar, keys_by, keys_of};
 ghost use Rattle.ql_plan.specs.Planned.{IsKeyBy, IsKeyOf};

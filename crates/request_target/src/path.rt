@@ -1,5 +1,5 @@
 //! The names in a path.
-ghost use Rattle.std.specs.Prelude.{◌≡◌, ◌++◌, ◌+◌, ◌<◌, ◌==◌, ◌⊎◌, ℕ, take, drop, length, All, IfOk, IfErr, OnOk, IsUtf8};
+ghost use Rattle.std.specs.Prelude.{◌≡◌, ◌++◌, ◌+◌, ◌<◌, ◌==◌, ◌⊎◌, take, drop, length, All, IfOk, OnOk, IsUtf8};
 ghost use Rattle.std.specs.List.{position_or_len};
 ghost use Rattle.percent_encoding.specs.Percent.{percent_decode};
 ghost use Rattle.request_target.specs.Path.{names_of, piece_names};

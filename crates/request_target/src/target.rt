@@ -1,8 +1,7 @@
 //! The addresses of the Browser Binding.
-ghost use Rattle.std.specs.Prelude.{◌≡◌, All, OnErr, Ok, Err};
+ghost use Rattle.std.specs.Prelude.{◌≡◌, Ok, Err};
 ghost use Rattle.cm_base.specs.declared.cause.Cause.TheVariants as causes;
-ghost use Rattle.cm_base.specs.Judged.{Meets, Fails};
-ghost use Rattle.request_target.specs.Path.{names_of};
+ghost use Rattle.cm_base.specs.Judged.{Meets};
 ghost use Rattle.request_target.specs.Targets.{below_main, below_cmis, address_of, target_at, target_of, query_of};
 
 use crate::form::{locator, path_in, query_in};

@@ -1,9 +1,8 @@
 -- The members of an object by its fields in the order of their names.
 use Rattle.std.proofs.Common.{◌≡◌, ℕ, List, [], ◌∷◌, Ordering, Less, Equal, Greater, refl, sym, ap, ◌∙◌, map, fold, nat_cmp}
-use Rattle.std.specs.Ordering.{match_ordering}
 use Rattle.std.specs.Cmp.Lexicographic.{slice_cmp}
 use Rattle.std.proofs.lemmas.Map.Lookups.{exact_bytes}
-use Rattle.serde_json.specs.Data.{Data, Members, object, no_members, member, put}
+use Rattle.serde_json.specs.Data.{Data, object, member, put}
 use Rattle.json_text.specs.Build.{with_field, object_data}
 use Rattle.json_text.specs.Tokens.{listed_members}
 use Rattle.show_json.specs.Ordered.{placed, in_key_order}

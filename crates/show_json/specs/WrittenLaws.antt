@@ -1,5 +1,5 @@
 -- What is written one behind the other.
-use Rattle.std.proofs.Common.{◌≡◌, ℕ, Bool, true, false, List, [], ◌∷◌, ◌++◌, refl, sym, ap, ◌∙◌, append_assoc, append-nil, codes, map, length, take, drop, nat_lt, ◌+◌}
+use Rattle.std.proofs.Common.{◌≡◌, ℕ, Bool, true, false, List, [], ◌∷◌, ◌++◌, sym, ap, ◌∙◌, append_assoc, append-nil, codes, map, length, take, drop, nat_lt, ◌+◌}
 use Rattle.std.proofs.lemmas.List.{length-map, take-map, drop-map}
 use denote.Ref.{Bor}
 use Rattle.json.specs.Token.{Token}

@@ -1,5 +1,5 @@
 //! A page of the children of a folder, written as JSON from the state (CMIS 1.1, section 2.2.3.1).
-ghost use Rattle.std.specs.Prelude.{◌≡◌, ◌++◌, ◌∷◌, [], IfOk, OnOk, IfSome, codes, map};
+ghost use Rattle.std.specs.Prelude.{◌≡◌, ◌++◌, ◌∷◌, [], IfOk, OnOk, codes, map};
 ghost use Rattle.std.specs.Bool.{OnTrue};
 ghost use Rattle.serde_json.specs.Data.{boolean, number, unsigned};
 ghost use Rattle.serde_json.specs.Written.{compact_text};

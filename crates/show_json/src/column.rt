@@ -1,5 +1,5 @@
 //! Columns: the definitions that are shown of the objects of a page, in byte order of their ids.
-ghost use Rattle.std.specs.Prelude.{◌≡◌, [], ◌∷◌, ◌++◌, map, IfOk, OnOk, OnErr};
+ghost use Rattle.std.specs.Prelude.{◌≡◌, [], ◌∷◌, ◌++◌, map, IfOk, OnOk};
 ghost use Rattle.core.specs.Ordering.{nat_cmp};
 ghost use Rattle.core.specs.Cmp.Lexicographic.{slice_cmp};
 ghost use Rattle.cm_types.specs.declared.property.PropDef.{PropDef};
