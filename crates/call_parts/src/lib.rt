@@ -9,8 +9,6 @@ pub mod place;
 pub mod readings;
 pub mod replies;
 pub mod stream;
-#[cfg(test)]
-mod tests;
 pub mod versions;
 pub mod weight;
 pub mod writes;

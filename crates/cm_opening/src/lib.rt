@@ -4,5 +4,3 @@
 ghost use Rattle.std.specs.Prelude.{◌≡◌};
 
 pub mod open;
-#[cfg(test)]
-mod tests;

@@ -8,7 +8,5 @@ mod property;
 pub mod seen;
 pub mod shown;
 pub mod system;
-#[cfg(test)]
-mod tests;
 mod value;
 mod version;

@@ -8,8 +8,6 @@ mod line;
 mod many;
 mod once;
 mod program;
-#[cfg(test)]
-mod tests;
 
 pub use many::serve;
 pub use once::{refuse, run_once};

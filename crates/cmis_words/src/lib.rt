@@ -5,6 +5,4 @@ ghost use Rattle.std.specs.Prelude.{◌≡◌};
 
 pub mod laws;
 pub mod serve;
-#[cfg(test)]
-mod tests;
 pub mod words;

@@ -3,4 +3,3 @@ pub mod Board
 pub mod Seats
 pub mod Steps
 pub mod Words
-pub mod Slow

@@ -8,8 +8,6 @@ mod pass;
 mod plays;
 mod seats;
 mod shelf;
-#[cfg(test)]
-mod tests;
 mod turn;
 
 pub use board::{Hold, Turn, View};

@@ -4,6 +4,8 @@
 #[cfg(test)]
 mod events;
 #[cfg(test)]
+mod locks;
+#[cfg(test)]
 mod machines;
 #[cfg(test)]
 mod sessions;

@@ -5,6 +5,4 @@ mod condition;
 mod order;
 pub mod parse;
 mod query;
-#[cfg(test)]
-mod rows;
 mod select;

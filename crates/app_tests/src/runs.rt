@@ -2,7 +2,7 @@
 ghost use Rattle.std.specs.Prelude.{All, IfOk};
 ghost use Rattle.outside.specs.Hosts.{is_new};
 
-use crate::{run, run_once};
+use cmis_app::{run, run_once};
 use outside::{FixedClock, MemHost, MemLink, MemSink, MemSource, OpenGate};
 use std::alloc::{AllocError, Global};
 use std::sync::Wait;

@@ -1,5 +1,5 @@
 //! Words that the program has, and others.
-use crate::words::{Words, WordsStop, read_words};
+use cmis_words::words::{Words, WordsStop, read_words};
 use cm_base::number::Moment;
 use std::alloc::{AllocError, Global};
 

@@ -1,5 +1,5 @@
 //! Ids of the standard.
-use crate::system::{SystemProperty, find_system};
+use cm_show::system::{SystemProperty, find_system};
 
 #[test]
 fn ids_of_the_standard(rt: HostRuntime) {

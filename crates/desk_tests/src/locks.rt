@@ -1,10 +1,10 @@
 //! A look beside a write, and each call once.
 ghost use Rattle.std.specs.Prelude.{◌≡◌};
-ghost use Rattle.desk_lock.specs.Slow.{count_step};
+ghost use Rattle.desk_tests.specs.Slow.{count_step};
 ghost use Rattle.desk_lock.specs.Words.{IsOf};
 
-use crate::lock::Lock;
-use crate::pass::Pass;
+use desk_lock::lock::Lock;
+use desk_lock::pass::Pass;
 use cm_base::text::Text;
 use desk_model::{Entry, Halt, Machine, Version};
 use outside::FixedClock;
@@ -61,7 +61,7 @@ impl Machine for Slow {
     type Cause = u64;
 
     ghost use Rattle.std.specs.Prelude.{Ok};
-    ghost use Rattle.desk_lock.specs.Slow.{count_step};
+    ghost use Rattle.desk_tests.specs.Slow.{count_step};
 
     ghost next = { count_step };
 

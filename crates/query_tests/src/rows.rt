@@ -1,5 +1,5 @@
 //! Worked rows of the grammar: places, words and printed forms, counted by hand.
-use crate::parse::parse;
+use ql_parse::parse::parse;
 use cm_base::cause::Cause;
 use cm_base::fail::Fail as Refusal;
 use cm_base::text::Text;

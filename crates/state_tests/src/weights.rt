@@ -1,7 +1,7 @@
 //! What a small call weighs, and copies.
-use crate::place::Place;
-use crate::weight::weight_of_create_folder;
-use crate::writes::{AceRequest, CreateFolder};
+use call_parts::place::Place;
+use call_parts::weight::weight_of_create_folder;
+use call_parts::writes::{AceRequest, CreateFolder};
 use cm_base::copies::Copies;
 use cm_base::items::Items;
 use cm_base::text::{Text, Texts};

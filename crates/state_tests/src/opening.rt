@@ -1,7 +1,7 @@
 //! The state of a repository that has just begun.
 ghost use Rattle.std.specs.Prelude.{◌≡◌, ◌<◌};
 
-use crate::open::open;
+use cm_opening::open::open;
 use cm_base::number::{Moment, Oid};
 use cm_base::object::Object;
 use cm_base::steps::Steps;
