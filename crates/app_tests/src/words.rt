@@ -1,6 +1,6 @@
 //! Words that the program has, and others.
-use cmis_words::words::{Words, WordsStop, read_words};
 use cm_base::number::Moment;
+use cmis_words::words::{Words, WordsStop, read_words};
 use std::alloc::{AllocError, Global};
 
 fn strings(alloc: Global, words: &[&str]) -> Result<Vec<String>, AllocError> {

@@ -1,5 +1,5 @@
 -- The JSON of replies, and what is sent of them (CMIS 1.1, sections 5.2.10 and 5.2.11).
-use Rattle.std.specs.Prelude.{ℕ, Bool, List, codes, Some, if◌then◌else◌}
+use Rattle.std.specs.Prelude.{ℕ, Bool, List, [], codes, Some, if◌then◌else◌}
 use Rattle.serde_json.specs.Written.{compact_text}
 use Rattle.cm_base.specs.declared.shown.Shown.{Shown}
 use Rattle.cm_call.specs.declared.reply.Reply.{Reply}
@@ -8,6 +8,11 @@ use Rattle.object_json.specs.Objects.{shown_data}
 use Rattle.object_json.specs.Pages.{children_data}
 use Rattle.type_replies.specs.Infos.{infos_data}
 use Rattle.type_replies.specs.Types.{definition_data, types_data, type_tree_data}
+use Rattle.object_json.specs.Lists.{objects_data, parents_data}
+use Rattle.object_json.specs.Access.{acl_data}
+use Rattle.query_replies.specs.Rows.{query_data}
+use Rattle.tree_replies.specs.Trees.{tree_data, page_data}
+use Rattle.log_replies.specs.Changes.{changes_data}
 
 -- 201 where the call made what is shown
 abbrev pub status_of : Bool → ℕ
@@ -17,7 +22,7 @@ status_of created = if created then 201 else 200
 abbrev pub shown_json : ℕ → List ℕ → ℕ → Shown
 shown_json status text step = record { status = status; kind = codes "application/json"; body = text; number = Some step }
 
--- what is sent of a reply that was made at this step: compact JSON, or bytes with their type
+-- what is sent of a reply that was made at this step: compact JSON, bytes with their type, or nothing
 abbrev pub shown_reply : Reply → ℕ → Shown
 shown_reply (replies.Object reply) step = shown_json (status_of reply.created) (compact_text (shown_data reply.object)) step
 shown_reply (replies.Type reply) step = shown_json (status_of reply.created) (compact_text (definition_data reply)) step
@@ -25,4 +30,12 @@ shown_reply (replies.Types reply) step = shown_json 200 (compact_text (types_dat
 shown_reply (replies.TypeTree reply) step = shown_json 200 (compact_text (type_tree_data reply)) step
 shown_reply (replies.Info reply) step = shown_json 200 (compact_text (infos_data reply)) step
 shown_reply (replies.Children reply) step = shown_json 200 (compact_text (children_data reply)) step
+shown_reply (replies.Objects reply) step = shown_json 200 (compact_text (objects_data reply)) step
+shown_reply (replies.Parents reply) step = shown_json 200 (compact_text (parents_data reply)) step
+shown_reply (replies.Acl reply) step = shown_json 200 (compact_text (acl_data reply)) step
+shown_reply (replies.Query reply) step = shown_json 200 (compact_text (query_data reply)) step
+shown_reply (replies.Tree reply) step = shown_json 200 (compact_text (tree_data reply)) step
+shown_reply (replies.Page reply) step = shown_json 200 (compact_text (page_data reply)) step
+shown_reply (replies.Changes reply) step = shown_json 200 (compact_text (changes_data reply)) step
 shown_reply (replies.Content reply) step = record { status = 200; kind = reply.kind; body = reply.body; number = Some step }
+shown_reply replies.Nothing step = record { status = 200; kind = []; body = []; number = Some step }

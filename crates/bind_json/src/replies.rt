@@ -1,5 +1,5 @@
 //! Replies as they are sent.
-ghost use Rattle.std.specs.Prelude.{◌≡◌, codes, Some, IfOk};
+ghost use Rattle.std.specs.Prelude.{◌≡◌, [], codes, Some, IfOk};
 ghost use Rattle.json_text.specs.Shown.{data_of};
 ghost use Rattle.serde_json.specs.Written.{compact_text};
 ghost use Rattle.object_json.specs.Objects.{shown_data};
@@ -7,18 +7,33 @@ ghost use Rattle.object_json.specs.Pages.{children_data};
 ghost use Rattle.type_replies.specs.Infos.{infos_data};
 ghost use Rattle.type_replies.specs.Types.{definition_data, types_data, type_tree_data};
 ghost use Rattle.bind_json.specs.Replies.{status_of, shown_json, shown_reply};
+ghost use Rattle.object_json.specs.Lists.{objects_data, parents_data};
+ghost use Rattle.object_json.specs.Access.{acl_data};
+ghost use Rattle.query_replies.specs.Rows.{query_data};
+ghost use Rattle.tree_replies.specs.Trees.{tree_data, page_data};
+ghost use Rattle.log_replies.specs.Changes.{changes_data};
 
 use bytes::Bytes;
-use call_parts::replies::{ChildrenReply, ContentReply, ShownObject};
-use cm_base::copies::Copies;
+use call_parts::replies::{
+    AclReply, ChildrenReply, ContentReply, ObjectsReply, ParentsReply, ShownObject,
+};
 use cm_base::media::MediaType;
 use cm_base::shown::Shown;
 use cm_base::text::Text;
 use cm_call::reply::Reply;
 use json_text::tree::Json;
+use log_parts::replies::ChangesReply;
+use log_replies::changes::changes_json;
+use object_json::access::acl_json;
+use object_json::lists::{objects_json, parents_json};
 use object_json::objects::object_json;
 use object_json::pages::children_json;
+use query_parts::replies::QueryReply;
+use query_replies::rows::query_json;
 use std::alloc::{AllocError, Global};
+use tree_parts::replies::{PageReply, TreeReply};
+use tree_replies::page::page_json;
+use tree_replies::tree::tree_json;
 use type_parts::replies::{InfoReply, TypeReply, TypeTreeReply, TypesReply};
 use type_replies::info::info_reply_json;
 use type_replies::tree::type_tree_json;
@@ -67,7 +82,7 @@ fn types_text(alloc: Global, reply: &TypesReply) -> Result<Bytes, AllocError>
     text_of_json(alloc, &json)
 }
 
-fn tree_text(alloc: Global, reply: &TypeTreeReply) -> Result<Bytes, AllocError>
+fn type_tree_text(alloc: Global, reply: &TypeTreeReply) -> Result<Bytes, AllocError>
     ensures { IfOk result (λ b. b ≡ compact_text (type_tree_data reply.now)) }
 {
     let json = type_tree_json(alloc, reply)?;
@@ -78,6 +93,55 @@ fn info_text(alloc: Global, reply: &InfoReply) -> Result<Bytes, AllocError>
     ensures { IfOk result (λ b. b ≡ compact_text (infos_data reply.now)) }
 {
     let json = info_reply_json(alloc, reply)?;
+    text_of_json(alloc, &json)
+}
+
+fn objects_text(alloc: Global, reply: &ObjectsReply) -> Result<Bytes, AllocError>
+    ensures { IfOk result (λ b. b ≡ compact_text (objects_data reply.now)) }
+{
+    let json = objects_json(alloc, reply)?;
+    text_of_json(alloc, &json)
+}
+
+fn parents_text(alloc: Global, reply: &ParentsReply) -> Result<Bytes, AllocError>
+    ensures { IfOk result (λ b. b ≡ compact_text (parents_data reply.now)) }
+{
+    let json = parents_json(alloc, reply)?;
+    text_of_json(alloc, &json)
+}
+
+fn acl_text(alloc: Global, reply: &AclReply) -> Result<Bytes, AllocError>
+    ensures { IfOk result (λ b. b ≡ compact_text (acl_data reply.now)) }
+{
+    let json = acl_json(alloc, reply)?;
+    text_of_json(alloc, &json)
+}
+
+fn query_text(alloc: Global, reply: &QueryReply) -> Result<Bytes, AllocError>
+    ensures { IfOk result (λ b. b ≡ compact_text (query_data reply.now)) }
+{
+    let json = query_json(alloc, reply)?;
+    text_of_json(alloc, &json)
+}
+
+fn tree_text(alloc: Global, reply: &TreeReply) -> Result<Bytes, AllocError>
+    ensures { IfOk result (λ b. b ≡ compact_text (tree_data reply.now)) }
+{
+    let json = tree_json(alloc, reply)?;
+    text_of_json(alloc, &json)
+}
+
+fn page_text(alloc: Global, reply: &PageReply) -> Result<Bytes, AllocError>
+    ensures { IfOk result (λ b. b ≡ compact_text (page_data reply.now)) }
+{
+    let json = page_json(alloc, reply)?;
+    text_of_json(alloc, &json)
+}
+
+fn changes_text(alloc: Global, reply: &ChangesReply) -> Result<Bytes, AllocError>
+    ensures { IfOk result (λ b. b ≡ compact_text (changes_data reply.now)) }
+{
+    let json = changes_json(alloc, reply)?;
     text_of_json(alloc, &json)
 }
 
@@ -110,19 +174,26 @@ pub fn shown_json(alloc: Global, status: u16, body: Bytes, number: u64) -> Resul
     Ok(shown_as(status, kind, body, number))
 }
 
-fn shown_content(alloc: Global, reply: &ContentReply, number: u64) -> Result<Shown, AllocError>
-    ensures { IfOk result (λ s. s
-        ≡ record { status = 200; kind = reply.now.kind; body = reply.now.body; number = Some number }) }
+fn shown_content(reply: ContentReply, number: u64) -> Shown
+    ensures { result ≡ record { status = 200; kind = reply.kind; body = reply.body; number = Some number } }
 {
-    let kind = reply.kind.copied(alloc)?;
-    let body = reply.body.clone()?;
-    Ok(shown_as(200, kind, body, number))
+    shown_as(200, reply.kind, reply.body, number)
+}
+
+// What is sent of a removal, which takes no memory.
+fn shown_nothing(alloc: Global, number: u64) -> Shown
+    ensures { result ≡ record { status = 200; kind = []; body = []; number = Some number } }
+{
+    match MediaType::from_text(Text::empty(alloc)) {
+        Some(kind) => shown_as(200, kind, Bytes::new(), number),
+        None => unreachable!(),
+    }
 }
 
 /// What is sent of a reply that is made at this step: JSON, compact and with the names of each object in byte order, with the
-/// status 201 where the call made what is shown, and else 200; or the bytes of a content, which are shared, with their type.
-pub fn text_of(alloc: Global, reply: &Reply, number: u64) -> Result<Shown, AllocError>
-    ensures { IfOk result (λ s. s ≡ shown_reply reply.now number) }
+/// status 201 where the call made what is shown, and else 200; the bytes of a content, which are shared, with their type; or nothing, for a removal.
+pub fn text_of(alloc: Global, reply: Reply, number: u64) -> Result<Shown, AllocError>
+    ensures { IfOk result (λ s. s ≡ shown_reply reply number) }
 {
     match reply {
         Reply::Object(reply) => {
@@ -130,25 +201,54 @@ pub fn text_of(alloc: Global, reply: &Reply, number: u64) -> Result<Shown, Alloc
             shown_json(alloc, status_of(reply.created), text, number)
         }
         Reply::Type(reply) => {
-            let text = definition_text(alloc, reply)?;
+            let text = definition_text(alloc, &reply)?;
             shown_json(alloc, status_of(reply.created), text, number)
         }
         Reply::Children(reply) => {
-            let text = children_text(alloc, reply)?;
+            let text = children_text(alloc, &reply)?;
             shown_json(alloc, 200, text, number)
         }
         Reply::Types(reply) => {
-            let text = types_text(alloc, reply)?;
+            let text = types_text(alloc, &reply)?;
             shown_json(alloc, 200, text, number)
         }
         Reply::TypeTree(reply) => {
-            let text = tree_text(alloc, reply)?;
+            let text = type_tree_text(alloc, &reply)?;
             shown_json(alloc, 200, text, number)
         }
         Reply::Info(reply) => {
-            let text = info_text(alloc, reply)?;
+            let text = info_text(alloc, &reply)?;
             shown_json(alloc, 200, text, number)
         }
-        Reply::Content(reply) => shown_content(alloc, reply, number),
+        Reply::Objects(reply) => {
+            let text = objects_text(alloc, &reply)?;
+            shown_json(alloc, 200, text, number)
+        }
+        Reply::Parents(reply) => {
+            let text = parents_text(alloc, &reply)?;
+            shown_json(alloc, 200, text, number)
+        }
+        Reply::Acl(reply) => {
+            let text = acl_text(alloc, &reply)?;
+            shown_json(alloc, 200, text, number)
+        }
+        Reply::Query(reply) => {
+            let text = query_text(alloc, &reply)?;
+            shown_json(alloc, 200, text, number)
+        }
+        Reply::Tree(reply) => {
+            let text = tree_text(alloc, &reply)?;
+            shown_json(alloc, 200, text, number)
+        }
+        Reply::Page(reply) => {
+            let text = page_text(alloc, &reply)?;
+            shown_json(alloc, 200, text, number)
+        }
+        Reply::Changes(reply) => {
+            let text = changes_text(alloc, &reply)?;
+            shown_json(alloc, 200, text, number)
+        }
+        Reply::Content(reply) => Ok(shown_content(reply, number)),
+        Reply::Nothing => Ok(shown_nothing(alloc, number)),
     }
 }

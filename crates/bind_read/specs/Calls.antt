@@ -18,9 +18,17 @@ use Rattle.bind_read.specs.Words.{service_of}
 use Rattle.bind_tree.specs.CreateFolder.{create_folder_of}
 use Rattle.bind_tree.specs.Objects.{object_of, properties_of}
 use Rattle.bind_tree.specs.Children.{children_of}
-use Rattle.bind_document.specs.Writes.{create_document_of, check_out_of, check_in_of}
-use Rattle.bind_document.specs.Readings.{content_of, default_of}
+use Rattle.bind_document.specs.Writes.{create_document_of, check_out_of, check_in_of, delete_of, cancel_check_out_of}
+use Rattle.bind_document.specs.Readings.{content_of, default_of, versions_of}
 use Rattle.bind_types.specs.Types.{type_definition_of, type_children_of, type_descendants_of, info_of}
+use Rattle.bind_content.specs.Writes.{set_content_of, append_content_of, delete_content_of}
+use Rattle.bind_access.specs.Readings.{parent_of, parents_of, policies_of, acl_of}
+use Rattle.bind_change.specs.Filing.{move_of, add_to_folder_of, remove_from_folder_of}
+use Rattle.bind_query.specs.Query.{query_of as query_asked}
+use Rattle.bind_change.specs.Update.{update_of}
+use Rattle.bind_acl.specs.Writes.{apply_acl_of}
+use Rattle.bind_trees.specs.Readings.{descendants_of, folder_tree_of, checked_out_of}
+use Rattle.bind_log.specs.Readings.{changes_of}
 
 -- the arguments of each service
 abbrev pub bound : Service → Asking → Judged Asked
@@ -36,6 +44,26 @@ bound services.TypeDefinition asking = type_definition_of asking >>= λ question
 bound services.TypeChildren asking = type_children_of asking >>= λ question. Ok (asks.Question (questions.TypeChildren question))
 bound services.TypeDescendants asking = type_descendants_of asking >>= λ question. Ok (asks.Question (questions.TypeDescendants question))
 bound services.Info asking = info_of asking >>= λ question. Ok (asks.Question (questions.Info question))
+bound services.SetContent asking = set_content_of asking >>= λ call. Ok (asks.Write (writes.SetContent call))
+bound services.AppendContent asking = append_content_of asking >>= λ call. Ok (asks.Write (writes.AppendContent call))
+bound services.DeleteContent asking = delete_content_of asking >>= λ call. Ok (asks.Write (writes.DeleteContent call))
+bound services.Versions asking = versions_of asking >>= λ question. Ok (asks.Question (questions.Versions question))
+bound services.Parent asking = parent_of asking >>= λ question. Ok (asks.Question (questions.Parent question))
+bound services.Parents asking = parents_of asking >>= λ question. Ok (asks.Question (questions.Parents question))
+bound services.Move asking = move_of asking >>= λ call. Ok (asks.Write (writes.Move call))
+bound services.AddToFolder asking = add_to_folder_of asking >>= λ call. Ok (asks.Write (writes.AddToFolder call))
+bound services.RemoveFromFolder asking = remove_from_folder_of asking >>= λ call. Ok (asks.Write (writes.RemoveFromFolder call))
+bound services.Policies asking = policies_of asking >>= λ question. Ok (asks.Question (questions.Policies question))
+bound services.Acl asking = acl_of asking >>= λ question. Ok (asks.Question (questions.Acl question))
+bound services.Query asking = query_asked asking >>= λ question. Ok (asks.Question (questions.Query question))
+bound services.Delete asking = delete_of asking >>= λ call. Ok (asks.Write (writes.Delete call))
+bound services.CancelCheckOut asking = cancel_check_out_of asking >>= λ call. Ok (asks.Write (writes.CancelCheckOut call))
+bound services.Update asking = update_of asking >>= λ call. Ok (asks.Write (writes.Update call))
+bound services.ApplyAcl asking = apply_acl_of asking >>= λ call. Ok (asks.Write (writes.ApplyAcl call))
+bound services.Descendants asking = descendants_of asking >>= λ question. Ok (asks.Question (questions.Tree question))
+bound services.FolderTree asking = folder_tree_of asking >>= λ question. Ok (asks.Question (questions.Tree question))
+bound services.CheckedOut asking = checked_out_of asking >>= λ question. Ok (asks.Question (questions.CheckedOut question))
+bound services.Changes asking = changes_of asking >>= λ question. Ok (asks.Question (questions.Changes question))
 bound services.Default asking = default_of asking >>= λ question. Ok (asks.Question (questions.Default question))
 
 -- what a request asks, in the order in which its causes come

@@ -1,5 +1,5 @@
 -- The actions and selectors that are served, each at its addresses (CMIS 1.1, sections 5.4.2 and 5.4.3).
-use Rattle.std.specs.Prelude.{ℕ, List, [], ◌∷◌, Bool, true, false, not, ◌&&◌, codes, bytes_eq, find, Option, Some, None, Ok, Err}
+use Rattle.std.specs.Prelude.{ℕ, List, [], ◌∷◌, Bool, true, false, not, ◌&&◌, ◌||◌, codes, bytes_eq, find, Option, Some, None, Ok, Err}
 use Rattle.cm_base.specs.declared.argument.Argument.{Argument}
 use Rattle.cm_base.specs.declared.argument.Argument.TheVariants as args
 use Rattle.cm_base.specs.declared.cause.Cause.TheVariants as causes
@@ -27,6 +27,26 @@ word_of services.TypeDefinition = codes "typeDefinition"
 word_of services.TypeChildren = codes "typeChildren"
 word_of services.TypeDescendants = codes "typeDescendants"
 word_of services.Info = codes "repositoryInfo"
+word_of services.SetContent = codes "setContent"
+word_of services.AppendContent = codes "appendContent"
+word_of services.DeleteContent = codes "deleteContent"
+word_of services.Versions = codes "versions"
+word_of services.Parent = codes "parent"
+word_of services.Parents = codes "parents"
+word_of services.Move = codes "move"
+word_of services.AddToFolder = codes "addObjectToFolder"
+word_of services.RemoveFromFolder = codes "removeObjectFromFolder"
+word_of services.Policies = codes "policies"
+word_of services.Acl = codes "acl"
+word_of services.Query = codes "query"
+word_of services.Delete = codes "delete"
+word_of services.CancelCheckOut = codes "cancelCheckOut"
+word_of services.Update = codes "update"
+word_of services.ApplyAcl = codes "applyACL"
+word_of services.Descendants = codes "descendants"
+word_of services.FolderTree = codes "folderTree"
+word_of services.CheckedOut = codes "checkedout"
+word_of services.Changes = codes "contentChanges"
 word_of services.Default = codes ""
 
 -- an action of a POST; the others are selectors of a GET
@@ -35,11 +55,26 @@ is_action services.CreateFolder = true
 is_action services.CreateDocument = true
 is_action services.CheckOut = true
 is_action services.CheckIn = true
+is_action services.SetContent = true
+is_action services.AppendContent = true
+is_action services.DeleteContent = true
+is_action services.Move = true
+is_action services.AddToFolder = true
+is_action services.RemoveFromFolder = true
+is_action services.Delete = true
+is_action services.CancelCheckOut = true
+is_action services.Update = true
+is_action services.ApplyAcl = true
 is_action s = false
+
+-- a query may be sent as a form too, since its text may be long
+abbrev pub is_query : Service → Bool
+is_query services.Query = true
+is_query s = false
 
 abbrev pub is_by : Method → Service → Bool
 is_by methods.Get s = not (is_action s)
-is_by methods.Post s = is_action s
+is_by methods.Post s = is_action s || is_query s
 
 -- types, and the repository itself, are no objects
 abbrev pub is_of_repository : Service → Bool
@@ -47,11 +82,14 @@ is_of_repository services.TypeDefinition = true
 is_of_repository services.TypeChildren = true
 is_of_repository services.TypeDescendants = true
 is_of_repository services.Info = true
+is_of_repository services.Changes = true
+is_of_repository services.Query = true
 is_of_repository s = false
 
 -- a document may be made in no folder
 abbrev pub is_at_repository : Service → Bool
 is_at_repository services.CreateDocument = true
+is_at_repository services.CheckedOut = true
 is_at_repository s = is_of_repository s
 
 -- where a service is served under its word
@@ -65,7 +103,12 @@ abbrev pub all_services : List Service
 all_services =
     services.CreateFolder ∷ services.CreateDocument ∷ services.CheckOut ∷ services.CheckIn
     ∷ services.Object ∷ services.Properties ∷ services.Children ∷ services.Content
-    ∷ services.TypeDefinition ∷ services.TypeChildren ∷ services.TypeDescendants ∷ services.Info ∷ []
+    ∷ services.TypeDefinition ∷ services.TypeChildren ∷ services.TypeDescendants ∷ services.Info
+    ∷ services.SetContent ∷ services.AppendContent ∷ services.DeleteContent ∷ services.Versions
+    ∷ services.Parent ∷ services.Parents ∷ services.Move ∷ services.AddToFolder
+    ∷ services.RemoveFromFolder ∷ services.Policies ∷ services.Acl ∷ services.Query
+    ∷ services.Delete ∷ services.CancelCheckOut ∷ services.Update ∷ services.ApplyAcl
+    ∷ services.Descendants ∷ services.FolderTree ∷ services.CheckedOut ∷ services.Changes ∷ []
 
 -- the word names this service, by this method at this address
 abbrev pub is_named : Method → Target → List ℕ → Service → Bool

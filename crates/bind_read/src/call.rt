@@ -6,13 +6,22 @@ ghost use Rattle.bind_read.specs.Calls.{bound, call_of_request};
 use crate::asked::Asked;
 use crate::form::{form_of, method_of};
 use crate::words::{Service, service_of};
+use bind_access::readings::{acl_of, parent_of, parents_of, policies_of};
+use bind_acl::writes::apply_acl_of;
+use bind_change::filing::{add_to_folder_of, move_of, remove_from_folder_of};
+use bind_change::update::update_of;
+use bind_content::writes::{append_content_of, delete_content_of, set_content_of};
 use bind_document::create_document::create_document_of;
-use bind_document::readings::{content_of, default_of};
-use bind_document::versioning::{check_in_of, check_out_of};
+use bind_document::delete::delete_of;
+use bind_document::readings::{content_of, default_of, versions_of};
+use bind_document::versioning::{cancel_check_out_of, check_in_of, check_out_of};
+use bind_log::readings::changes_of;
 use bind_parts::asking::{Asking, host_of, with_query};
+use bind_query::query::query_of as query_asked;
 use bind_tree::children::children_of;
 use bind_tree::create_folder::create_folder_of;
 use bind_tree::object::{object_of, properties_of};
+use bind_trees::readings::{checked_out_of, descendants_of, folder_tree_of};
 use bind_types::info::info_of;
 use bind_types::types::{type_children_of, type_definition_of, type_descendants_of};
 use cm_base::fail::Fail;
@@ -75,6 +84,86 @@ fn bound(alloc: Global, service: Service, asking: &Asking) -> Result<Asked, Fail
             let question = info_of(alloc, asking)?;
             Ok(Asked::Question(Question::Info(question)))
         }
+        Service::SetContent => {
+            let call = set_content_of(alloc, asking)?;
+            Ok(Asked::Write(Write::SetContent(call)))
+        }
+        Service::AppendContent => {
+            let call = append_content_of(alloc, asking)?;
+            Ok(Asked::Write(Write::AppendContent(call)))
+        }
+        Service::DeleteContent => {
+            let call = delete_content_of(alloc, asking)?;
+            Ok(Asked::Write(Write::DeleteContent(call)))
+        }
+        Service::Versions => {
+            let question = versions_of(alloc, asking)?;
+            Ok(Asked::Question(Question::Versions(question)))
+        }
+        Service::Parent => {
+            let question = parent_of(alloc, asking)?;
+            Ok(Asked::Question(Question::Parent(question)))
+        }
+        Service::Parents => {
+            let question = parents_of(alloc, asking)?;
+            Ok(Asked::Question(Question::Parents(question)))
+        }
+        Service::Move => {
+            let call = move_of(alloc, asking)?;
+            Ok(Asked::Write(Write::Move(call)))
+        }
+        Service::AddToFolder => {
+            let call = add_to_folder_of(alloc, asking)?;
+            Ok(Asked::Write(Write::AddToFolder(call)))
+        }
+        Service::RemoveFromFolder => {
+            let call = remove_from_folder_of(alloc, asking)?;
+            Ok(Asked::Write(Write::RemoveFromFolder(call)))
+        }
+        Service::Policies => {
+            let question = policies_of(alloc, asking)?;
+            Ok(Asked::Question(Question::Policies(question)))
+        }
+        Service::Acl => {
+            let question = acl_of(alloc, asking)?;
+            Ok(Asked::Question(Question::Acl(question)))
+        }
+        Service::Query => {
+            let question = query_asked(alloc, asking)?;
+            Ok(Asked::Question(Question::Query(question)))
+        }
+        Service::Delete => {
+            let call = delete_of(alloc, asking)?;
+            Ok(Asked::Write(Write::Delete(call)))
+        }
+        Service::CancelCheckOut => {
+            let call = cancel_check_out_of(alloc, asking)?;
+            Ok(Asked::Write(Write::CancelCheckOut(call)))
+        }
+        Service::Update => {
+            let call = update_of(alloc, asking)?;
+            Ok(Asked::Write(Write::Update(call)))
+        }
+        Service::ApplyAcl => {
+            let call = apply_acl_of(alloc, asking)?;
+            Ok(Asked::Write(Write::ApplyAcl(call)))
+        }
+        Service::Descendants => {
+            let question = descendants_of(alloc, asking)?;
+            Ok(Asked::Question(Question::Tree(question)))
+        }
+        Service::FolderTree => {
+            let question = folder_tree_of(alloc, asking)?;
+            Ok(Asked::Question(Question::Tree(question)))
+        }
+        Service::CheckedOut => {
+            let question = checked_out_of(alloc, asking)?;
+            Ok(Asked::Question(Question::CheckedOut(question)))
+        }
+        Service::Changes => match changes_of(asking) {
+            Ok(question) => Ok(Asked::Question(Question::Changes(question))),
+            Err(cause) => Err(Fail::Refused(cause)),
+        },
         Service::Default => {
             let question = default_of(alloc, asking)?;
             Ok(Asked::Question(Question::Default(question)))

@@ -3,7 +3,7 @@ ghost use Rattle.std.specs.Prelude.{◌≡◌, find};
 ghost use Rattle.std.specs.Option.{option_copied};
 ghost use Rattle.cm_base.specs.declared.cause.Cause.TheVariants as causes;
 ghost use Rattle.cm_base.specs.Judged.{Meets, find_or};
-ghost use Rattle.bind_read.specs.Words.{word_of, is_action, is_by, is_of_repository, is_at_repository, is_at, all_services, is_named, unnamed, argument_of, service_of};
+ghost use Rattle.bind_read.specs.Words.{word_of, is_action, is_by, is_query, is_of_repository, is_at_repository, is_at, all_services, is_named, unnamed, argument_of, service_of};
 
 use crate::form::Method;
 use cm_base::argument::Argument;
@@ -30,6 +30,26 @@ pub enum Service {
     TypeChildren,
     TypeDescendants,
     Info,
+    SetContent,
+    AppendContent,
+    DeleteContent,
+    Versions,
+    Parent,
+    Parents,
+    Move,
+    AddToFolder,
+    RemoveFromFolder,
+    Policies,
+    Acl,
+    Query,
+    Delete,
+    CancelCheckOut,
+    Update,
+    ApplyAcl,
+    Descendants,
+    FolderTree,
+    CheckedOut,
+    Changes,
     /// An object without a selector.
     Default,
 }
@@ -50,6 +70,26 @@ fn word_of(service: Service) -> &'static str
         Service::TypeChildren => "typeChildren",
         Service::TypeDescendants => "typeDescendants",
         Service::Info => "repositoryInfo",
+        Service::SetContent => "setContent",
+        Service::AppendContent => "appendContent",
+        Service::DeleteContent => "deleteContent",
+        Service::Versions => "versions",
+        Service::Parent => "parent",
+        Service::Parents => "parents",
+        Service::Move => "move",
+        Service::AddToFolder => "addObjectToFolder",
+        Service::RemoveFromFolder => "removeObjectFromFolder",
+        Service::Policies => "policies",
+        Service::Acl => "acl",
+        Service::Query => "query",
+        Service::Delete => "delete",
+        Service::CancelCheckOut => "cancelCheckOut",
+        Service::Update => "update",
+        Service::ApplyAcl => "applyACL",
+        Service::Descendants => "descendants",
+        Service::FolderTree => "folderTree",
+        Service::CheckedOut => "checkedout",
+        Service::Changes => "contentChanges",
         Service::Default => "",
     }
 }
@@ -62,6 +102,26 @@ fn is_action(service: Service) -> bool
         Service::CreateDocument => true,
         Service::CheckOut => true,
         Service::CheckIn => true,
+        Service::SetContent => true,
+        Service::AppendContent => true,
+        Service::DeleteContent => true,
+        Service::Move => true,
+        Service::AddToFolder => true,
+        Service::RemoveFromFolder => true,
+        Service::Delete => true,
+        Service::CancelCheckOut => true,
+        Service::Update => true,
+        Service::ApplyAcl => true,
+        _ => false,
+    }
+}
+
+// A query may be sent as a form too, since its text may be long.
+fn is_query(service: Service) -> bool
+    ensures { result ≡ is_query service }
+{
+    match service {
+        Service::Query => true,
         _ => false,
     }
 }
@@ -71,7 +131,7 @@ fn is_by(method: Method, service: Service) -> bool
 {
     match method {
         Method::Get => !is_action(service),
-        Method::Post => is_action(service),
+        Method::Post => is_action(service) || is_query(service),
     }
 }
 
@@ -83,6 +143,8 @@ fn is_of_repository(service: Service) -> bool
         Service::TypeChildren => true,
         Service::TypeDescendants => true,
         Service::Info => true,
+        Service::Changes => true,
+        Service::Query => true,
         _ => false,
     }
 }
@@ -92,6 +154,7 @@ fn is_at_repository(service: Service) -> bool
 {
     match service {
         Service::CreateDocument => true,
+        Service::CheckedOut => true,
         _ => is_of_repository(service),
     }
 }
@@ -152,6 +215,26 @@ fn service_named(method: Method, target: &Target, word: &str) -> Option<Service>
             Service::TypeChildren,
             Service::TypeDescendants,
             Service::Info,
+            Service::SetContent,
+            Service::AppendContent,
+            Service::DeleteContent,
+            Service::Versions,
+            Service::Parent,
+            Service::Parents,
+            Service::Move,
+            Service::AddToFolder,
+            Service::RemoveFromFolder,
+            Service::Policies,
+            Service::Acl,
+            Service::Query,
+            Service::Delete,
+            Service::CancelCheckOut,
+            Service::Update,
+            Service::ApplyAcl,
+            Service::Descendants,
+            Service::FolderTree,
+            Service::CheckedOut,
+            Service::Changes,
         ],
     )
 }

@@ -29,7 +29,8 @@ fn levels(number: u64) -> Option<Depth>
     }
 }
 
-fn depth_of_word(word: &str) -> Option<Depth>
+/// The depth that a word names: -1, or a number of levels that is at least 1.
+pub fn depth_of_word(word: &str) -> Option<Depth>
     ensures { result ≡ depth_of_word word.now }
 {
     if word == "-1" {

@@ -1,5 +1,11 @@
 //! Questions (CMIS 1.1, section 2.2).
-use call_parts::readings::{ReadChildren, ReadContent, ReadDefault, ReadObject, ReadProperties};
+use call_parts::readings::{
+    ReadAcl, ReadChildren, ReadContent, ReadDefault, ReadObject, ReadParent, ReadParents,
+    ReadPolicies, ReadProperties, ReadVersions,
+};
+use log_parts::readings::ReadChanges;
+use query_parts::readings::ReadQuery;
+use tree_parts::readings::{ReadCheckedOut, ReadTree};
 use type_parts::readings::{ReadInfo, ReadTypeChildren, ReadTypeDefinition, ReadTypeDescendants};
 
 /// A call that changes nothing.
@@ -14,4 +20,13 @@ pub enum Question {
     TypeChildren(ReadTypeChildren),
     TypeDescendants(ReadTypeDescendants),
     Info(ReadInfo),
+    Versions(ReadVersions),
+    Parent(ReadParent),
+    Parents(ReadParents),
+    Policies(ReadPolicies),
+    Acl(ReadAcl),
+    Query(ReadQuery),
+    Tree(ReadTree),
+    CheckedOut(ReadCheckedOut),
+    Changes(ReadChanges),
 }

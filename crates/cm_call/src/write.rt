@@ -1,5 +1,10 @@
 //! Writes (CMIS 1.1, section 2.2).
-use call_parts::versions::{CheckIn, CheckOut, CreateDocument};
+use access_parts::writes::ApplyAcl;
+use call_parts::changes::{
+    AddToFolder, AppendContent, DeleteContent, MoveObject, RemoveFromFolder, SetContent,
+    UpdateProperties,
+};
+use call_parts::versions::{CancelCheckOut, CheckIn, CheckOut, CreateDocument, Delete};
 use call_parts::writes::CreateFolder;
 
 /// A call that changes the repository.
@@ -9,4 +14,14 @@ pub enum Write {
     CreateDocument(CreateDocument),
     CheckOut(CheckOut),
     CheckIn(CheckIn),
+    SetContent(SetContent),
+    AppendContent(AppendContent),
+    DeleteContent(DeleteContent),
+    Move(MoveObject),
+    AddToFolder(AddToFolder),
+    RemoveFromFolder(RemoveFromFolder),
+    Delete(Delete),
+    CancelCheckOut(CancelCheckOut),
+    Update(UpdateProperties),
+    ApplyAcl(ApplyAcl),
 }

@@ -29,7 +29,15 @@ reply_has_number (replies.Type reply) step = refl
 reply_has_number (replies.Types reply) step = refl
 reply_has_number (replies.TypeTree reply) step = refl
 reply_has_number (replies.Info reply) step = refl
+reply_has_number (replies.Objects reply) step = refl
+reply_has_number (replies.Parents reply) step = refl
+reply_has_number (replies.Acl reply) step = refl
+reply_has_number (replies.Query reply) step = refl
+reply_has_number (replies.Tree reply) step = refl
+reply_has_number (replies.Page reply) step = refl
+reply_has_number (replies.Changes reply) step = refl
 reply_has_number (replies.Content reply) step = refl
+reply_has_number replies.Nothing step = refl
 
 abbrev told : Repository × Reply → Judged (Repository × Shown)
 told made = Ok (made.0, shown_reply made.1 made.0.step)

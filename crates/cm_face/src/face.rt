@@ -34,7 +34,7 @@ fn shown_step(
     ensures { Tells (shown_step state.now entry.now) result }
 {
     let (made, reply) = advance(alloc, state, entry)?;
-    match text_of(alloc, &reply, made.step()) {
+    match text_of(alloc, reply, made.step()) {
         Ok(shown) => Ok((made, shown)),
         Err(_) => Err(Halt::Memory),
     }
@@ -78,7 +78,7 @@ fn sent_stream(
     ensures { Meets (λ s. s) result (sent_stream state.now user.now place.now asked.now) }
 {
     let reply = stream(alloc, state, user, place, asked)?;
-    let shown = text_of(alloc, &Reply::Content(reply), state.step())?;
+    let shown = text_of(alloc, Reply::Content(reply), state.step())?;
     Ok(shown)
 }
 
@@ -123,7 +123,7 @@ fn sent_reply(alloc: Global, state: &State, user: &Text, question: &Question) ->
     ensures { Meets (λ s. s) result (shown_answer state.now user.now question.now) }
 {
     let reply = read(alloc, state, user, question)?;
-    let shown = text_of(alloc, &reply, state.step())?;
+    let shown = text_of(alloc, reply, state.step())?;
     Ok(shown)
 }
 

@@ -25,6 +25,25 @@ use Rattle.rd_object.specs.ReadObject.{answer_addressed, answer_object, answer_p
 use Rattle.rd_nav.specs.ReadChildren.{answer_children}
 use Rattle.rd_types.specs.ReadInfo.{answer_info}
 use Rattle.rd_types.specs.ReadTypes.{answer_type_definition, answer_type_children, answer_type_descendants}
+use Rattle.wr_content.specs.SetContent.{cost_set_content, refusal_set_content, after_set_content, acknowledgement_set_content}
+use Rattle.wr_content.specs.AppendContent.{cost_append_content, refusal_append_content, after_append_content, acknowledgement_append_content}
+use Rattle.wr_content.specs.DeleteContent.{cost_delete_content, refusal_delete_content, after_delete_content, acknowledgement_delete_content}
+use Rattle.rd_lists.specs.ReadVersions.{answer_versions}
+use Rattle.rd_lists.specs.ReadParent.{answer_parent}
+use Rattle.rd_lists.specs.ReadParents.{answer_parents}
+use Rattle.wr_filing.specs.MoveObject.{cost_move, refusal_move, after_move, acknowledgement_move}
+use Rattle.wr_filing.specs.AddToFolder.{cost_add_to_folder, refusal_add_to_folder, after_add_to_folder, acknowledgement_add_to_folder}
+use Rattle.wr_filing.specs.RemoveFromFolder.{cost_remove_from_folder, refusal_remove_from_folder, after_remove_from_folder, acknowledgement_remove_from_folder}
+use Rattle.rd_access.specs.ReadPolicies.{answer_policies}
+use Rattle.rd_access.specs.ReadAcl.{answer_acl}
+use Rattle.rd_query.specs.ReadQuery.{answer_query}
+use Rattle.wr_remove.specs.Delete.{cost_delete, refusal_delete, after_delete}
+use Rattle.wr_remove.specs.CancelCheckOut.{cost_cancel, refusal_cancel, after_cancel}
+use Rattle.wr_change.specs.Update.{cost_update, refusal_update, after_update, acknowledgement_update}
+use Rattle.wr_access.specs.ApplyAcl.{cost_apply_acl, refusal_apply_acl, after_apply_acl, acknowledgement_apply_acl}
+use Rattle.rd_trees.specs.ReadTree.{answer_tree}
+use Rattle.rd_trees.specs.ReadCheckedOut.{answer_checked_out}
+use Rattle.rd_log.specs.ReadChanges.{answer_changes}
 
 -- what the user's write costs
 abbrev pub cost_of : Repository → List ℕ → Write → ℕ
@@ -32,6 +51,16 @@ cost_of r u (writes.CreateFolder call) = cost_create_folder r call
 cost_of r u (writes.CreateDocument call) = cost_create_document r call
 cost_of r u (writes.CheckOut call) = cost_check_out r u call
 cost_of r u (writes.CheckIn call) = cost_check_in call
+cost_of r u (writes.SetContent call) = cost_set_content call
+cost_of r u (writes.AppendContent call) = cost_append_content call
+cost_of r u (writes.DeleteContent call) = cost_delete_content call
+cost_of r u (writes.Move call) = cost_move call
+cost_of r u (writes.AddToFolder call) = cost_add_to_folder call
+cost_of r u (writes.RemoveFromFolder call) = cost_remove_from_folder call
+cost_of r u (writes.Delete call) = cost_delete call
+cost_of r u (writes.CancelCheckOut call) = cost_cancel call
+cost_of r u (writes.Update call) = cost_update call
+cost_of r u (writes.ApplyAcl call) = cost_apply_acl call
 
 -- the first cause that refuses the user's write at the moment, or none
 abbrev pub refusal_of : Repository → List ℕ → Moment → Write → Judged (Unit {0})
@@ -39,6 +68,16 @@ refusal_of r u m (writes.CreateFolder call) = refusal_create_folder r u m (cost_
 refusal_of r u m (writes.CreateDocument call) = refusal_create_document r u (cost_create_document r call) call
 refusal_of r u m (writes.CheckOut call) = refusal_check_out r u (cost_check_out r u call) call
 refusal_of r u m (writes.CheckIn call) = refusal_check_in r u (cost_check_in call) call
+refusal_of r u m (writes.SetContent call) = refusal_set_content r u (cost_set_content call) call
+refusal_of r u m (writes.AppendContent call) = refusal_append_content r u (cost_append_content call) call
+refusal_of r u m (writes.DeleteContent call) = refusal_delete_content r u (cost_delete_content call) call
+refusal_of r u m (writes.Move call) = refusal_move r u (cost_move call) call
+refusal_of r u m (writes.AddToFolder call) = refusal_add_to_folder r u (cost_add_to_folder call) call
+refusal_of r u m (writes.RemoveFromFolder call) = refusal_remove_from_folder r u (cost_remove_from_folder call) call
+refusal_of r u m (writes.Delete call) = refusal_delete r u (cost_delete call) call
+refusal_of r u m (writes.CancelCheckOut call) = refusal_cancel r u (cost_cancel call) call
+refusal_of r u m (writes.Update call) = refusal_update r u (cost_update call) call
+refusal_of r u m (writes.ApplyAcl call) = refusal_apply_acl r u (cost_apply_acl call) call
 
 -- the repository after the write, where it is not refused
 abbrev pub after : Repository → List ℕ → Moment → Write → Repository
@@ -46,6 +85,16 @@ after r u m (writes.CreateFolder call) = after_create_folder r u m (cost_create_
 after r u m (writes.CreateDocument call) = after_create_document r u m (cost_create_document r call) call
 after r u m (writes.CheckOut call) = after_check_out r u m (cost_check_out r u call) call
 after r u m (writes.CheckIn call) = after_check_in r u m (cost_check_in call) call
+after r u m (writes.SetContent call) = after_set_content r u m (cost_set_content call) call
+after r u m (writes.AppendContent call) = after_append_content r u m (cost_append_content call) call
+after r u m (writes.DeleteContent call) = after_delete_content r u m (cost_delete_content call) call
+after r u m (writes.Move call) = after_move r u m (cost_move call) call
+after r u m (writes.AddToFolder call) = after_add_to_folder r u m (cost_add_to_folder call) call
+after r u m (writes.RemoveFromFolder call) = after_remove_from_folder r u m (cost_remove_from_folder call) call
+after r u m (writes.Delete call) = after_delete r u m (cost_delete call) call
+after r u m (writes.CancelCheckOut call) = after_cancel r u m (cost_cancel call) call
+after r u m (writes.Update call) = after_update r u m (cost_update call) call
+after r u m (writes.ApplyAcl call) = after_apply_acl r u m (cost_apply_acl call) call
 
 -- what the write is answered, where it is not refused
 abbrev pub acknowledgement : Repository → List ℕ → Moment → Write → Reply
@@ -53,6 +102,16 @@ acknowledgement r u m (writes.CreateFolder call) = replies.Object (acknowledgeme
 acknowledgement r u m (writes.CreateDocument call) = replies.Object (acknowledgement_create_document r u m (cost_create_document r call) call)
 acknowledgement r u m (writes.CheckOut call) = replies.Object (acknowledgement_check_out r u m (cost_check_out r u call) call)
 acknowledgement r u m (writes.CheckIn call) = replies.Object (acknowledgement_check_in r u m (cost_check_in call) call)
+acknowledgement r u m (writes.SetContent call) = replies.Object (acknowledgement_set_content r u m (cost_set_content call) call)
+acknowledgement r u m (writes.AppendContent call) = replies.Object (acknowledgement_append_content r u m (cost_append_content call) call)
+acknowledgement r u m (writes.DeleteContent call) = replies.Object (acknowledgement_delete_content r u m (cost_delete_content call) call)
+acknowledgement r u m (writes.Move call) = replies.Object (acknowledgement_move r u m (cost_move call) call)
+acknowledgement r u m (writes.AddToFolder call) = replies.Object (acknowledgement_add_to_folder r u m (cost_add_to_folder call) call)
+acknowledgement r u m (writes.RemoveFromFolder call) = replies.Object (acknowledgement_remove_from_folder r u m (cost_remove_from_folder call) call)
+acknowledgement r u m (writes.Delete call) = replies.Nothing
+acknowledgement r u m (writes.CancelCheckOut call) = replies.Nothing
+acknowledgement r u m (writes.Update call) = replies.Object (acknowledgement_update r u m (cost_update call) call)
+acknowledgement r u m (writes.ApplyAcl call) = replies.Acl (acknowledgement_apply_acl r u m (cost_apply_acl call) call)
 
 -- a reading without a selector is answered by the kind of what is addressed (CMIS 1.1, section 5.4.2.3)
 abbrev pub default_of : Repository → List ℕ → ReadDefault → Object → Judged Reply
@@ -75,6 +134,15 @@ answer_of r u (questions.TypeDefinition q) = answer_type_definition r u q >>= λ
 answer_of r u (questions.TypeChildren q) = answer_type_children r u q >>= λ reply. Ok (replies.Types reply)
 answer_of r u (questions.TypeDescendants q) = answer_type_descendants r u q >>= λ reply. Ok (replies.TypeTree reply)
 answer_of r u (questions.Info q) = answer_info r u q >>= λ reply. Ok (replies.Info reply)
+answer_of r u (questions.Versions q) = answer_versions r u q >>= λ reply. Ok (replies.Objects reply)
+answer_of r u (questions.Parent q) = answer_parent r u q >>= λ reply. Ok (replies.Object reply)
+answer_of r u (questions.Parents q) = answer_parents r u q >>= λ reply. Ok (replies.Parents reply)
+answer_of r u (questions.Policies q) = answer_policies r u q >>= λ reply. Ok (replies.Objects reply)
+answer_of r u (questions.Acl q) = answer_acl r u q >>= λ reply. Ok (replies.Acl reply)
+answer_of r u (questions.Query q) = answer_query r u q >>= λ reply. Ok (replies.Query reply)
+answer_of r u (questions.Tree q) = answer_tree r u q >>= λ reply. Ok (replies.Tree reply)
+answer_of r u (questions.CheckedOut q) = answer_checked_out r u q >>= λ reply. Ok (replies.Page reply)
+answer_of r u (questions.Changes q) = answer_changes r u q >>= λ reply. Ok (replies.Changes reply)
 
 -- the step of an entry: the cause that refuses it, or the repository after it and its answer
 abbrev pub step_of : Repository → Entry Write → Result (Repository × Reply) Cause

@@ -18,16 +18,35 @@ use cm_show::address::addressed;
 use cm_state::state::State;
 use cm_types::definition::BaseType;
 use desk_model::{Entry, Halt};
+use rd_access::acl::acl;
+use rd_access::policies::policies;
+use rd_lists::parent::parent;
+use rd_lists::parents::parents;
+use rd_lists::versions::versions;
+use rd_log::changes::changes;
 use rd_nav::children::children;
 use rd_object::object::{object, properties, shown};
+use rd_query::query::query;
+use rd_trees::checked_out::checked_out;
+use rd_trees::tree::tree;
 use rd_types::children::type_children;
 use rd_types::definition::type_definition;
 use rd_types::descendants::type_descendants;
 use rd_types::info::info;
 use rd_version::content::{content, stream};
 use std::alloc::Global;
+use wr_access::apply_acl::apply_acl;
+use wr_change::update::update;
+use wr_content::append_content::append_content;
+use wr_content::delete_content::delete_content;
+use wr_content::set_content::set_content;
+use wr_filing::add_to_folder::add_to_folder;
+use wr_filing::move_object::move_object;
+use wr_filing::remove_from_folder::remove_from_folder;
 use wr_object::create_document::create_document;
 use wr_object::create_folder::create_folder;
+use wr_remove::cancel_check_out::cancel_check_out;
+use wr_remove::delete::delete;
 use wr_version::check_in::check_in;
 use wr_version::check_out::check_out;
 
@@ -59,6 +78,46 @@ fn write(
         Write::CheckIn(call) => {
             let (next, reply) = check_in(alloc, state, user, moment, call)?;
             Ok((next, Reply::Object(reply)))
+        }
+        Write::SetContent(call) => {
+            let (next, reply) = set_content(alloc, state, user, moment, call)?;
+            Ok((next, Reply::Object(reply)))
+        }
+        Write::AppendContent(call) => {
+            let (next, reply) = append_content(alloc, state, user, moment, call)?;
+            Ok((next, Reply::Object(reply)))
+        }
+        Write::DeleteContent(call) => {
+            let (next, reply) = delete_content(alloc, state, user, moment, call)?;
+            Ok((next, Reply::Object(reply)))
+        }
+        Write::Move(call) => {
+            let (next, reply) = move_object(alloc, state, user, moment, call)?;
+            Ok((next, Reply::Object(reply)))
+        }
+        Write::AddToFolder(call) => {
+            let (next, reply) = add_to_folder(alloc, state, user, moment, call)?;
+            Ok((next, Reply::Object(reply)))
+        }
+        Write::RemoveFromFolder(call) => {
+            let (next, reply) = remove_from_folder(alloc, state, user, moment, call)?;
+            Ok((next, Reply::Object(reply)))
+        }
+        Write::Delete(call) => {
+            let next = delete(alloc, state, user, moment, call)?;
+            Ok((next, Reply::Nothing))
+        }
+        Write::CancelCheckOut(call) => {
+            let next = cancel_check_out(alloc, state, user, moment, call)?;
+            Ok((next, Reply::Nothing))
+        }
+        Write::Update(call) => {
+            let (next, reply) = update(alloc, state, user, moment, call)?;
+            Ok((next, Reply::Object(reply)))
+        }
+        Write::ApplyAcl(call) => {
+            let (next, reply) = apply_acl(alloc, state, user, moment, call)?;
+            Ok((next, Reply::Acl(reply)))
         }
     }
 }
@@ -159,6 +218,42 @@ pub fn read(alloc: Global, state: &State, user: &Text, question: &Question) -> R
         Question::Info(q) => {
             let reply = info(alloc, state, user, q)?;
             Ok(Reply::Info(reply))
+        }
+        Question::Versions(q) => {
+            let reply = versions(alloc, state, user, q)?;
+            Ok(Reply::Objects(reply))
+        }
+        Question::Parent(q) => {
+            let reply = parent(alloc, state, user, q)?;
+            Ok(Reply::Object(reply))
+        }
+        Question::Parents(q) => {
+            let reply = parents(alloc, state, user, q)?;
+            Ok(Reply::Parents(reply))
+        }
+        Question::Policies(q) => {
+            let reply = policies(alloc, state, user, q)?;
+            Ok(Reply::Objects(reply))
+        }
+        Question::Acl(q) => {
+            let reply = acl(alloc, state, user, q)?;
+            Ok(Reply::Acl(reply))
+        }
+        Question::Query(q) => {
+            let reply = query(alloc, state, user, q)?;
+            Ok(Reply::Query(reply))
+        }
+        Question::Tree(q) => {
+            let reply = tree(alloc, state, user, q)?;
+            Ok(Reply::Tree(reply))
+        }
+        Question::CheckedOut(q) => {
+            let reply = checked_out(alloc, state, user, q)?;
+            Ok(Reply::Page(reply))
+        }
+        Question::Changes(q) => {
+            let reply = changes(alloc, state, user, q)?;
+            Ok(Reply::Changes(reply))
         }
         Question::Default(q) => default(alloc, state, user, q),
     }

@@ -7,8 +7,13 @@ ghost use Rattle.cmis_spec.specs.Seen.{OfSeen};
 ghost use Rattle.cmis_spec.specs.Well.{IsWellFormed};
 ghost use Rattle.cm_repo.specs.Calls.{answer_default, answer_of};
 
+use rd_access::law::{acl_of_seen, policies_of_seen};
+use rd_lists::law::{parent_of_seen, parents_of_seen, versions_of_seen};
+use rd_log::law::changes_of_seen;
 use rd_nav::law::children_of_seen;
 use rd_object::law::{object_of_seen, properties_of_seen};
+use rd_query::law::query_of_seen;
+use rd_trees::law::{checked_out_of_seen, tree_of_seen};
 use rd_types::law::{
     info_of_seen, type_children_of_seen, type_definition_of_seen, type_descendants_of_seen,
 };
@@ -37,5 +42,14 @@ pub fn answer_of_seen()
     type_children_of_seen();
     type_descendants_of_seen();
     info_of_seen();
+    versions_of_seen();
+    parent_of_seen();
+    parents_of_seen();
+    policies_of_seen();
+    acl_of_seen();
+    query_of_seen();
+    tree_of_seen();
+    checked_out_of_seen();
+    changes_of_seen();
     default_of_seen();
 }

@@ -13,7 +13,10 @@ pub struct Lent<'a, I, O> {
 impl<'a, I: Source, O: Sink> Source for Lent<'a, I, O> {
     ghost told = { λ l. I.told l.input.now };
 
-    ghost aside = { λ l. record { sink = O.told l.output.now; stands_for = l.input.ghost_name ∷ l.output.ghost_name ∷ [] } };
+    ghost aside = { λ l. record {
+      sink = O.told l.output.now;
+      stands_for = l.input.ghost_name ∷ l.output.ghost_name ∷ [];
+    } };
 
     ghost end_is_empty = { λ l. I.end_is_empty l.input.now };
 
@@ -25,7 +28,10 @@ impl<'a, I: Source, O: Sink> Source for Lent<'a, I, O> {
 impl<'a, I: Source, O: Sink> Sink for Lent<'a, I, O> {
     ghost told = { λ l. O.told l.output.now };
 
-    ghost aside = { λ l. record { source = I.told l.input.now; stands_for = l.input.ghost_name ∷ l.output.ghost_name ∷ [] } };
+    ghost aside = { λ l. record {
+      source = I.told l.input.now;
+      stands_for = l.input.ghost_name ∷ l.output.ghost_name ∷ [];
+    } };
 
     fn write(&mut self, piece: &[u8]) -> Result<usize, Failed> {
         self.output.write(piece)

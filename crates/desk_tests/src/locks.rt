@@ -3,9 +3,8 @@ ghost use Rattle.std.specs.Prelude.{◌≡◌};
 ghost use Rattle.desk_tests.specs.Slow.{count_step};
 ghost use Rattle.desk_lock.specs.Words.{IsOf};
 
-use desk_lock::lock::Lock;
-use desk_lock::pass::Pass;
 use cm_base::text::Text;
+use desk_lock::{Lock, Pass};
 use desk_model::{Entry, Halt, Machine, Version};
 use outside::FixedClock;
 use std::alloc::{AllocError, Global};

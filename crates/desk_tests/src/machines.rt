@@ -22,7 +22,9 @@ impl Machine for Sums {
 
     ghost use Rattle.std.specs.Prelude.{Ok, Err, ◌+◌, ◌==◌, nat_lt, if◌then◌else◌};
 
-    ghost next = { λ s e. if nat_lt e.call 100 then (if nat_lt (s + e.call) 100 then Ok (s + e.call, s + e.call) else Err s) else Err 100 };
+    ghost next = { λ s e. if nat_lt e.call 100
+        then (if nat_lt (s + e.call) 100 then Ok (s + e.call, s + e.call) else Err s)
+        else Err 100 };
 
     ghost answer = { λ s u q. if s == q then Ok s else Err q };
 

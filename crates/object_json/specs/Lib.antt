@@ -1,2 +1,4 @@
+pub mod Access
+pub mod Lists
 pub mod Objects
 pub mod Pages

@@ -11,8 +11,9 @@ use json_text::values::value_json;
 use std::alloc::{AllocError, Global};
 use type_keys::word::Worded;
 
+/// A property with what its definition says of it.
 #[tactic(auto, unfolding(crate::specs::Objects::property_data))]
-fn property_json(alloc: Global, property: &ShownProperty) -> Result<Json, AllocError>
+pub fn property_json(alloc: Global, property: &ShownProperty) -> Result<Json, AllocError>
     ensures { IfOk result (λ j. data_of j ≡ property_data property.now) }
 {
     let mut fields = Fields::new(alloc);

@@ -1,6 +1,6 @@
 //! A printed form is printed as it is.
-use ql_laws::{printed_again, says_one_thing};
 use cm_base::text::Text;
+use ql_laws::{printed_again, says_one_thing};
 use ql_parse::parse::parse;
 use ql_tree::print::print;
 use std::alloc::{AllocError, Global};

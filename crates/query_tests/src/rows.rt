@@ -1,8 +1,8 @@
 //! Worked rows of the grammar: places, words and printed forms, counted by hand.
-use ql_parse::parse::parse;
 use cm_base::cause::Cause;
 use cm_base::fail::Fail as Refusal;
 use cm_base::text::Text;
+use ql_parse::parse::parse;
 use ql_tree::print::print;
 use ql_tree::tree::{Cond, Literal, Query};
 use std::alloc::{AllocError, Global};

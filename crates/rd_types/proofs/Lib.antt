@@ -1,3 +1,3 @@
 mod Marks
 mod Pages
-mod Visible
+pub mod Visible

@@ -16,7 +16,7 @@ if_more : {A : Type 0} (b : Bool) (x : A) (xs ys zs : List A) → xs ≡ ys ++ z
 if_more true x xs ys zs h = ap (λ all. x ∷ all) h
 if_more false x xs ys zs h = h
 
-seen_more : (r : Repository) (u : List ℕ) (n : ℕ) (cs : List Change) (c : Change) → seen_events r u n (cs ++ c ∷ []) ≡ seen_events r u n cs ++ seen_events r u (n + length cs) (c ∷ [])
+pub seen_more : (r : Repository) (u : List ℕ) (n : ℕ) (cs : List Change) (c : Change) → seen_events r u n (cs ++ c ∷ []) ≡ seen_events r u n cs ++ seen_events r u (n + length cs) (c ∷ [])
 seen_more r u n [] c = let e : n ≡ n + 0 = omega arith in ap (λ k. seen_events r u k (c ∷ [])) e
 seen_more r u n (d ∷ cs) c =
     let e : n + 1 + length cs ≡ n + length (d ∷ cs) = omega arith in
@@ -28,7 +28,7 @@ at_end : {A : Type 0} (xs : List A) (x : A) → slice_get (xs ++ x ∷ []) (leng
 at_end [] x = refl
 at_end (y ∷ ys) x = at_end ys x
 
-last_more : {A : Type 0} (xs : List A) (x : A) → last_of (xs ++ x ∷ []) ≡ Some x
+pub last_more : {A : Type 0} (xs : List A) (x : A) → last_of (xs ++ x ∷ []) ≡ Some x
 last_more xs x =
     let e : length (xs ++ x ∷ []) - 1 ≡ length xs = omega (arith, length-append xs (x ∷ [])) in
     ap (slice_get (xs ++ x ∷ [])) e ∙ at_end xs x

@@ -1,101 +1,23 @@
 //! The last event that a caller sees.
-ghost use Rattle.std.specs.Prelude.{◌≡◌, ◌+◌, ◌<◌, ◌≤◌, length, map, if◌then◌else◌, IfOk, OnOk};
+ghost use Rattle.std.specs.Prelude.{◌≡◌, ◌+◌, ◌<◌, ◌≤◌, length, if◌then◌else◌, IfOk};
 ghost use Rattle.std.specs.Ordering.{nat_cmp};
 ghost use Rattle.std.specs.Bool.{OnTrue};
 ghost use Rattle.std.specs.BTreeMap.{get};
-ghost use Rattle.cm_base.specs.declared.number.Oid.{Oid};
-ghost use Rattle.cmis_spec.specs.Seen.{is_deletion, is_deletion_of, is_visible, marked, place_among};
-ghost use Rattle.rd_types.specs.Latest.{KeepsMarks, first_of, latest_in, told_mark};
+ghost use Rattle.cmis_spec.specs.Seen.{place_among};
+ghost use Rattle.rd_types.specs.Latest.{KeepsMarks, latest_in};
 
-use cm_base::log::{Change, ChangeKind, Marks};
-use cm_base::number::Oid;
+use crate::events::{is_visible, marks_of, place_among};
 use cm_base::text::Text;
-use cm_lists::sequence::Sequence;
 use cm_see::read::reads;
 use cm_state::state::State;
 use std::alloc::{AllocError, Global};
 use std::collections::BTreeMap;
 
-fn place_among(names: &[Text], user: &Text) -> usize
-    ensures place { result ≡ place_among names.now user.now }
-    ensures few { result ≤ length names.now }
-{
-    match names {
-        [] => 0,
-        [name, rest @ ..] => {
-            if name.is(user) {
-                0
-            } else {
-                place_among(rest, user) + 1
-            }
-        }
-    }
-}
-
-fn is_deletion(kind: ChangeKind) -> bool
-    ensures { result ≡ is_deletion kind }
-{
-    match kind {
-        ChangeKind::Deleted => true,
-        _ => false,
-    }
-}
-
-fn marked(marks: &Marks, place: usize) -> bool
-    ensures { result ≡ marked marks.now place }
-{
-    if place < marks.len() {
-        marks.as_slice()[place]
-    } else {
-        false
-    }
-}
-
-// Keeps of a deletion the caller's mark, where it is the first of its object.
-fn keep(marks: &mut BTreeMap<u64, bool>, place: usize, event: &Change) -> Result<(), AllocError>
-    ensures { OnOk result ((n : Oid) → get nat_cmp marks.new n.0 ≡ first_of (get nat_cmp marks.old n.0) (told_mark place event.now n)) }
-{
-    if !is_deletion(event.kind) {
-        return Ok(());
-    }
-    if marks.contains_key(&event.object.0) {
-        return Ok(());
-    }
-    marks.insert(event.object.0, marked(&event.readers, place))?;
-    Ok(())
-}
-
-fn marks_of(
-    alloc: Global,
-    log: &Sequence<Change>,
-    place: usize,
-) -> Result<BTreeMap<u64, bool>, AllocError>
-    ensures { IfOk result (λ marks. KeepsMarks (get nat_cmp marks) place log.now) }
-{
-    let mut marks = BTreeMap::new(alloc);
-    for entry in log.iter() {
-        keep(&mut marks, place, &entry.1)?;
-    }
-    Ok(marks)
-}
-
-fn is_visible(state: &State, user: &Text, marks: &BTreeMap<u64, bool>, event: &Change) -> bool
-    requires marks { KeepsMarks (get nat_cmp marks.now) (place_among state.now.users user.now) state.now.log }
-    ensures { result ≡ is_visible state.now user.now event.now }
-{
-    match state.object(event.object) {
-        Some(x) => reads(state, user, x),
-        None => match marks.get(&event.object.0) {
-            Some(mark) => *mark,
-            None => false,
-        },
-    }
-}
-
 fn is_visible_at(state: &State, user: &Text, marks: &BTreeMap<u64, bool>, place: u64) -> bool
     requires marks { KeepsMarks (get nat_cmp marks.now) (place_among state.now.users user.now) state.now.log }
     requires within { place < length state.now.log }
-    ensures { latest_in state.now user.now (place + 1) ≡ (if result then place + 1 else latest_in state.now user.now place) }
+    ensures { latest_in state.now user.now (place + 1)
+        ≡ (if result then place + 1 else latest_in state.now user.now place) }
 {
     match state.log().get(place) {
         Some(event) => is_visible(state, user, marks, event),

@@ -6,6 +6,7 @@ ghost use Rattle.std.specs.Prelude.{◌≡◌};
 pub mod children;
 pub mod definition;
 pub mod descendants;
+pub mod events;
 pub mod info;
 mod latest;
 pub mod law;

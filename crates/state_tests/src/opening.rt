@@ -1,11 +1,11 @@
 //! The state of a repository that has just begun.
 ghost use Rattle.std.specs.Prelude.{◌≡◌, ◌<◌};
 
-use cm_opening::open::open;
 use cm_base::number::{Moment, Oid};
 use cm_base::object::Object;
 use cm_base::steps::Steps;
 use cm_base::users::read_users;
+use cm_opening::open::open;
 use cm_state::state::State;
 use cm_types::definition::BaseType;
 use std::alloc::Global;

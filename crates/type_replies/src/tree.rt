@@ -14,12 +14,13 @@ use type_show::show::type_value;
 
 /// A tree, and the level of its top.
 #[derive(Drop)]
-pub(crate) struct Tree {
-    level: u64,
-    json: Json,
+pub struct Tree {
+    pub level: u64,
+    pub json: Json,
 }
 
-fn front_is_deeper(trees: &VecDeque<Tree>, level: u64) -> bool
+/// Whether a tree stands in front that is deeper than the level.
+pub fn front_is_deeper(trees: &VecDeque<Tree>, level: u64) -> bool
     ensures { result ≡ front_is_deeper level (standing trees.now.items) }
 {
     match trees.front() {
@@ -56,8 +57,8 @@ fn next_deeper(trees: &mut VecDeque<Tree>, level: u64) -> Option<Json>
     }
 }
 
-// Takes the trees in front that stand deeper than the level.
-fn take_deeper(
+/// Takes the trees in front that stand deeper than the level.
+pub fn take_deeper(
     alloc: Global,
     trees: &mut VecDeque<Tree>,
     level: u64,
@@ -89,7 +90,8 @@ fn node_json(
     Ok(Json::object(fields))
 }
 
-fn put_front(trees: &mut VecDeque<Tree>, level: u64, json: Json) -> Result<(), AllocError>
+/// Puts a tree in front.
+pub fn put_front(trees: &mut VecDeque<Tree>, level: u64, json: Json) -> Result<(), AllocError>
     ensures { OnOk result (standing trees.new.items ≡ (level, data_of json) ∷ standing trees.old.items) }
 {
     trees.push_front(Tree { level, json })?;
@@ -130,7 +132,8 @@ fn trees_of(
     Ok(trees)
 }
 
-fn elements_of(alloc: Global, trees: VecDeque<Tree>) -> Result<Elements, AllocError>
+/// The trees, without their levels.
+pub fn elements_of(alloc: Global, trees: VecDeque<Tree>) -> Result<Elements, AllocError>
     ensures { IfOk result (λ e. listed e ≡ map (λ t. t.1) (standing trees.items)) }
 {
     let mut trees = trees;

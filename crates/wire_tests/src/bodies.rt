@@ -37,7 +37,7 @@ fn is_sent(shown: &Shown, status: u16, body: &str) -> bool {
 
 #[test]
 fn folder_is_made(rt: HostRuntime) -> Result<(), AllocError> {
-    let shown = text_of(rt.alloc(), &folder(rt.alloc())?, 1)?;
+    let shown = text_of(rt.alloc(), folder(rt.alloc())?, 1)?;
     assert!(rt;
         is_sent(
             &shown,
@@ -76,7 +76,7 @@ fn children_are_listed(rt: HostRuntime) -> Result<(), AllocError> {
         has_more_items: true,
         num_items: 2,
     });
-    let shown = text_of(alloc, &reply, 4)?;
+    let shown = text_of(alloc, reply, 4)?;
     assert!(rt;
         is_sent(
             &shown,

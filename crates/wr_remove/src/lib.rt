@@ -1,4 +1,8 @@
-//! Deletions and cancelled check-outs: their definitions, and the laws that each keeps what is well formed; no code yet.
+//! Writes that take objects away: deletions and cancelled check-outs.
 #![tactic(auto)]
 
 ghost use Rattle.std.specs.Prelude.{◌≡◌};
+
+pub mod cancel_check_out;
+pub mod delete;
+mod without;

@@ -24,7 +24,7 @@ use wr_rules::copied::name_of;
 use wr_rules::properties::{is_given, name_in, secondary_in};
 
 /// The name that is given, else the one that the object has.
-pub(crate) fn name_after(
+pub fn name_after(
     alloc: Global,
     state: &State,
     x: &Object,
@@ -40,11 +40,7 @@ pub(crate) fn name_after(
 }
 
 /// The secondary types that are given, else those that the object has.
-pub(crate) fn secondary_after(
-    alloc: Global,
-    x: &Object,
-    given: &[Given],
-) -> Result<Texts, AllocError>
+pub fn secondary_after(alloc: Global, x: &Object, given: &[Given]) -> Result<Texts, AllocError>
     ensures { IfOk result (λ ts. ts ≡ secondary_after x.now given.now) }
 {
     if is_given(given, "cmis:secondaryObjectTypeIds") {
@@ -126,7 +122,7 @@ fn with_kind(alloc: Global, x: &Object) -> Result<Vec<Slot>, AllocError>
 }
 
 /// The values that a form may give, with those that are kept apart.
-pub(crate) fn form_slots(alloc: Global, state: &State, x: &Object) -> Result<Values, AllocError>
+pub fn form_slots(alloc: Global, state: &State, x: &Object) -> Result<Values, AllocError>
     ensures { IfOk result (λ v. v ≡ form_slots state.now x.now) }
 {
     let slots = with_kind(alloc, x)?;
@@ -154,7 +150,7 @@ fn commented(
 }
 
 /// The values that are kept with the object, with the comment of the check-in.
-pub(crate) fn kept_with_comment(
+pub fn kept_with_comment(
     alloc: Global,
     values: Values,
     comment: &Option<Text>,
@@ -179,7 +175,7 @@ fn is_taken_among(state: &State, folders: &Map<u64, Oid>, n: Oid, name: &Text) -
 }
 
 /// Whether another child has the name in one of the folders in which the entry is filed.
-pub(crate) fn is_taken_anywhere(state: &State, n: Oid, name: &Text) -> bool
+pub fn is_taken_anywhere(state: &State, n: Oid, name: &Text) -> bool
     ensures { result ≡ is_taken_anywhere state.now n name.now }
 {
     match state.folders(n) {

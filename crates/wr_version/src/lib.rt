@@ -3,7 +3,7 @@
 
 ghost use Rattle.std.specs.Prelude.{◌≡◌};
 
-mod after;
+pub mod after;
 pub mod check_in;
 pub mod check_out;
 mod copying;

@@ -1,0 +1,6 @@
+//! The arguments of a query.
+#![tactic(auto)]
+
+ghost use Rattle.std.specs.Prelude.{◌≡◌};
+
+pub mod query;

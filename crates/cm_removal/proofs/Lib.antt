@@ -1,0 +1,7 @@
+mod Filters
+mod Ones
+mod Tied
+mod Lefts
+mod Leaving
+mod Renditions
+mod Whole

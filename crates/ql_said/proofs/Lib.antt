@@ -1,0 +1,4 @@
+mod Totals
+mod Outcomes
+mod Lexed
+pub mod Sayings

@@ -1,0 +1,52 @@
+//! One row as JSON.
+ghost use Rattle.std.specs.Prelude.{◌≡◌, IfOk};
+ghost use Rattle.json_text.specs.Shown.{data_of};
+ghost use Rattle.object_json.specs.Objects.{values_data};
+ghost use Rattle.query_replies.specs.Rows.{cells_data, row_data};
+
+use cm_base::value::Slot;
+use json_text::tree::{Fields, Json};
+use json_text::values::value_json;
+use object_json::objects::{alone, property_json};
+use query_parts::replies::{ShownCell, ShownRow};
+use std::alloc::{AllocError, Global};
+
+fn cells_json(alloc: Global, cells: &[ShownCell]) -> Result<Json, AllocError>
+    ensures { IfOk result (λ j. data_of j ≡ cells_data cells.now) }
+{
+    let mut fields = Fields::new(alloc);
+    for cell in cells {
+        fields.put(
+            alloc,
+            cell.key.as_str(),
+            property_json(alloc, &cell.property)?,
+        )?;
+    }
+    Ok(Json::object(fields))
+}
+
+fn values_json(alloc: Global, slots: &[Slot]) -> Result<Json, AllocError>
+    ensures { IfOk result (λ j. data_of j ≡ values_data slots.now) }
+{
+    let mut fields = Fields::new(alloc);
+    for slot in slots {
+        fields.put(alloc, slot.id.as_str(), value_json(alloc, &slot.value)?)?;
+    }
+    Ok(Json::object(fields))
+}
+
+/// A row: its columns in full or in succinct form.
+pub(crate) fn row_json(alloc: Global, row: &ShownRow) -> Result<Json, AllocError>
+    ensures { IfOk result (λ j. data_of j ≡ row_data row.now) }
+{
+    match row {
+        ShownRow::Full(cells) => {
+            let json = cells_json(alloc, cells.as_slice())?;
+            alone(alloc, "properties", json)
+        }
+        ShownRow::Succinct(slots) => {
+            let json = values_json(alloc, slots.as_slice())?;
+            alone(alloc, "succinctProperties", json)
+        }
+    }
+}

@@ -1,0 +1,3 @@
+pub mod Grouped
+pub mod ReadAcl
+pub mod ReadPolicies

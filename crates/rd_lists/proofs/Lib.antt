@@ -1,0 +1,4 @@
+pub mod Among
+mod Filing
+pub mod Rising
+mod Seen

@@ -1,0 +1,4 @@
+pub mod Listed
+pub mod ReadParent
+pub mod ReadParents
+pub mod ReadVersions

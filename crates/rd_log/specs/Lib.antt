@@ -1,0 +1,2 @@
+pub mod EventsIn
+pub mod ReadChanges

@@ -1,0 +1,4 @@
+mod Above
+mod Alike
+mod Found
+mod Pages

@@ -1,0 +1,153 @@
+//! What the reply to a query shows: the columns of each row of the page.
+ghost use Rattle.std.specs.Prelude.{◌≡◌, bytes_eq, find, map, IfOk};
+ghost use Rattle.std.specs.Option.{option_copied};
+ghost use Rattle.map_keys.specs.Parts.{pointee};
+ghost use Rattle.cm_types.specs.Properties.{value_in};
+ghost use Rattle.rd_query.specs.ReadQuery.{cell_of, query_reply, shown_row, slot_of};
+
+use call_parts::replies::ShownProperty;
+use cm_base::copies::Copies;
+use cm_base::items::Items;
+use cm_base::text::Text;
+use cm_base::value::{Slot, Value, Values};
+use ql_bind::bound::ShownColumn;
+use ql_eval::row::Row;
+use query_parts::readings::ReadQuery;
+use query_parts::replies::{QueryReply, ShownCell, ShownCells, ShownRow, ShownRows};
+use rd_nav::page::{has_more, page};
+use std::alloc::{AllocError, Global};
+
+fn find_slot<'a>(row: &'a Row, id: &Text) -> Option<&'a Slot>
+    ensures { option_copied result ≡ find (λ s. bytes_eq s.id id.now) row.now.values }
+{
+    row.values.as_slice().iter().find(|s| s.id.is(id))
+}
+
+fn value(alloc: Global, row: &Row, id: &Text) -> Result<Value, AllocError>
+    ensures { IfOk result (λ v. v ≡ value_in row.now.values id.now) }
+{
+    match find_slot(row, id) {
+        Some(slot) => slot.value.copied(alloc),
+        None => Ok(Value::Unset),
+    }
+}
+
+fn slot(alloc: Global, row: &Row, column: &ShownColumn) -> Result<Slot, AllocError>
+    ensures { IfOk result (λ s. s ≡ slot_of row.now column.now) }
+{
+    let value = value(alloc, row, &column.property.id)?;
+    let id = column.key.copied(alloc)?;
+    Ok(Slot { id, value })
+}
+
+fn slots(alloc: Global, row: &Row, columns: &[ShownColumn]) -> Result<Values, AllocError>
+    ensures { IfOk result (λ all. all ≡ map (slot_of row.now) columns.now) }
+{
+    let mut all = Items::new(alloc);
+    for column in columns {
+        all.push(slot(alloc, row, column)?)?;
+    }
+    Ok(all)
+}
+
+fn cell(alloc: Global, row: &Row, column: &ShownColumn) -> Result<ShownCell, AllocError>
+    ensures { IfOk result (λ c. c ≡ cell_of row.now column.now) }
+{
+    let def = &column.property;
+    let value = value(alloc, row, &def.id)?;
+    let property = ShownProperty {
+        id: def.id.copied(alloc)?,
+        local_name: def.local_name.copied(alloc)?,
+        display_name: def.display_name.copied(alloc)?,
+        query_name: def.query_name.copied(alloc)?,
+        kind: def.kind,
+        cardinality: def.cardinality,
+        value,
+    };
+    let key = column.key.copied(alloc)?;
+    Ok(ShownCell { key, property })
+}
+
+fn cells(alloc: Global, row: &Row, columns: &[ShownColumn]) -> Result<ShownCells, AllocError>
+    ensures { IfOk result (λ all. all ≡ map (cell_of row.now) columns.now) }
+{
+    let mut all = Items::new(alloc);
+    for column in columns {
+        all.push(cell(alloc, row, column)?)?;
+    }
+    Ok(all)
+}
+
+fn shown_row(
+    alloc: Global,
+    succinct: bool,
+    columns: &[ShownColumn],
+    row: &Row,
+) -> Result<ShownRow, AllocError>
+    ensures { IfOk result (λ s. s ≡ shown_row succinct columns.now row.now) }
+{
+    if succinct {
+        let slots = slots(alloc, row, columns)?;
+        Ok(ShownRow::Succinct(slots))
+    } else {
+        let cells = cells(alloc, row, columns)?;
+        Ok(ShownRow::Full(cells))
+    }
+}
+
+fn shown_rows(
+    alloc: Global,
+    succinct: bool,
+    columns: &[ShownColumn],
+    rows: &[&Row],
+) -> Result<ShownRows, AllocError>
+    ensures { IfOk result (λ all. all ≡ map (shown_row succinct columns.now) (map pointee rows.now)) }
+{
+    let mut all = Items::new(alloc);
+    for row in rows {
+        all.push(shown_row(alloc, succinct, columns, row)?)?;
+    }
+    Ok(all)
+}
+
+// The rows where they stand.
+fn rows_of<'a>(alloc: Global, rows: &'a [Row]) -> Result<Vec<&'a Row>, AllocError>
+    ensures { IfOk result (λ all. map pointee all.items ≡ rows.now) }
+{
+    let mut all = Vec::new(alloc);
+    for row in rows {
+        all.push(row)?;
+    }
+    Ok(all)
+}
+
+fn page_reply(
+    alloc: Global,
+    q: &ReadQuery,
+    columns: &[ShownColumn],
+    rows: &[&Row],
+) -> Result<QueryReply, AllocError>
+    ensures { IfOk result (λ reply. reply ≡ query_reply q.now columns.now (map pointee rows.now)) }
+{
+    let shown = page(q.skip_count, q.max_items, rows);
+    let all = shown_rows(alloc, q.succinct, columns, shown)?;
+    Ok(QueryReply {
+        rows: all,
+        has_more_items: has_more(q.skip_count, q.max_items, rows),
+        num_items: rows.len() as u64,
+    })
+}
+
+/// The reply: the columns of each row of the page; what is outside the page is counted and not shown.
+pub(crate) fn query_reply(
+    alloc: Global,
+    q: &ReadQuery,
+    columns: &[ShownColumn],
+    rows: &[Row],
+) -> Result<QueryReply, AllocError>
+    ensures { IfOk result (λ reply. reply ≡ query_reply q.now columns.now rows.now) }
+{
+    let all = rows_of(alloc, rows)?;
+    let reply = page_reply(alloc, q, columns, &all)?;
+    Ok(reply)
+}

@@ -1,0 +1,3 @@
+pub mod ReadCheckedOut
+pub mod ReadTree
+pub mod Walks

@@ -1,0 +1,65 @@
+-- What stands below a folder, as a tree: all children that the caller reads, or folders alone (CMIS 1.1, sections 2.2.3.2 and 2.2.3.3).
+use Rattle.std.specs.Prelude.{ℕ, zero, suc, ◌+◌, min, Bool, ◌||◌, not, List, [], ◌∷◌, length, map, filter, Ok}
+use Rattle.std.specs.List.{flat_map}
+use Rattle.cm_base.specs.declared.number.Oid.{Oid}
+use Rattle.cm_base.specs.declared.object.Object.{Object}
+use Rattle.cm_base.specs.declared.cause.Cause.TheVariants as causes
+use Rattle.cm_base.specs.Judged.{Judged, ◌>>=◌, ◌>>◌, find_or, refuse}
+use Rattle.cm_types.specs.declared.definition.BaseType.TheVariants as bases
+use Rattle.type_parts.specs.declared.readings.Depth.{Depth}
+use Rattle.type_parts.specs.declared.readings.Depth.TheVariants as depths
+use Rattle.tree_parts.specs.declared.readings.ReadTree.{ReadTree}
+use Rattle.tree_parts.specs.declared.replies.TreeRow.{TreeRow}
+use Rattle.tree_parts.specs.declared.replies.TreeReply.{TreeReply}
+use Rattle.cm_show.specs.Addressed.{addressed}
+use Rattle.cm_show.specs.Shown.{shown_object}
+use Rattle.cmis_spec.specs.Repository.{Repository, is_a, levels_up}
+use Rattle.cmis_spec.specs.Access.{children_of}
+use Rattle.rd_lists.specs.Listed.{is_too_long}
+use Rattle.rd_lists.specs.ReadParents.{segment_of}
+
+-- an object, and how many of the tree stand above it
+abbrev pub Placed : Type 0
+Placed = ℕ × Object
+
+-- everything, or folders alone
+abbrev pub is_in_tree : Repository → Bool → Object → Bool
+is_in_tree r folders_only x = not folders_only || is_a r bases.Folder x
+
+-- what stands right below a folder, in the order of the numbers
+abbrev pub right_below : Repository → List ℕ → Bool → Oid → List Object
+right_below r u folders_only f = filter (is_in_tree r folders_only) (children_of r u f)
+
+-- objects of one level, each with the tree below it behind it, n levels in all; below what is no folder there is nothing
+abbrev pub placed : ℕ → Repository → List ℕ → Bool → ℕ → List Object → List Placed
+placed zero r u folders_only level tops = []
+placed (suc n) r u folders_only level tops = flat_map (λ x. (level, x) ∷ placed n r u folders_only (level + 1) (right_below r u folders_only x.id)) tops
+
+-- no folder stands deeper than 48 levels below the root, so these are all levels
+abbrev pub tree_levels : Depth → ℕ
+tree_levels depths.All = levels_up
+tree_levels (depths.Levels n) = min n levels_up
+
+-- all that stands below a folder, so many levels deep
+abbrev pub all_below : Repository → List ℕ → ReadTree → Oid → List Placed
+all_below r u q f = placed (tree_levels q.depth) r u q.folders_only 0 (right_below r u q.folders_only f)
+
+-- an object of the tree as the caller sees it, with its name in the folder where that is asked for
+abbrev pub shown_row : Repository → List ℕ → ReadTree → Placed → TreeRow
+shown_row r u q t = record { level = t.0; object = shown_object r u q.filter q.succinct t.1; segment = segment_of r q.segments t.1 }
+
+-- an object that stands in several folders of the tree counts in each
+abbrev pub tree_reply : Repository → List ℕ → ReadTree → List Placed → Judged TreeReply
+tree_reply r u q ts = do
+  refuse (causes.TooMany (length ts)) (is_too_long (length ts))
+  Ok (record { rows = map (shown_row r u q) ts })
+
+abbrev pub answer_tree_of : Repository → List ℕ → ReadTree → Object → Judged TreeReply
+answer_tree_of r u q x = do
+  refuse causes.WrongKind (not (is_a r bases.Folder x))
+  tree_reply r u q (all_below r u q x.id)
+
+abbrev pub answer_tree : Repository → List ℕ → ReadTree → Judged TreeReply
+answer_tree r u q = do
+  x ← find_or causes.NotFound (addressed r u q.place)
+  answer_tree_of r u q x

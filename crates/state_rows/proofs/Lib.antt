@@ -1,0 +1,5 @@
+mod Walks
+mod RisingLists
+mod Sets
+mod FiledIn
+pub mod Parents

@@ -1,0 +1,5 @@
+mod Ends
+mod KeptUpdated
+mod Put
+mod Renamed
+mod Updating

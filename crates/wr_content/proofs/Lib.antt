@@ -1,0 +1,6 @@
+mod Allowed
+mod AppendContent
+mod Changed
+mod DeleteContent
+mod SetContent
+mod Wholes

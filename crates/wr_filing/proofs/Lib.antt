@@ -1,0 +1,9 @@
+mod Adding
+mod Deep
+mod Entry
+mod Folders
+mod Moving
+mod Outs
+mod Removing
+mod Shifted
+mod Unfiled

@@ -1,0 +1,4 @@
+pub mod AddToFolder
+pub mod Filing
+pub mod MoveObject
+pub mod RemoveFromFolder

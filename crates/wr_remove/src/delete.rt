@@ -1,0 +1,161 @@
+//! deleteObject (CMIS 1.1, section 2.2.4.16).
+ghost use Rattle.std.specs.Prelude.{◌≡◌, [], ◌∷◌, IfOk, unwrap_or, option_map};
+ghost use Rattle.std.specs.List.{list_any};
+ghost use Rattle.cm_base.specs.Judged.{Leaves};
+ghost use Rattle.cmis_spec.specs.Repository.{same, series_of};
+ghost use Rattle.cmis_spec.specs.Well.{IsWellFormed, members};
+ghost use Rattle.cm_show.specs.Addressed.{addressed};
+ghost use Rattle.wr_rules.specs.Found.{Finds};
+ghost use Rattle.wr_remove.specs.Delete.{cost_delete, is_held, is_filled, is_applied, judge_removal, refusal_delete, doomed, after_delete};
+
+use crate::without::{members, only, without};
+use call_parts::versions::Delete;
+use call_parts::weight::weight_of_delete;
+use cm_base::access::Level;
+use cm_base::cause::Cause;
+use cm_base::fail::Fail;
+use cm_base::number::{Moment, Oid, Oids};
+use cm_base::object::Object;
+use cm_base::text::Text;
+use cm_see::level::lacks;
+use cm_show::address::addressed;
+use cm_state::open::ROOT;
+use cm_state::state::State;
+use cm_types::definition::BaseType;
+use std::alloc::{AllocError, Global};
+use wr_rules::storage::judge_storage;
+use wr_rules::versions::{is_checked_out, is_working_copy};
+
+// Whether the series of the document is checked out, and the document is not its working copy.
+fn is_held(state: &State, x: &Object) -> bool
+    ensures { result ≡ is_held state.now x.now }
+{
+    is_checked_out(state, x) && !is_working_copy(state, x)
+}
+
+fn has_entries(state: &State, n: Oid) -> bool
+    ensures { result ≡ list_any (λ p. same p.folder n) state.now.filed }
+{
+    match state.parts().entries(n) {
+        Some(entries) => entries.len() > 0,
+        None => false,
+    }
+}
+
+// Whether something is filed in the folder.
+fn is_filled(state: &State, x: &Object) -> bool
+    ensures { result ≡ is_filled state.now x.now }
+{
+    state.is_a(BaseType::Folder, x) && has_entries(state, x.id)
+}
+
+// Whether the policy is applied to an object.
+fn is_applied(state: &State, x: &Object) -> bool
+    ensures { result ≡ is_applied state.now x.now }
+{
+    let mut any = false;
+    for pair in state.applied().iter() {
+        any = any || pair.1.policy == x.id;
+    }
+    any
+}
+
+// Whether the object may go.
+fn judge_removal(state: &State, x: &Object) -> Result<(), Cause>
+    ensures { result ≡ judge_removal state.now x.now }
+{
+    if x.id == ROOT {
+        return Err(Cause::RootFixed);
+    }
+    if is_held(state, x) {
+        return Err(Cause::CheckedOut);
+    }
+    if is_filled(state, x) {
+        return Err(Cause::NotEmpty);
+    }
+    if is_applied(state, x) {
+        return Err(Cause::PolicyInUse);
+    }
+    Ok(())
+}
+
+// The object that is addressed, or the cause of the refusal.
+#[tactic(auto, using(cm_types::proofs::Exits::fails_then, cm_types::proofs::Exits::fails_bind))]
+fn judge<'a>(state: &'a State, user: &Text, cost: u64, call: &Delete) -> Result<&'a Object, Cause>
+    ensures { Finds (λ x. x.now) result
+        (refusal_delete state.now user.now cost call.now)
+        (addressed state.now user.now call.now.place) }
+{
+    judge_storage(state, cost)?;
+    let x = match addressed(state, user, &call.place) {
+        Some(x) => x,
+        None => return Err(Cause::NotFound),
+    };
+    if lacks(state, user, Level::All, x) {
+        return Err(Cause::Denied);
+    }
+    judge_removal(state, x)?;
+    Ok(x)
+}
+
+// The documents of the series of x, or x alone where it is in none.
+fn series_members(alloc: Global, state: &State, x: &Object) -> Result<Oids, AllocError>
+    ensures { IfOk result (λ all. all ≡ unwrap_or (option_map members (series_of state.now x.now)) (x.now.id ∷ [])) }
+{
+    match state.series_of(x) {
+        Some(series) => members(alloc, series),
+        None => only(alloc, x.id),
+    }
+}
+
+// What the call deletes.
+fn doomed(alloc: Global, state: &State, call: &Delete, x: &Object) -> Result<Oids, AllocError>
+    ensures { IfOk result (λ all. all ≡ doomed state.now call.now x.now) }
+{
+    if call.all_versions && !is_working_copy(state, x) {
+        series_members(alloc, state, x)
+    } else {
+        only(alloc, x.id)
+    }
+}
+
+// The state without them, at this cost, or the first cause that refuses the call.
+fn removed(
+    alloc: Global,
+    state: &State,
+    user: &Text,
+    moment: Moment,
+    cost: u64,
+    call: &Delete,
+) -> Result<State, Fail>
+    ensures { Leaves result
+        (refusal_delete state.now user.now cost call.now)
+        (after_delete state.now user.now moment cost call.now) }
+{
+    let _well = state.step();
+    let x = judge(state, user, cost, call)?;
+    let numbers = doomed(alloc, state, call, x)?;
+    let made = without(alloc, state, moment, cost, numbers.as_slice())?;
+    Ok(made)
+}
+
+/// Deletes an object: a document with its whole series where the call says so, or anything else alone. The cost is the weight of the call.
+///
+/// The answer is the first cause that refuses the call, or the repository without what is deleted, and without the relationships that end there.
+pub fn delete(
+    alloc: Global,
+    state: &State,
+    user: &Text,
+    moment: Moment,
+    call: &Delete,
+) -> Result<State, Fail>
+    ensures written { Leaves result
+        (refusal_delete state.now user.now (cost_delete call.now) call.now)
+        (after_delete state.now user.now moment (cost_delete call.now) call.now) }
+    ensures well { IfOk result (λ s. IsWellFormed s) }
+{
+    let cost = weight_of_delete(call);
+    let made = removed(alloc, state, user, moment, cost, call)?;
+    let _well = made.step();
+    Ok(made)
+}
