@@ -3,33 +3,44 @@ ghost use Rattle.std.specs.Prelude.{◌≡◌, [], codes, Some, IfOk};
 ghost use Rattle.json_text.specs.Shown.{data_of};
 ghost use Rattle.serde_json.specs.Written.{compact_text};
 ghost use Rattle.object_json.specs.Objects.{shown_data};
-ghost use Rattle.object_json.specs.Pages.{children_data};
+ghost use Rattle.include_json.specs.Pages.{reply_data as included_data, children_data};
 ghost use Rattle.type_replies.specs.Infos.{infos_data};
 ghost use Rattle.type_replies.specs.Types.{definition_data, types_data, type_tree_data};
-ghost use Rattle.bind_json.specs.Replies.{status_of, shown_json, shown_reply};
+ghost use Rattle.bind_json.specs.Replies.{status_of, shown_json, shown_left, shown_nothing, shown_reply};
 ghost use Rattle.object_json.specs.Lists.{objects_data, parents_data};
 ghost use Rattle.object_json.specs.Access.{acl_data};
 ghost use Rattle.query_replies.specs.Rows.{query_data};
 ghost use Rattle.tree_replies.specs.Trees.{tree_data, page_data};
 ghost use Rattle.log_replies.specs.Changes.{changes_data};
+ghost use Rattle.delete_tree_replies.specs.Left.{left_data};
+ghost use Rattle.bulk_replies.specs.Updated.{updated_objects_data};
+ghost use Rattle.rendition_replies.specs.Renditions.{reply_data};
+ghost use Rattle.action_replies.specs.Actions.{actions_data};
 
+use action_parts::replies::ActionsReply;
+use action_replies::actions::actions_json;
+use bulk_parts::replies::UpdatedObjects;
+use bulk_replies::updated::updated_objects_json;
 use bytes::Bytes;
-use call_parts::replies::{
-    AclReply, ChildrenReply, ContentReply, ObjectsReply, ParentsReply, ShownObject,
-};
+use call_parts::replies::{AclReply, ContentReply, ObjectsReply, ParentsReply, ShownObject};
 use cm_base::media::MediaType;
 use cm_base::shown::Shown;
 use cm_base::text::Text;
 use cm_call::reply::Reply;
+use delete_tree_parts::replies::DeleteTreeReply;
+use delete_tree_replies::left::left_json;
+use include_json::pages::{children_json, reply_json as included_json};
+use include_parts::replies::{IncludedChildrenReply, IncludedReply};
 use json_text::tree::Json;
 use log_parts::replies::ChangesReply;
 use log_replies::changes::changes_json;
 use object_json::access::acl_json;
 use object_json::lists::{objects_json, parents_json};
 use object_json::objects::object_json;
-use object_json::pages::children_json;
 use query_parts::replies::QueryReply;
 use query_replies::rows::query_json;
+use rendition_parts::replies::RenditionsReply;
+use rendition_replies::renditions::reply_json;
 use std::alloc::{AllocError, Global};
 use tree_parts::replies::{PageReply, TreeReply};
 use tree_replies::page::page_json;
@@ -61,7 +72,14 @@ fn object_text(alloc: Global, object: &ShownObject) -> Result<Bytes, AllocError>
     text_of_json(alloc, &json)
 }
 
-fn children_text(alloc: Global, reply: &ChildrenReply) -> Result<Bytes, AllocError>
+fn included_text(alloc: Global, reply: &IncludedReply) -> Result<Bytes, AllocError>
+    ensures { IfOk result (λ b. b ≡ compact_text (included_data reply.now)) }
+{
+    let json = included_json(alloc, reply)?;
+    text_of_json(alloc, &json)
+}
+
+fn children_text(alloc: Global, reply: &IncludedChildrenReply) -> Result<Bytes, AllocError>
     ensures { IfOk result (λ b. b ≡ compact_text (children_data reply.now)) }
 {
     let json = children_json(alloc, reply)?;
@@ -145,6 +163,34 @@ fn changes_text(alloc: Global, reply: &ChangesReply) -> Result<Bytes, AllocError
     text_of_json(alloc, &json)
 }
 
+fn left_text(alloc: Global, reply: &DeleteTreeReply) -> Result<Bytes, AllocError>
+    ensures { IfOk result (λ b. b ≡ compact_text (left_data reply.now)) }
+{
+    let json = left_json(alloc, reply)?;
+    text_of_json(alloc, &json)
+}
+
+fn updated_text(alloc: Global, reply: &UpdatedObjects) -> Result<Bytes, AllocError>
+    ensures { IfOk result (λ b. b ≡ compact_text (updated_objects_data reply.now)) }
+{
+    let json = updated_objects_json(alloc, reply)?;
+    text_of_json(alloc, &json)
+}
+
+fn renditions_text(alloc: Global, reply: &RenditionsReply) -> Result<Bytes, AllocError>
+    ensures { IfOk result (λ b. b ≡ compact_text (reply_data reply.now)) }
+{
+    let json = reply_json(alloc, reply)?;
+    text_of_json(alloc, &json)
+}
+
+fn actions_text(alloc: Global, reply: &ActionsReply) -> Result<Bytes, AllocError>
+    ensures { IfOk result (λ b. b ≡ compact_text (actions_data reply.now)) }
+{
+    let json = actions_json(alloc, reply)?;
+    text_of_json(alloc, &json)
+}
+
 fn shown_as(status: u16, kind: MediaType, body: Bytes, number: u64) -> Shown
     ensures { result ≡ record { status = status; kind = kind; body = body; number = Some number } }
 {
@@ -182,12 +228,23 @@ fn shown_content(reply: ContentReply, number: u64) -> Shown
 
 // What is sent of a removal, which takes no memory.
 fn shown_nothing(alloc: Global, number: u64) -> Shown
-    ensures { result ≡ record { status = 200; kind = []; body = []; number = Some number } }
+    ensures { result ≡ shown_nothing number }
 {
     match MediaType::from_text(Text::empty(alloc)) {
         Some(kind) => shown_as(200, kind, Bytes::new(), number),
         None => unreachable!(),
     }
+}
+
+// What is sent of the removal of a tree: the ids that are left, if there are any.
+fn shown_left(alloc: Global, reply: &DeleteTreeReply, number: u64) -> Result<Shown, AllocError>
+    ensures { IfOk result (λ s. s ≡ shown_left reply.now number) }
+{
+    if reply.ids.as_slice().is_empty() {
+        return Ok(shown_nothing(alloc, number));
+    }
+    let text = left_text(alloc, reply)?;
+    shown_json(alloc, 200, text, number)
 }
 
 /// What is sent of a reply that is made at this step: JSON, compact and with the names of each object in byte order, with the
@@ -199,6 +256,10 @@ pub fn text_of(alloc: Global, reply: Reply, number: u64) -> Result<Shown, AllocE
         Reply::Object(reply) => {
             let text = object_text(alloc, &reply.object)?;
             shown_json(alloc, status_of(reply.created), text, number)
+        }
+        Reply::Included(reply) => {
+            let text = included_text(alloc, &reply)?;
+            shown_json(alloc, 200, text, number)
         }
         Reply::Type(reply) => {
             let text = definition_text(alloc, &reply)?;
@@ -246,6 +307,19 @@ pub fn text_of(alloc: Global, reply: Reply, number: u64) -> Result<Shown, AllocE
         }
         Reply::Changes(reply) => {
             let text = changes_text(alloc, &reply)?;
+            shown_json(alloc, 200, text, number)
+        }
+        Reply::DeleteTree(reply) => shown_left(alloc, &reply, number),
+        Reply::Updated(reply) => {
+            let text = updated_text(alloc, &reply)?;
+            shown_json(alloc, 200, text, number)
+        }
+        Reply::Renditions(reply) => {
+            let text = renditions_text(alloc, &reply)?;
+            shown_json(alloc, 200, text, number)
+        }
+        Reply::Actions(reply) => {
+            let text = actions_text(alloc, &reply)?;
             shown_json(alloc, 200, text, number)
         }
         Reply::Content(reply) => Ok(shown_content(reply, number)),

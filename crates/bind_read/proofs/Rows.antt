@@ -14,6 +14,10 @@ use Rattle.call_parts.specs.declared.place.Place.TheVariants as places
 use Rattle.cm_call.specs.declared.write.Write.TheVariants as writes
 use Rattle.cm_call.specs.declared.question.Question.TheVariants as questions
 use Rattle.call_parts.specs.declared.readings.PropertyFilter.TheVariants as filters
+use Rattle.rendition_parts.specs.declared.filter.RenditionFilter.TheVariants as renditions
+use Rattle.include_parts.specs.declared.readings.IncludeRelationships.TheVariants as relationships
+use Rattle.include_parts.specs.declared.readings.Includes.{Includes}
+use Rattle.include_parts.specs.declared.readings.ReturnVersion.TheVariants as versions
 use Rattle.http_grammar.specs.Request.{Request, FieldParts}
 use Rattle.http_grammar.specs.Fields.{values_named}
 use Rattle.form_args.specs.Properties.{most_properties, most_values}
@@ -24,6 +28,10 @@ use Rattle.bind_read.specs.Calls.{call_of_request}
 
 abbrev urlencoded : List FieldParts
 urlencoded = (codes "Host", codes "x") ∷ (codes "content-TYPE", codes "application/x-www-form-urlencoded ; charset=utf-8") ∷ []
+
+-- nothing is to be shown beside properties
+abbrev nothing_more : Includes
+nothing_more = record { actions = false; relationships = relationships.Nothing; renditions = renditions.None; policy_ids = false; acl = false }
 
 -- a form that is posted to this target
 abbrev posted : List ℕ → List ℕ → Request
@@ -46,7 +54,11 @@ unfolding split is_utf8 chars percent_decode encode raw_pairs utf8_lossy utf8_va
 row_create_folder = refl
 
 row_object : call_of_request (got (codes "/cmis/main/root/a%20b?cmisselector=object&filter=cmis:name&filter=*&objectId=2") [])
-    ≡ Ok (asks.Question (questions.Object (record { place = places.Id (codes "2"); filter = filters.QueryNames (codes "cmis:name" ∷ []); succinct = false })))
+    ≡ Ok (asks.Question (questions.Object (record {
+      object = record { place = places.Id (codes "2"); filter = filters.QueryNames (codes "cmis:name" ∷ []); succinct = false };
+      version = versions.This;
+      includes = nothing_more;
+    })))
 unfolding split is_utf8 chars percent_decode encode raw_pairs utf8_lossy utf8_valid_len values_named
 row_object = refl
 
@@ -73,7 +85,11 @@ row_check_in = refl
 
 -- the absolute form; empty segments are skipped, and each segment is decoded
 row_children : call_of_request (got (codes "HTTP://host/%63mis//main/root/a%20b/?cmisselector=children&succinct=true&maxItems=2") ((codes "cmis-step", codes "7") ∷ []))
-    ≡ Ok (asks.Question (questions.Children (record { place = places.Path (codes "a b" ∷ []); filter = filters.All; max_items = 2; skip_count = 0; succinct = true })))
+    ≡ Ok (asks.Question (questions.Children (record {
+      children = record { place = places.Path (codes "a b" ∷ []); filter = filters.All; max_items = 2; skip_count = 0; succinct = true };
+      segments = false;
+      includes = nothing_more;
+    })))
 unfolding split is_utf8 chars percent_decode encode raw_pairs utf8_lossy utf8_valid_len values_named
 row_children = refl
 
@@ -134,7 +150,11 @@ row_selector = refl
 
 row_no_selector : call_of_request (got (codes "/cmis/main/root/a?streamId=3&maxItems=2") [])
     ≡ Ok (asks.Question (questions.Default (record {
-      children = record { place = places.Path (codes "a" ∷ []); filter = filters.All; max_items = 2; skip_count = 0; succinct = false };
+      children = record {
+        children = record { place = places.Path (codes "a" ∷ []); filter = filters.All; max_items = 2; skip_count = 0; succinct = false };
+        segments = false;
+        includes = nothing_more;
+      };
       stream = Some (codes "3");
     })))
 unfolding split is_utf8 chars percent_decode encode raw_pairs utf8_lossy utf8_valid_len values_named
@@ -172,12 +192,12 @@ row_principal : call_of_request (posted (codes "/cmis/main/root") (codes "cmisac
 unfolding split is_utf8 chars percent_decode encode raw_pairs utf8_lossy utf8_valid_len values_named most_properties most_values digits
 row_principal = refl
 
-row_unserved : call_of_request (got (codes "/cmis/main/root?cmisselector=object&includeACL=false") []) ≡ Err (causes.NotServed (codes "form"))
+row_unserved : call_of_request (got (codes "/cmis/main/root?cmisselector=children&orderBy=cmis:name") []) ≡ Err (causes.NotServed (codes "form"))
 unfolding split is_utf8 chars percent_decode encode raw_pairs utf8_lossy utf8_valid_len values_named
 row_unserved = refl
 
 -- properties has no such argument, and what a call does not know is ignored
 row_unknown : call_of_request (got (codes "/cmis/main/root?cmisselector=properties&includeACL=false&depth=x") [])
-    ≡ Ok (asks.Question (questions.Properties (record { place = places.Path []; filter = filters.All; succinct = false })))
+    ≡ Ok (asks.Question (questions.Properties (record { properties = record { place = places.Path []; filter = filters.All; succinct = false }; version = versions.This })))
 unfolding split is_utf8 chars percent_decode encode raw_pairs utf8_lossy utf8_valid_len values_named
 row_unknown = refl

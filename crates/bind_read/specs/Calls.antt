@@ -16,10 +16,10 @@ use Rattle.bind_parts.specs.Askings.{with_query, host_of}
 use Rattle.bind_read.specs.Forms.{method_of, form_of}
 use Rattle.bind_read.specs.Words.{service_of}
 use Rattle.bind_tree.specs.CreateFolder.{create_folder_of}
-use Rattle.bind_tree.specs.Objects.{object_of, properties_of}
-use Rattle.bind_tree.specs.Children.{children_of}
+use Rattle.bind_include.specs.Objects.{show_object_of, show_properties_of}
+use Rattle.bind_include.specs.Children.{show_children_of, show_default_of}
 use Rattle.bind_document.specs.Writes.{create_document_of, check_out_of, check_in_of, delete_of, cancel_check_out_of}
-use Rattle.bind_document.specs.Readings.{content_of, default_of, versions_of}
+use Rattle.bind_document.specs.Readings.{content_of, versions_of}
 use Rattle.bind_types.specs.Types.{type_definition_of, type_children_of, type_descendants_of, info_of}
 use Rattle.bind_content.specs.Writes.{set_content_of, append_content_of, delete_content_of}
 use Rattle.bind_access.specs.Readings.{parent_of, parents_of, policies_of, acl_of}
@@ -29,6 +29,16 @@ use Rattle.bind_change.specs.Update.{update_of}
 use Rattle.bind_acl.specs.Writes.{apply_acl_of}
 use Rattle.bind_trees.specs.Readings.{descendants_of, folder_tree_of, checked_out_of}
 use Rattle.bind_log.specs.Readings.{changes_of}
+use Rattle.bind_type_change.specs.Writes.{create_type_of, update_type_of, delete_type_of}
+use Rattle.bind_create.specs.Writes.{create_item_of, create_policy_of, create_relationship_of}
+use Rattle.bind_source.specs.Writes.{create_document_from_source_of}
+use Rattle.bind_delete_tree.specs.Writes.{delete_tree_of}
+use Rattle.bind_policy.specs.Writes.{apply_policy_of, remove_policy_of}
+use Rattle.bind_bulk.specs.Writes.{bulk_update_of}
+use Rattle.bind_rendition.specs.Writes.{add_rendition_of}
+use Rattle.bind_rendition.specs.Readings.{renditions_of}
+use Rattle.bind_actions.specs.Readings.{actions_of}
+use Rattle.bind_relationships.specs.Readings.{relationships_of}
 
 -- the arguments of each service
 abbrev pub bound : Service → Asking → Judged Asked
@@ -36,9 +46,9 @@ bound services.CreateFolder asking = create_folder_of asking >>= λ call. Ok (as
 bound services.CreateDocument asking = create_document_of asking >>= λ call. Ok (asks.Write (writes.CreateDocument call))
 bound services.CheckOut asking = check_out_of asking >>= λ call. Ok (asks.Write (writes.CheckOut call))
 bound services.CheckIn asking = check_in_of asking >>= λ call. Ok (asks.Write (writes.CheckIn call))
-bound services.Object asking = object_of asking >>= λ question. Ok (asks.Question (questions.Object question))
-bound services.Properties asking = properties_of asking >>= λ question. Ok (asks.Question (questions.Properties question))
-bound services.Children asking = children_of asking >>= λ question. Ok (asks.Question (questions.Children question))
+bound services.Object asking = show_object_of asking >>= λ question. Ok (asks.Question (questions.Object question))
+bound services.Properties asking = show_properties_of asking >>= λ question. Ok (asks.Question (questions.Properties question))
+bound services.Children asking = show_children_of asking >>= λ question. Ok (asks.Question (questions.Children question))
 bound services.Content asking = content_of asking >>= λ question. Ok (asks.Question (questions.Content question))
 bound services.TypeDefinition asking = type_definition_of asking >>= λ question. Ok (asks.Question (questions.TypeDefinition question))
 bound services.TypeChildren asking = type_children_of asking >>= λ question. Ok (asks.Question (questions.TypeChildren question))
@@ -64,7 +74,22 @@ bound services.Descendants asking = descendants_of asking >>= λ question. Ok (a
 bound services.FolderTree asking = folder_tree_of asking >>= λ question. Ok (asks.Question (questions.Tree question))
 bound services.CheckedOut asking = checked_out_of asking >>= λ question. Ok (asks.Question (questions.CheckedOut question))
 bound services.Changes asking = changes_of asking >>= λ question. Ok (asks.Question (questions.Changes question))
-bound services.Default asking = default_of asking >>= λ question. Ok (asks.Question (questions.Default question))
+bound services.CreateType asking = create_type_of asking >>= λ call. Ok (asks.Write (writes.CreateType call))
+bound services.UpdateType asking = update_type_of asking >>= λ call. Ok (asks.Write (writes.UpdateType call))
+bound services.DeleteType asking = delete_type_of asking >>= λ call. Ok (asks.Write (writes.DeleteType call))
+bound services.CreateItem asking = create_item_of asking >>= λ call. Ok (asks.Write (writes.CreateItem call))
+bound services.CreatePolicy asking = create_policy_of asking >>= λ call. Ok (asks.Write (writes.CreatePolicy call))
+bound services.CreateRelationship asking = create_relationship_of asking >>= λ call. Ok (asks.Write (writes.CreateRelationship call))
+bound services.CreateDocumentFromSource asking = create_document_from_source_of asking >>= λ call. Ok (asks.Write (writes.CreateDocumentFromSource call))
+bound services.DeleteTree asking = delete_tree_of asking >>= λ call. Ok (asks.Write (writes.DeleteTree call))
+bound services.ApplyPolicy asking = apply_policy_of asking >>= λ call. Ok (asks.Write (writes.ApplyPolicy call))
+bound services.RemovePolicy asking = remove_policy_of asking >>= λ call. Ok (asks.Write (writes.RemovePolicy call))
+bound services.BulkUpdate asking = bulk_update_of asking >>= λ call. Ok (asks.Write (writes.BulkUpdate call))
+bound services.AddRendition asking = add_rendition_of asking >>= λ call. Ok (asks.Write (writes.AddRendition call))
+bound services.Renditions asking = renditions_of asking >>= λ question. Ok (asks.Question (questions.Renditions question))
+bound services.Actions asking = actions_of asking >>= λ question. Ok (asks.Question (questions.Actions question))
+bound services.Relationships asking = relationships_of asking >>= λ question. Ok (asks.Question (questions.Relationships question))
+bound services.Default asking = show_default_of asking >>= λ question. Ok (asks.Question (questions.Default question))
 
 -- what a request asks, in the order in which its causes come
 abbrev pub call_of_request : Request → Judged Asked

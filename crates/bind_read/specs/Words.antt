@@ -47,6 +47,21 @@ word_of services.Descendants = codes "descendants"
 word_of services.FolderTree = codes "folderTree"
 word_of services.CheckedOut = codes "checkedout"
 word_of services.Changes = codes "contentChanges"
+word_of services.CreateType = codes "createType"
+word_of services.UpdateType = codes "updateType"
+word_of services.DeleteType = codes "deleteType"
+word_of services.CreateItem = codes "createItem"
+word_of services.CreatePolicy = codes "createPolicy"
+word_of services.CreateRelationship = codes "createRelationship"
+word_of services.CreateDocumentFromSource = codes "createDocumentFromSource"
+word_of services.DeleteTree = codes "deleteTree"
+word_of services.ApplyPolicy = codes "applyPolicy"
+word_of services.RemovePolicy = codes "removePolicy"
+word_of services.BulkUpdate = codes "bulkUpdate"
+word_of services.AddRendition = codes "addRendition"
+word_of services.Renditions = codes "renditions"
+word_of services.Actions = codes "allowableActions"
+word_of services.Relationships = codes "relationships"
 word_of services.Default = codes ""
 
 -- an action of a POST; the others are selectors of a GET
@@ -65,6 +80,18 @@ is_action services.Delete = true
 is_action services.CancelCheckOut = true
 is_action services.Update = true
 is_action services.ApplyAcl = true
+is_action services.CreateType = true
+is_action services.UpdateType = true
+is_action services.DeleteType = true
+is_action services.CreateItem = true
+is_action services.CreatePolicy = true
+is_action services.CreateRelationship = true
+is_action services.CreateDocumentFromSource = true
+is_action services.DeleteTree = true
+is_action services.ApplyPolicy = true
+is_action services.RemovePolicy = true
+is_action services.BulkUpdate = true
+is_action services.AddRendition = true
 is_action s = false
 
 -- a query may be sent as a form too, since its text may be long
@@ -84,12 +111,20 @@ is_of_repository services.TypeDescendants = true
 is_of_repository services.Info = true
 is_of_repository services.Changes = true
 is_of_repository services.Query = true
+is_of_repository services.CreateType = true
+is_of_repository services.UpdateType = true
+is_of_repository services.DeleteType = true
+is_of_repository services.BulkUpdate = true
 is_of_repository s = false
 
 -- a document may be made in no folder
 abbrev pub is_at_repository : Service → Bool
 is_at_repository services.CreateDocument = true
 is_at_repository services.CheckedOut = true
+is_at_repository services.CreateItem = true
+is_at_repository services.CreatePolicy = true
+is_at_repository services.CreateRelationship = true
+is_at_repository services.CreateDocumentFromSource = true
 is_at_repository s = is_of_repository s
 
 -- where a service is served under its word
@@ -108,7 +143,11 @@ all_services =
     ∷ services.Parent ∷ services.Parents ∷ services.Move ∷ services.AddToFolder
     ∷ services.RemoveFromFolder ∷ services.Policies ∷ services.Acl ∷ services.Query
     ∷ services.Delete ∷ services.CancelCheckOut ∷ services.Update ∷ services.ApplyAcl
-    ∷ services.Descendants ∷ services.FolderTree ∷ services.CheckedOut ∷ services.Changes ∷ []
+    ∷ services.Descendants ∷ services.FolderTree ∷ services.CheckedOut ∷ services.Changes
+    ∷ services.CreateType ∷ services.UpdateType ∷ services.DeleteType ∷ services.CreateItem
+    ∷ services.CreatePolicy ∷ services.CreateRelationship ∷ services.CreateDocumentFromSource ∷ services.DeleteTree
+    ∷ services.ApplyPolicy ∷ services.RemovePolicy ∷ services.BulkUpdate ∷ services.AddRendition
+    ∷ services.Renditions ∷ services.Actions ∷ services.Relationships ∷ []
 
 -- the word names this service, by this method at this address
 abbrev pub is_named : Method → Target → List ℕ → Service → Bool

@@ -8,20 +8,30 @@ use crate::form::{form_of, method_of};
 use crate::words::{Service, service_of};
 use bind_access::readings::{acl_of, parent_of, parents_of, policies_of};
 use bind_acl::writes::apply_acl_of;
+use bind_actions::readings::actions_of;
+use bind_bulk::writes::bulk_update_of;
 use bind_change::filing::{add_to_folder_of, move_of, remove_from_folder_of};
 use bind_change::update::update_of;
 use bind_content::writes::{append_content_of, delete_content_of, set_content_of};
+use bind_create::writes::{create_item_of, create_policy_of, create_relationship_of};
+use bind_delete_tree::writes::delete_tree_of;
 use bind_document::create_document::create_document_of;
 use bind_document::delete::delete_of;
-use bind_document::readings::{content_of, default_of, versions_of};
+use bind_document::readings::{content_of, versions_of};
 use bind_document::versioning::{cancel_check_out_of, check_in_of, check_out_of};
+use bind_include::children::{show_children_of, show_default_of};
+use bind_include::objects::{show_object_of, show_properties_of};
 use bind_log::readings::changes_of;
 use bind_parts::asking::{Asking, host_of, with_query};
+use bind_policy::writes::{apply_policy_of, remove_policy_of};
 use bind_query::query::query_of as query_asked;
-use bind_tree::children::children_of;
+use bind_relationships::readings::relationships_of;
+use bind_rendition::readings::renditions_of;
+use bind_rendition::writes::add_rendition_of;
+use bind_source::writes::create_document_from_source_of;
 use bind_tree::create_folder::create_folder_of;
-use bind_tree::object::{object_of, properties_of};
 use bind_trees::readings::{checked_out_of, descendants_of, folder_tree_of};
+use bind_type_change::writes::{create_type_of, delete_type_of, update_type_of};
 use bind_types::info::info_of;
 use bind_types::types::{type_children_of, type_definition_of, type_descendants_of};
 use cm_base::fail::Fail;
@@ -53,15 +63,15 @@ fn bound(alloc: Global, service: Service, asking: &Asking) -> Result<Asked, Fail
             Ok(Asked::Write(Write::CheckIn(call)))
         }
         Service::Object => {
-            let question = object_of(alloc, asking)?;
+            let question = show_object_of(alloc, asking)?;
             Ok(Asked::Question(Question::Object(question)))
         }
         Service::Properties => {
-            let question = properties_of(alloc, asking)?;
+            let question = show_properties_of(alloc, asking)?;
             Ok(Asked::Question(Question::Properties(question)))
         }
         Service::Children => {
-            let question = children_of(alloc, asking)?;
+            let question = show_children_of(alloc, asking)?;
             Ok(Asked::Question(Question::Children(question)))
         }
         Service::Content => {
@@ -164,8 +174,68 @@ fn bound(alloc: Global, service: Service, asking: &Asking) -> Result<Asked, Fail
             Ok(question) => Ok(Asked::Question(Question::Changes(question))),
             Err(cause) => Err(Fail::Refused(cause)),
         },
+        Service::CreateType => {
+            let call = create_type_of(alloc, asking)?;
+            Ok(Asked::Write(Write::CreateType(call)))
+        }
+        Service::UpdateType => {
+            let call = update_type_of(alloc, asking)?;
+            Ok(Asked::Write(Write::UpdateType(call)))
+        }
+        Service::DeleteType => {
+            let call = delete_type_of(alloc, asking)?;
+            Ok(Asked::Write(Write::DeleteType(call)))
+        }
+        Service::CreateItem => {
+            let call = create_item_of(alloc, asking)?;
+            Ok(Asked::Write(Write::CreateItem(call)))
+        }
+        Service::CreatePolicy => {
+            let call = create_policy_of(alloc, asking)?;
+            Ok(Asked::Write(Write::CreatePolicy(call)))
+        }
+        Service::CreateRelationship => {
+            let call = create_relationship_of(alloc, asking)?;
+            Ok(Asked::Write(Write::CreateRelationship(call)))
+        }
+        Service::CreateDocumentFromSource => {
+            let call = create_document_from_source_of(alloc, asking)?;
+            Ok(Asked::Write(Write::CreateDocumentFromSource(call)))
+        }
+        Service::DeleteTree => {
+            let call = delete_tree_of(alloc, asking)?;
+            Ok(Asked::Write(Write::DeleteTree(call)))
+        }
+        Service::ApplyPolicy => {
+            let call = apply_policy_of(alloc, asking)?;
+            Ok(Asked::Write(Write::ApplyPolicy(call)))
+        }
+        Service::RemovePolicy => {
+            let call = remove_policy_of(alloc, asking)?;
+            Ok(Asked::Write(Write::RemovePolicy(call)))
+        }
+        Service::BulkUpdate => {
+            let call = bulk_update_of(alloc, asking)?;
+            Ok(Asked::Write(Write::BulkUpdate(call)))
+        }
+        Service::AddRendition => {
+            let call = add_rendition_of(alloc, asking)?;
+            Ok(Asked::Write(Write::AddRendition(call)))
+        }
+        Service::Renditions => {
+            let question = renditions_of(alloc, asking)?;
+            Ok(Asked::Question(Question::Renditions(question)))
+        }
+        Service::Actions => {
+            let question = actions_of(alloc, asking)?;
+            Ok(Asked::Question(Question::Actions(question)))
+        }
+        Service::Relationships => {
+            let question = relationships_of(alloc, asking)?;
+            Ok(Asked::Question(Question::Relationships(question)))
+        }
         Service::Default => {
-            let question = default_of(alloc, asking)?;
+            let question = show_default_of(alloc, asking)?;
             Ok(Asked::Question(Question::Default(question)))
         }
     }

@@ -1,21 +1,24 @@
 //! Questions (CMIS 1.1, section 2.2).
+use action_parts::readings::ReadActions;
 use call_parts::readings::{
-    ReadAcl, ReadChildren, ReadContent, ReadDefault, ReadObject, ReadParent, ReadParents,
-    ReadPolicies, ReadProperties, ReadVersions,
+    ReadAcl, ReadContent, ReadParent, ReadParents, ReadPolicies, ReadVersions,
 };
+use include_parts::readings::{ShowChildren, ShowDefault, ShowObject, ShowProperties};
 use log_parts::readings::ReadChanges;
 use query_parts::readings::ReadQuery;
+use relationship_parts::readings::ReadRelationships;
+use rendition_parts::readings::ReadRenditions;
 use tree_parts::readings::{ReadCheckedOut, ReadTree};
 use type_parts::readings::{ReadInfo, ReadTypeChildren, ReadTypeDefinition, ReadTypeDescendants};
 
 /// A call that changes nothing.
 #[derive(Drop)]
 pub enum Question {
-    Object(ReadObject),
-    Properties(ReadProperties),
-    Children(ReadChildren),
+    Object(ShowObject),
+    Properties(ShowProperties),
+    Children(ShowChildren),
     Content(ReadContent),
-    Default(ReadDefault),
+    Default(ShowDefault),
     TypeDefinition(ReadTypeDefinition),
     TypeChildren(ReadTypeChildren),
     TypeDescendants(ReadTypeDescendants),
@@ -29,4 +32,7 @@ pub enum Question {
     Tree(ReadTree),
     CheckedOut(ReadCheckedOut),
     Changes(ReadChanges),
+    Renditions(ReadRenditions),
+    Actions(ReadActions),
+    Relationships(ReadRelationships),
 }

@@ -1,9 +1,12 @@
 //! Replies: one variant a shape (CMIS 1.1, section 5.2.11).
-use call_parts::replies::{
-    AclReply, ChildrenReply, ContentReply, ObjectReply, ObjectsReply, ParentsReply,
-};
+use action_parts::replies::ActionsReply;
+use bulk_parts::replies::UpdatedObjects;
+use call_parts::replies::{AclReply, ContentReply, ObjectReply, ObjectsReply, ParentsReply};
+use delete_tree_parts::replies::DeleteTreeReply;
+use include_parts::replies::{IncludedChildrenReply, IncludedReply};
 use log_parts::replies::ChangesReply;
 use query_parts::replies::QueryReply;
+use rendition_parts::replies::RenditionsReply;
 use tree_parts::replies::{PageReply, TreeReply};
 use type_parts::replies::{InfoReply, TypeReply, TypeTreeReply, TypesReply};
 
@@ -11,7 +14,9 @@ use type_parts::replies::{InfoReply, TypeReply, TypeTreeReply, TypesReply};
 #[derive(Drop)]
 pub enum Reply {
     Object(ObjectReply),
-    Children(ChildrenReply),
+    /// An object with what is asked for beside its properties.
+    Included(IncludedReply),
+    Children(IncludedChildrenReply),
     Content(ContentReply),
     Type(TypeReply),
     Types(TypesReply),
@@ -26,4 +31,8 @@ pub enum Reply {
     Tree(TreeReply),
     Page(PageReply),
     Changes(ChangesReply),
+    DeleteTree(DeleteTreeReply),
+    Updated(UpdatedObjects),
+    Renditions(RenditionsReply),
+    Actions(ActionsReply),
 }

@@ -1,5 +1,5 @@
 -- What is shown has the number of the repository from which it was made.
-use Rattle.std.specs.Prelude.{◌≡◌, ℕ, false, true, List, Some, Result, Ok, Err}
+use Rattle.std.specs.Prelude.{◌≡◌, ℕ, ◌==◌, Bool, false, true, if◌then◌else◌, List, length, Some, Result, Ok, Err}
 use Rattle.std.proofs.Common.{refl, sym, ap, ◌∙◌}
 use Rattle.std.proofs.lemmas.Bool.{both_ways}
 use Rattle.cm_base.specs.declared.cause.Cause.{Cause}
@@ -9,7 +9,10 @@ use Rattle.cm_call.specs.declared.write.Write.{Write}
 use Rattle.cm_call.specs.declared.question.Question.{Question}
 use Rattle.cm_call.specs.declared.reply.Reply.{Reply}
 use Rattle.cm_call.specs.declared.reply.Reply.TheVariants as replies
-use Rattle.bind_json.specs.Replies.{shown_reply}
+use Rattle.serde_json.specs.Written.{compact_text}
+use Rattle.delete_tree_parts.specs.declared.replies.DeleteTreeReply.{DeleteTreeReply}
+use Rattle.delete_tree_replies.specs.Left.{left_data}
+use Rattle.bind_json.specs.Replies.{shown_json, shown_nothing, shown_reply}
 use Rattle.cmis_spec.specs.Repository.{Repository}
 use Rattle.desk_model.specs.declared.entry.Entry.{Entry}
 use Rattle.cm_repo.specs.Calls.{step_of, answer_of}
@@ -20,6 +23,10 @@ no_cause {A} c x h = both_ways false refl (ap (λ (o : Result A Cause). elim o [
 
 ok_is : {A : Type 0} (x y : A) → ◌≡◌ {A = Result A Cause} (Ok x) (Ok y) → x ≡ y
 ok_is {A} x y h = ap (λ (o : Result A Cause). elim o [ Ok z ↦ z | Err d ↦ x ]) h
+
+left_has_number : (reply : DeleteTreeReply) (step : ℕ) (b : Bool) → (if b then shown_nothing step else shown_json 200 (compact_text (left_data reply)) step).number ≡ Some step
+left_has_number reply step true = refl
+left_has_number reply step false = refl
 
 -- a reply has the number of the step that it was made at
 reply_has_number : (reply : Reply) (step : ℕ) → (shown_reply reply step).number ≡ Some step
@@ -37,6 +44,11 @@ reply_has_number (replies.Tree reply) step = refl
 reply_has_number (replies.Page reply) step = refl
 reply_has_number (replies.Changes reply) step = refl
 reply_has_number (replies.Content reply) step = refl
+reply_has_number (replies.Included reply) step = refl
+reply_has_number (replies.DeleteTree reply) step = left_has_number reply step (length reply.ids == 0)
+reply_has_number (replies.Updated reply) step = refl
+reply_has_number (replies.Renditions reply) step = refl
+reply_has_number (replies.Actions reply) step = refl
 reply_has_number replies.Nothing step = refl
 
 abbrev told : Repository × Reply → Judged (Repository × Shown)

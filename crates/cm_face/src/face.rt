@@ -3,11 +3,10 @@ ghost use Rattle.std.specs.Prelude.{◌≡◌, Result};
 ghost use Rattle.cm_base.specs.Judged.{Meets};
 ghost use Rattle.desk_model.specs.Halts.{Tells};
 ghost use Rattle.cm_face.specs.Faces.{shown_step, shown_answer};
-ghost use Rattle.cm_face.specs.Sent.{sent_children, sent_default, sent_found, sent_object, sent_stream};
+ghost use Rattle.cm_face.specs.Sent.{sent_children, sent_default, sent_found, sent_included, sent_object, sent_stream};
 
 use bind_json::replies::{shown_json, text_of};
 use call_parts::place::Place;
-use call_parts::readings::{PropertyFilter, ReadChildren, ReadDefault};
 use cm_base::cause::Cause;
 use cm_base::fail::Fail;
 use cm_base::object::Object;
@@ -16,14 +15,16 @@ use cm_base::text::Text;
 use cm_call::question::Question;
 use cm_call::reply::Reply;
 use cm_call::write::Write;
+use cm_include::included::View;
 use cm_repo::calls::{advance, read};
 use cm_show::address::addressed;
 use cm_state::state::State;
 use cm_types::definition::BaseType;
 use desk_model::{Entry, Halt, Machine};
+use include_parts::readings::{ShowChildren, ShowDefault, ShowObject};
+use include_text::children::show_children_text;
+use include_text::object::{included_object_text, show_object_text};
 use rd_version::content::stream;
-use show_json::children::children_text;
-use show_json::one::object_text;
 use std::alloc::Global;
 
 fn shown_step(
@@ -40,30 +41,33 @@ fn shown_step(
     }
 }
 
-// What is sent of a page of children, whose text is written from the state.
+// What is sent of a page of children, whose text is written from the state where nothing more is asked for.
 #[tactic(auto, using(crate::proofs::Sent::children_sent, crate::proofs::Sent::children_fail))]
-fn sent_children(alloc: Global, state: &State, user: &Text, q: &ReadChildren) -> Result<Shown, Fail>
+fn sent_children(alloc: Global, state: &State, user: &Text, q: &ShowChildren) -> Result<Shown, Fail>
     ensures { Meets (λ s. s) result (sent_children state.now user.now q.now) }
 {
-    let text = children_text(alloc, state, user, q)?;
+    let text = show_children_text(alloc, state, user, q)?;
     let shown = shown_json(alloc, 200, text, state.step())?;
     Ok(shown)
 }
 
-// What is sent of an object, whose text is written from the state.
+// What is sent of an object, whose text is written from the state where nothing more is asked for.
 #[tactic(auto, using(crate::proofs::Sent::object_sent, crate::proofs::Sent::object_fails))]
-fn sent_object(
-    alloc: Global,
-    state: &State,
-    user: &Text,
-    place: &Place,
-    filter: &PropertyFilter,
-    succinct: bool,
-) -> Result<Shown, Fail>
-    ensures { Meets (λ s. s) result (sent_object state.now user.now place.now filter.now succinct) }
+fn sent_object(alloc: Global, state: &State, user: &Text, q: &ShowObject) -> Result<Shown, Fail>
+    ensures { Meets (λ s. s) result (sent_object state.now user.now q.now) }
 {
-    let text = object_text(alloc, state, user, place, filter, succinct)?;
+    let text = show_object_text(alloc, state, user, q)?;
     let shown = shown_json(alloc, 200, text, state.step())?;
+    Ok(shown)
+}
+
+// What is sent of an object that is read without a selector.
+#[tactic(auto, using(crate::proofs::Sent::object_sent, crate::proofs::Sent::object_fails))]
+fn sent_included(alloc: Global, view: View<'_>, place: &Place) -> Result<Shown, Fail>
+    ensures { Meets (λ s. s) result (sent_included view.entry place.now) }
+{
+    let text = included_object_text(alloc, view, place)?;
+    let shown = shown_json(alloc, 200, text, view.state.step())?;
     Ok(shown)
 }
 
@@ -86,33 +90,33 @@ fn sent_found(
     alloc: Global,
     state: &State,
     user: &Text,
-    q: &ReadDefault,
+    q: &ShowDefault,
     x: &Object,
 ) -> Result<Shown, Fail>
     ensures { Meets (λ s. s) result (sent_found state.now user.now q.now x.now) }
 {
+    let asked = &q.children.children;
     if state.is_a(BaseType::Folder, x) {
         return sent_children(alloc, state, user, &q.children);
     }
     if state.is_a(BaseType::Document, x) {
-        return sent_stream(alloc, state, user, &q.children.place, &q.stream);
+        return sent_stream(alloc, state, user, &asked.place, &q.stream);
     }
-    let asked = &q.children;
-    sent_object(
-        alloc,
+    let view = View {
         state,
         user,
-        &asked.place,
-        &asked.filter,
-        asked.succinct,
-    )
+        filter: &asked.filter,
+        succinct: asked.succinct,
+        includes: &q.children.includes,
+    };
+    sent_included(alloc, view, &asked.place)
 }
 
 // What is sent without a selector, by the kind of what is addressed.
-fn sent_default(alloc: Global, state: &State, user: &Text, q: &ReadDefault) -> Result<Shown, Fail>
+fn sent_default(alloc: Global, state: &State, user: &Text, q: &ShowDefault) -> Result<Shown, Fail>
     ensures { Meets (λ s. s) result (sent_default state.now user.now q.now) }
 {
-    match addressed(state, user, &q.children.place) {
+    match addressed(state, user, &q.children.children.place) {
         Some(x) => sent_found(alloc, state, user, q, x),
         None => Err(Fail::Refused(Cause::NotFound)),
     }
@@ -131,8 +135,7 @@ fn sent(alloc: Global, state: &State, user: &Text, question: &Question) -> Resul
     ensures { Meets (λ s. s) result (shown_answer state.now user.now question.now) }
 {
     match question {
-        Question::Object(q) => sent_object(alloc, state, user, &q.place, &q.filter, q.succinct),
-        Question::Properties(q) => sent_object(alloc, state, user, &q.place, &q.filter, q.succinct),
+        Question::Object(q) => sent_object(alloc, state, user, q),
         Question::Children(q) => sent_children(alloc, state, user, q),
         Question::Default(q) => sent_default(alloc, state, user, q),
         _ => sent_reply(alloc, state, user, question),

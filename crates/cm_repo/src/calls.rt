@@ -5,7 +5,6 @@ ghost use Rattle.cmis_spec.specs.Well.{IsWellFormed};
 ghost use Rattle.desk_model.specs.Halts.{Tells};
 ghost use Rattle.cm_repo.specs.Calls.{refusal_of, after, acknowledgement, answer_default, answer_of, default_of, step_of};
 
-use call_parts::readings::ReadDefault;
 use cm_base::cause::Cause;
 use cm_base::fail::Fail;
 use cm_base::number::Moment;
@@ -14,19 +13,24 @@ use cm_base::text::Text;
 use cm_call::question::Question;
 use cm_call::reply::Reply;
 use cm_call::write::Write;
+use cm_include::included::View;
 use cm_show::address::addressed;
 use cm_state::state::State;
 use cm_types::definition::BaseType;
 use desk_model::{Entry, Halt};
+use include_parts::readings::ShowDefault;
 use rd_access::acl::acl;
 use rd_access::policies::policies;
+use rd_actions::actions::allowable_actions;
+use rd_include::children::show_children;
+use rd_include::object::{included, show_object, show_properties};
 use rd_lists::parent::parent;
 use rd_lists::parents::parents;
 use rd_lists::versions::versions;
 use rd_log::changes::changes;
-use rd_nav::children::children;
-use rd_object::object::{object, properties, shown};
 use rd_query::query::query;
+use rd_relationships::relationships::relationships;
+use rd_renditions::renditions::renditions;
 use rd_trees::checked_out::checked_out;
 use rd_trees::tree::tree;
 use rd_types::children::type_children;
@@ -36,17 +40,29 @@ use rd_types::info::info;
 use rd_version::content::{content, stream};
 use std::alloc::Global;
 use wr_access::apply_acl::apply_acl;
+use wr_bulk::bulk_update::bulk_update;
 use wr_change::update::update;
 use wr_content::append_content::append_content;
 use wr_content::delete_content::delete_content;
 use wr_content::set_content::set_content;
+use wr_create::create_item::create_item;
+use wr_create::create_policy::create_policy;
+use wr_delete_tree::delete_tree::delete_tree;
 use wr_filing::add_to_folder::add_to_folder;
 use wr_filing::move_object::move_object;
 use wr_filing::remove_from_folder::remove_from_folder;
 use wr_object::create_document::create_document;
 use wr_object::create_folder::create_folder;
+use wr_policy::apply_policy::apply_policy;
+use wr_policy::remove_policy::remove_policy;
+use wr_relationship::create_relationship::create_relationship;
 use wr_remove::cancel_check_out::cancel_check_out;
 use wr_remove::delete::delete;
+use wr_rendition::add_rendition::add_rendition;
+use wr_source::create_document_from_source::create_document_from_source;
+use wr_types::create_type::create_type;
+use wr_types::delete_type::delete_type;
+use wr_types::update_type::update_type;
 use wr_version::check_in::check_in;
 use wr_version::check_out::check_out;
 
@@ -119,6 +135,54 @@ fn write(
             let (next, reply) = apply_acl(alloc, state, user, moment, call)?;
             Ok((next, Reply::Acl(reply)))
         }
+        Write::CreateType(call) => {
+            let (next, reply) = create_type(alloc, state, user, moment, call)?;
+            Ok((next, Reply::Type(reply)))
+        }
+        Write::UpdateType(call) => {
+            let (next, reply) = update_type(alloc, state, user, moment, call)?;
+            Ok((next, Reply::Type(reply)))
+        }
+        Write::DeleteType(call) => {
+            let next = delete_type(alloc, state, user, moment, call)?;
+            Ok((next, Reply::Nothing))
+        }
+        Write::CreateItem(call) => {
+            let (next, reply) = create_item(alloc, state, user, moment, call)?;
+            Ok((next, Reply::Object(reply)))
+        }
+        Write::CreatePolicy(call) => {
+            let (next, reply) = create_policy(alloc, state, user, moment, call)?;
+            Ok((next, Reply::Object(reply)))
+        }
+        Write::CreateRelationship(call) => {
+            let (next, reply) = create_relationship(alloc, state, user, moment, call)?;
+            Ok((next, Reply::Object(reply)))
+        }
+        Write::CreateDocumentFromSource(call) => {
+            let (next, reply) = create_document_from_source(alloc, state, user, moment, call)?;
+            Ok((next, Reply::Object(reply)))
+        }
+        Write::DeleteTree(call) => {
+            let (next, reply) = delete_tree(alloc, state, user, moment, call)?;
+            Ok((next, Reply::DeleteTree(reply)))
+        }
+        Write::ApplyPolicy(call) => {
+            let (next, reply) = apply_policy(alloc, state, user, moment, call)?;
+            Ok((next, Reply::Object(reply)))
+        }
+        Write::RemovePolicy(call) => {
+            let next = remove_policy(alloc, state, user, moment, call)?;
+            Ok((next, Reply::Nothing))
+        }
+        Write::BulkUpdate(call) => {
+            let (next, reply) = bulk_update(alloc, state, user, moment, call)?;
+            Ok((next, Reply::Updated(reply)))
+        }
+        Write::AddRendition(call) => {
+            let (next, reply) = add_rendition(alloc, state, user, moment, call)?;
+            Ok((next, Reply::Object(reply)))
+        }
     }
 }
 
@@ -148,35 +212,35 @@ fn default_of(
     alloc: Global,
     state: &State,
     user: &Text,
-    q: &ReadDefault,
+    q: &ShowDefault,
     x: &Object,
 ) -> Result<Reply, Fail>
     ensures { Meets (λ y. y) result (default_of state.now user.now q.now x.now) }
 {
+    let asked = &q.children.children;
     if state.is_a(BaseType::Folder, x) {
-        let reply = children(alloc, state, user, &q.children)?;
+        let reply = show_children(alloc, state, user, &q.children)?;
         return Ok(Reply::Children(reply));
     }
     if state.is_a(BaseType::Document, x) {
-        let reply = stream(alloc, state, user, &q.children.place, &q.stream)?;
+        let reply = stream(alloc, state, user, &asked.place, &q.stream)?;
         return Ok(Reply::Content(reply));
     }
-    let asked = &q.children;
-    let reply = shown(
-        alloc,
+    let view = View {
         state,
         user,
-        &asked.place,
-        &asked.filter,
-        asked.succinct,
-    )?;
-    Ok(Reply::Object(reply))
+        filter: &asked.filter,
+        succinct: asked.succinct,
+        includes: &q.children.includes,
+    };
+    let reply = included(alloc, view, &asked.place)?;
+    Ok(Reply::Included(reply))
 }
 
-fn default(alloc: Global, state: &State, user: &Text, q: &ReadDefault) -> Result<Reply, Fail>
+fn default(alloc: Global, state: &State, user: &Text, q: &ShowDefault) -> Result<Reply, Fail>
     ensures { Meets (λ y. y) result (answer_default state.now user.now q.now) }
 {
-    match addressed(state, user, &q.children.place) {
+    match addressed(state, user, &q.children.children.place) {
         Some(x) => default_of(alloc, state, user, q, x),
         None => Err(Fail::Refused(Cause::NotFound)),
     }
@@ -188,15 +252,15 @@ pub fn read(alloc: Global, state: &State, user: &Text, question: &Question) -> R
 {
     match question {
         Question::Object(q) => {
-            let reply = object(alloc, state, user, q)?;
-            Ok(Reply::Object(reply))
+            let reply = show_object(alloc, state, user, q)?;
+            Ok(Reply::Included(reply))
         }
         Question::Properties(q) => {
-            let reply = properties(alloc, state, user, q)?;
+            let reply = show_properties(alloc, state, user, q)?;
             Ok(Reply::Object(reply))
         }
         Question::Children(q) => {
-            let reply = children(alloc, state, user, q)?;
+            let reply = show_children(alloc, state, user, q)?;
             Ok(Reply::Children(reply))
         }
         Question::Content(q) => {
@@ -254,6 +318,18 @@ pub fn read(alloc: Global, state: &State, user: &Text, question: &Question) -> R
         Question::Changes(q) => {
             let reply = changes(alloc, state, user, q)?;
             Ok(Reply::Changes(reply))
+        }
+        Question::Renditions(q) => {
+            let reply = renditions(alloc, state, user, q)?;
+            Ok(Reply::Renditions(reply))
+        }
+        Question::Actions(q) => {
+            let reply = allowable_actions(alloc, state, user, q)?;
+            Ok(Reply::Actions(reply))
+        }
+        Question::Relationships(q) => {
+            let reply = relationships(alloc, state, user, q)?;
+            Ok(Reply::Page(reply))
         }
         Question::Default(q) => default(alloc, state, user, q),
     }

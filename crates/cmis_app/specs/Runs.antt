@@ -7,25 +7,16 @@ use Rattle.cm_base.specs.declared.number.Moment.{Moment}
 use Rattle.cm_base.specs.declared.user.User.{User}
 use Rattle.cm_types.specs.BaseTypes.{base_types}
 use Rattle.cm_call.specs.declared.write.Write.{Write}
-use Rattle.cm_call.specs.declared.question.Question.{Question}
 use Rattle.cmis_spec.specs.Repository.{Repository, opening}
-use Rattle.cm_face.specs.Faces.{shown_step, shown_answer}
-use Rattle.cm_face.specs.Requests.{called, least}
-use Rattle.http_caller.specs.Callers.{caller_of}
-use Rattle.http_wire.specs.Connections.{closes}
+use Rattle.cm_face.specs.Served.{repository}
 use Rattle.desk_model.specs.declared.entry.Entry.{Entry}
 use Rattle.desk_model.specs.Clocks.{moment_of}
 use Rattle.talk.specs.declared.end.End.{End}
 use Rattle.talk.specs.declared.end.End.TheVariants.{Ended, Bad, ReadFault, WriteFault, Starved}
-use Rattle.talk.specs.Served.{Kind, wire_of}
 use Rattle.talk.specs.Ran.{RunAlone}
 use Rattle.talk.specs.Talked.{rose}
 use Rattle.cmis_words.specs.declared.words.Words.{Words as Asked}
 use Rattle.cmis_words.specs.declared.words.Words.TheVariants.{Pipe}
-
--- the repository as a session serves it: its step and its answers as they are sent, its step number, and how requests are read
-abbrev pub repository : Kind Repository Write Question
-repository = record { next = shown_step; answer = shown_answer; number = λ r. r.step; call = called; wire = wire_of caller_of least closes }
 
 -- the status of a session's end
 abbrev pub status_of : End → ℕ

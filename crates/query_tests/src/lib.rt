@@ -5,5 +5,3 @@
 mod laws;
 #[cfg(test)]
 mod printed;
-#[cfg(test)]
-mod rows;

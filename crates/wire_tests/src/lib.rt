@@ -1,10 +1,8 @@
-//! Tests of requests, forms and replies; they stand beside their crates, since a crate with tests is proved twice.
+//! Tests of requests, forms and the bytes of replies; they stand beside their crates, since a crate with tests is proved twice.
 #![tactic(auto)]
 
 #[cfg(test)]
 mod arguments;
-#[cfg(test)]
-mod bodies;
 #[cfg(test)]
 mod callers;
 #[cfg(test)]

@@ -1,0 +1,47 @@
+-- A folder that is not made.
+use Rattle.std.specs.Prelude.{◌≡◌, ℕ, [], not, ◌&&◌, ◌||◌, List, Option, Some, None, is_some, unwrap_or, option_map}
+use Rattle.std.proofs.Common.{sym, subst}
+use Rattle.action_parts.specs.declared.action.Action.TheVariants as actions
+use Rattle.call_parts.specs.declared.place.Place.{Place}
+use Rattle.call_parts.specs.declared.writes.CreateFolder.{CreateFolder}
+use Rattle.cm_base.specs.declared.number.Moment.{Moment}
+use Rattle.cm_base.specs.declared.object.Object.{Object}
+use Rattle.cm_base.specs.declared.access.Level.TheVariants as levels
+use Rattle.cm_base.specs.declared.cause.Cause.TheVariants as causes
+use Rattle.cm_base.specs.Judged.{Judged, ◌>>=◌, ◌>>◌, find_or, first_cause, refuse}
+use Rattle.cm_types.specs.declared.definition.BaseType.TheVariants as bases
+use Rattle.cm_types.specs.declared.definition.TypeDef.{TypeDef}
+use Rattle.cm_types.specs.declared.given.PropertyCall.TheVariants as calls
+use Rattle.cm_types.specs.Types.{type_in, same_base}
+use Rattle.cm_types.specs.Properties.{judge_properties}
+use Rattle.cm_show.specs.Addressed.{addressed}
+use Rattle.cmis_spec.specs.Repository.{Repository, is_a}
+use Rattle.cmis_spec.specs.Access.{is_at_least, level_of_caller}
+use Rattle.wr_rules.specs.Rules.{judge_storage, unknown_type, has_other_secondary, unread_cause, has_other_policy}
+use Rattle.wr_object.specs.CreateFolder.{refusal_create_folder}
+use Rattle.wr_object.specs.Parts.{judge_found, judge_name, judge_place, wanted_in}
+use Rattle.wr_object.proofs.Parted.{parted}
+use Rattle.action_laws.specs.Refused.{IsBarred, IsRefused}
+use Rattle.action_laws.proofs.Judging.{at_any, at_later, at_object, creation_lines}
+
+module _ (r : Repository) (u : List ℕ) (m : Moment) (cost : ℕ) (call : CreateFolder) where
+  abbrev of_kind : Object → TypeDef → Judged (Unit {0})
+  of_kind parent kind = first_cause (unknown_type r.types) (wanted_in r.types call.properties).secondary >> judge_found r u call (wanted_in r.types call.properties) parent kind
+
+  abbrev in_parent : Object → Judged (Unit {0})
+  in_parent parent = first_cause (unread_cause r u) call.policies >> (find_or causes.TypeNotFound (type_in r.types (wanted_in r.types call.properties).kind) >>= of_kind parent)
+
+  pub create_folder : IsBarred r u call.place actions.CreateFolder → IsRefused (refusal_create_folder r u m cost call)
+  create_folder b =
+      let x = b.object in
+      let wanted = wanted_in r.types call.properties in
+      subst (λ j. IsRefused j) (sym (parted r u m cost call))
+      (at_later (judge_storage r cost) (find_or causes.NotFound (addressed r u call.place) >>= in_parent)
+      (at_object (addressed r u call.place) x in_parent b.found
+      (at_later (first_cause (unread_cause r u) call.policies) (find_or causes.TypeNotFound (type_in r.types wanted.kind) >>= of_kind x)
+      (at_any (find_or causes.TypeNotFound (type_in r.types wanted.kind)) (of_kind x)
+      (λ kind. at_later (first_cause (unknown_type r.types) wanted.secondary) (judge_found r u call wanted x kind)
+      (creation_lines causes.Denied causes.WrongKind
+      (refuse causes.TypeKind (not (same_base bases.Folder kind.base) || has_other_secondary r.types wanted.secondary) >> refuse causes.NotCreatable (not kind.creatable))
+      (judge_place r call x kind >> judge_properties calls.Create wanted.defs [] call.properties >> judge_name r call x.id wanted.name)
+      (is_a r bases.Folder x) (is_at_least levels.Write (level_of_caller r u x)) (has_other_policy r u call.policies) b.barred))))))

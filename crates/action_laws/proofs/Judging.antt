@@ -1,0 +1,80 @@
+-- Lists of lines of which one refuses, by the tests that they make.
+use Rattle.std.specs.Prelude.{◌≡◌, Bool, true, false, ◌&&◌, ◌||◌, not, Option, Some, None, Ok, Err, is_err}
+use Rattle.std.specs.Result.{is_ok}
+use Rattle.std.proofs.Common.{refl, arith}
+use Rattle.cm_base.specs.declared.object.Object.{Object}
+use Rattle.cm_base.specs.declared.cause.Cause.{Cause}
+use Rattle.cm_base.specs.declared.cause.Cause.TheVariants as causes
+use Rattle.cm_base.specs.Judged.{Judged, ◌>>=◌, ◌>>◌, find_or, refuse}
+use Rattle.action_laws.specs.Refused.{IsRefused}
+
+-- ---- what stands before the lines
+
+pub at_later : {B : Type 0} (a : Judged (Unit {0})) (rest : Judged B) → IsRefused rest → IsRefused (a >> rest)
+at_later (Ok x) rest e = e
+at_later (Err c) rest e = refl
+
+-- whatever is found
+pub at_any : {A B : Type 0} (a : Judged A) (rest : A → Judged B) → ((x : A) → IsRefused (rest x)) → IsRefused (a >>= rest)
+at_any (Ok x) rest e = e x
+at_any (Err c) rest e = refl
+
+-- of what is addressed
+pub at_object : {B : Type 0} (o : Option Object) (x : Object) (rest : Object → Judged B) → o ≡ Some x → IsRefused (rest x) → IsRefused (find_or causes.NotFound o >>= rest)
+at_object o x rest found e = rw found e
+
+-- ---- the lines of a call, one of whose tests fails
+
+pub kind_lines : {B : Type 0} (a : Cause) (rest : Judged B) (f : Bool) → f ≡ false → IsRefused (refuse a (not f) >> rest)
+kind_lines a rest f e = rw e refl
+
+pub set_lines : (a b c : Cause) (token change rest : Judged (Unit {0})) (d w bars : Bool) → (d && w && is_ok change && not bars) ≡ false
+    → IsRefused ((refuse a (not w) >> token >> refuse b (not d) >> change) >> refuse c bars >> rest)
+set_lines a b c token change rest d w bars e = grind arith
+
+pub delete_lines : (a b c : Cause) (token change : Judged (Unit {0})) (d w filled needs : Bool) → (d && w && is_ok change && filled && not needs) ≡ false → filled ≡ true
+    → IsRefused ((refuse a (not w) >> token >> refuse b (not d) >> change) >> refuse c needs)
+delete_lines a b c token change d w filled needs e k = grind arith
+
+pub check_out_lines : (a b c e f : Cause) (d w v l o : Bool) → (d && w && v && l && not o) ≡ false
+    → IsRefused (refuse a (not w) >> refuse b (not d) >> refuse c (not v) >> refuse e o >> refuse f (not l))
+check_out_lines a b c e f d w v l o h = grind arith
+
+pub copy_lines : {B : Type 0} (a b c : Cause) (rest : Judged B) (d w k : Bool) → (k && w) ≡ false
+    → IsRefused (refuse a (not w) >> refuse b (not d) >> refuse c (not k) >> rest)
+copy_lines a b c rest d w k e = grind arith
+
+pub cancel_lines : (a b c : Cause) (d w k : Bool) → (k && w) ≡ false → IsRefused (refuse a (not w) >> refuse b (not d) >> refuse c (not k))
+cancel_lines a b c d w k e = grind arith
+
+pub move_lines : (a b c e f : Cause) (rest : Judged (Unit {0})) (w fileable copy top s t kind folders out : Bool) → (w && (fileable && not copy) && not top) ≡ false
+    → IsRefused ((refuse a (not w || s || t) >> refuse b (not (kind && fileable && not copy)) >> refuse c folders >> refuse e top >> refuse f out) >> rest)
+move_lines a b c e f rest w fileable copy top s t kind folders out h = grind arith
+
+pub add_lines : (a b c e : Cause) (rest last : Judged (Unit {0})) (w fileable copy f s kind other : Bool) → (w && (fileable && not copy) && not f) ≡ false
+    → IsRefused ((refuse a (not w || s) >> refuse b (not (kind && fileable && not copy)) >> refuse c other >> refuse e f >> rest) >> last)
+add_lines a b c e rest last w fileable copy f s kind other h = grind arith
+
+pub remove_lines : (a b c e : Cause) (rest : Judged (Unit {0})) (w fileable copy f s kind other : Bool) → (w && (fileable && not copy) && not f) ≡ false
+    → IsRefused (refuse a (not w || s) >> refuse b (not (kind && fileable && not copy)) >> refuse c other >> refuse e f >> rest)
+remove_lines a b c e rest w fileable copy f s kind other h = grind arith
+
+pub unfile_lines : (a b c : Cause) (w fileable copy f s kind : Bool) → (w && (fileable && not copy) && not f) ≡ false
+    → IsRefused (refuse a (not w || s) >> refuse b (not (kind && fileable && not copy)) >> refuse c f)
+unfile_lines a b c w fileable copy f s kind h = grind arith
+
+pub update_lines : (a b c : Cause) (first token change rest : Judged (Unit {0})) (w named other : Bool) → (w && is_ok change) ≡ false
+    → IsRefused (first >> (refuse a (not w) >> token >> refuse b named >> change >> refuse c other) >> rest)
+update_lines a b c first token change rest w named other h = grind arith
+
+pub access_lines : (a b : Cause) (rest : Judged (Unit {0})) (l access keeps : Bool) → keeps ≡ not access → (l && access) ≡ false
+    → IsRefused (refuse a (not l) >> refuse b keeps >> rest)
+access_lines a b rest l access keeps k h = grind arith
+
+pub removal_lines : (a b c : Cause) (rest : Judged (Unit {0})) (w top copy out : Bool) → (w && not top && (copy || not out)) ≡ false
+    → IsRefused (refuse a (not w) >> refuse b top >> refuse c (out && not copy) >> rest)
+removal_lines a b c rest w top copy out h = grind arith
+
+pub creation_lines : {B : Type 0} (a b : Cause) (more : Judged (Unit {0})) (rest : Judged B) (f w other : Bool) → (f && w) ≡ false
+    → IsRefused ((refuse a (not w) >> refuse b (not f || other) >> more) >> rest)
+creation_lines a b more rest f w other h = grind arith

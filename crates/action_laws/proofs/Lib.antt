@@ -1,0 +1,12 @@
+mod Below
+mod Controls
+mod Folders
+mod Going
+mod Judging
+mod Moves
+mod NewDocuments
+mod Read
+mod Readings
+mod Series
+mod Streamed
+mod Updates

@@ -1,0 +1,8 @@
+use Rattle.action_laws.proofs.Going as laws
+use Rattle.action_laws.proofs.removals.removals_refused.Goals as goal
+
+pub returns : goal.returns
+returns c = record {
+  delete = λ r u cost call b. laws.delete r u cost call b;
+  cancel_check_out = λ r u cost call b. laws.cancel_check_out r u cost call b;
+}

@@ -1,0 +1,8 @@
+//! The actions that a caller is allowed on an object (CMIS 1.1, section 2.2.4.6).
+#![tactic(auto)]
+
+ghost use Rattle.std.specs.Prelude.{◌≡◌};
+
+pub mod allowed;
+pub mod grounds;
+pub mod law;

@@ -1,0 +1,3 @@
+pub mod Alike
+mod Applied
+mod Listed

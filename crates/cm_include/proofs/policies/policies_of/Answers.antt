@@ -1,0 +1,18 @@
+use Rattle.std.proofs.Common.{ap, ◌∙◌, map}
+use Rattle.std.specs.Prelude.{filter}
+use Rattle.std.specs.List.{filter_map, list_any}
+use Rattle.cmis_spec.specs.Repository.{same}
+use Rattle.cmis_spec.specs.Access.{read_at}
+use Rattle.cm_include.proofs.Applied.{policies_read}
+use Rattle.cm_include.proofs.policies.policies_of.Goals as goal
+
+pub returns : goal.returns
+returns c =
+    let r = c.args.state.now in
+    let u = c.args.user.now in
+    let n = c.args.n in
+    c.in_ok-all.ensures
+    ∙ (ap (filter_map (read_at r u)) c.as_slice.ensures
+    ∙ policies_read r u n c.in_ok-rising.rising c.step-step.ensures.well c.in_ok-rising.ensures.rising
+    (λ m. c.in_ok-rising.ensures.members m
+    ∙ ap (list_any (same m)) (c.deref.ensures.value ∙ (c.in_ok-numbers.ensures ∙ ap (λ ps. map (λ a. a.policy) (filter (λ a. same a.object n) ps)) c.applied.ensures))))

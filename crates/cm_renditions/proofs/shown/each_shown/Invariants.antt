@@ -1,0 +1,7 @@
+use Rattle.std.proofs.Common.{◌≡◌, map, take}
+use Rattle.map_keys.specs.Parts.{pointee}
+use Rattle.cm_renditions.specs.Shown.{shown_rendition}
+use Rattle.cm_renditions.proofs.shown.each_shown.Given as goal
+
+abbrev pub invariant-loop-rendition : goal.invariant-loop-rendition
+invariant-loop-rendition l = l.all ≡ map shown_rendition (map pointee (take l.rendition-index l.renditions))

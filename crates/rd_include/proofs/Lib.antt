@@ -1,0 +1,4 @@
+mod Listed
+mod Majors
+mod Pages
+mod Versions

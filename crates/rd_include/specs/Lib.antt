@@ -1,0 +1,2 @@
+pub mod ShowChildren
+pub mod ShowObject

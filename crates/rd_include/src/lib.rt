@@ -1,0 +1,9 @@
+//! Readings that show more of objects than their properties, where it is asked for.
+#![tactic(auto)]
+
+ghost use Rattle.std.specs.Prelude.{◌≡◌};
+
+pub mod children;
+pub mod law;
+pub mod object;
+mod version;

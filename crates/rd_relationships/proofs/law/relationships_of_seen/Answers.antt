@@ -1,0 +1,14 @@
+use Rattle.cm_base.specs.declared.cause.Cause.TheVariants as causes
+use Rattle.cm_show.specs.Addressed.{addressed}
+use Rattle.seen_laws.proofs.Answers.{addressed_alike, answer_alike}
+use Rattle.seen_laws.proofs.Worlds.{AreAlike}
+use Rattle.rd_relationships.specs.ReadRelationships.{answer_relationships_of}
+use Rattle.rd_relationships.proofs.Pages.{relationships_of_alike}
+use Rattle.rd_relationships.proofs.law.relationships_of_seen.Goals as goal
+
+pub returns : goal.returns
+returns c r u q w other v e =
+    let a : AreAlike r other u = record { well = w; other_well = v; alike = e } in
+    answer_alike r other u causes.NotFound (addressed r u q.place) (addressed other u q.place)
+    (answer_relationships_of r u q) (answer_relationships_of other u q)
+    (addressed_alike r other u q.place a) (λ x h. relationships_of_alike r other u a q x)

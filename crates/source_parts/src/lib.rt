@@ -1,0 +1,7 @@
+//! The arguments of createDocumentFromSource, and what they weigh.
+#![tactic(auto)]
+
+ghost use Rattle.std.specs.Prelude.{◌≡◌};
+
+pub mod weight;
+pub mod writes;

@@ -1,0 +1,6 @@
+mod Ends
+mod KeptUpdated
+mod Put
+mod Renamed
+mod Turns
+mod Updating

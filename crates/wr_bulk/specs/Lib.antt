@@ -1,0 +1,2 @@
+pub mod BulkUpdate
+pub mod Parts

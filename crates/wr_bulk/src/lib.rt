@@ -1,0 +1,10 @@
+//! The update of the properties of several objects in one step.
+#![tactic(auto)]
+
+ghost use Rattle.std.specs.Prelude.{◌≡◌};
+
+pub mod bulk_update;
+mod judge;
+mod putting;
+mod secondary;
+mod values;

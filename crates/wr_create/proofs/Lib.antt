@@ -1,0 +1,4 @@
+pub mod Items
+pub mod Lines
+pub mod Made
+pub mod Policies

@@ -1,0 +1,3 @@
+pub mod CreateItem
+pub mod CreatePolicy
+pub mod Making

@@ -1,0 +1,5 @@
+mod Answered
+mod Keeping
+mod Outs
+mod Values
+mod Visiting

@@ -1,0 +1,6 @@
+use Rattle.std.proofs.Common.{◌≡◌, map}
+use Rattle.map_keys.specs.Parts.{pointee}
+use Rattle.wr_delete_tree.proofs.tree.values_of.Given as goal
+
+abbrev pub invariant-loop-entry : goal.invariant-loop-entry
+invariant-loop-entry l = l.all ≡ map (λ e. e.1) (map pointee l.yielded)

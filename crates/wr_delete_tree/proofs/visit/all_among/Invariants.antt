@@ -1,0 +1,8 @@
+use Rattle.std.proofs.Common.{◌≡◌, map}
+use Rattle.std.specs.List.{list_all}
+use Rattle.map_keys.specs.Parts.{pointee}
+use Rattle.cmis_spec.specs.Removal.{among}
+use Rattle.wr_delete_tree.proofs.visit.all_among.Given as goal
+
+abbrev pub invariant-loop-entry : goal.invariant-loop-entry
+invariant-loop-entry l = l.all ≡ list_all (λ e. among l.tree e.1) (map pointee l.yielded)

@@ -1,0 +1,2 @@
+pub mod KeptEnds
+pub mod Relationships

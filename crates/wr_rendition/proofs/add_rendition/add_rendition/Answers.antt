@@ -1,0 +1,28 @@
+use Rattle.std.proofs.Common.{sym, ap, ◌∙◌}
+use Rattle.std.specs.Prelude.{is_some, false, unwrap_or}
+use Rattle.call_parts.specs.declared.readings.PropertyFilter.TheVariants as filters
+use Rattle.cm_show.specs.Shown.{shown_object}
+use Rattle.cmis_spec.specs.Repository.{root_folder}
+use Rattle.wr_rendition.specs.AddRendition.{cost_add_rendition}
+use Rattle.wr_rendition.proofs.Added.{added_found}
+use Rattle.wr_rendition.proofs.add_rendition.add_rendition.Goals as goal
+
+pub with_changed-requires : goal.with_changed-requires
+with_changed-requires c = record {
+  there = ap is_some (added_found c.args.state.now c.args.user.now c.args.moment (cost_add_rendition c.args.call.now) c.args.call.now c.in_ok-made.made c.in_ok-x.x.now c.step-step.ensures.well.numbers c.in_ok-x.ensures.1 c.in_ok-made.ensures);
+}
+
+pub returns-clause-written : goal.returns-clause-written
+returns-clause-written c =
+    let r = c.args.state.now in
+    let u = c.args.user.now in
+    let m = c.args.moment in
+    let call = c.args.call.now in
+    let x = c.in_ok-x.x.now in
+    let there = added_found r u m (cost_add_rendition call) call c.in_ok-made.made x c.step-step.ensures.well.numbers c.in_ok-x.ensures.1 c.in_ok-made.ensures in
+    let it = sym (ap (λ o. unwrap_or o (root_folder u m r.step)) c.in_ok-x.ensures.1) in (
+      c.in_ok-x.ensures.0,
+      c.in_ok-next.ensures.same ∙ c.in_ok-made.ensures,
+      c.in_ok-next.ensures.shown x there
+          ∙ (λ i. record { object = shown_object (c.in_ok-made.ensures i) u filters.All call.succinct (it i); created = false }),
+    )

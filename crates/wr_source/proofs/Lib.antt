@@ -1,0 +1,3 @@
+pub mod Created
+pub mod Found
+pub mod Sourced

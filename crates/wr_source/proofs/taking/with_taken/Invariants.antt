@@ -1,0 +1,7 @@
+use Rattle.std.proofs.Common.{◌≡◌, ◌+◌, take}
+use Rattle.call_parts.specs.Weight.{bounded}
+use Rattle.wr_source.specs.Templates.{taken_cost}
+use Rattle.wr_source.proofs.taking.with_taken.Given as goal
+
+abbrev pub invariant-loop-def : goal.invariant-loop-def
+invariant-loop-def l = l.total ≡ bounded (l.initial.so_far + taken_cost (take l.def-index l.defs) l.copied l.given)

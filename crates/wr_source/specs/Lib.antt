@@ -1,0 +1,2 @@
+pub mod CreateDocumentFromSource
+pub mod Templates

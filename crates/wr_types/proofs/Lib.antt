@@ -1,0 +1,5 @@
+mod Changing
+mod Lines
+mod Making
+mod Removing
+mod Walks

@@ -1,0 +1,5 @@
+pub mod CreateType
+pub mod DeleteType
+pub mod Retyped
+pub mod UpdateType
+pub mod Walks
