@@ -1,32 +1,91 @@
 -- Objects that are not removed.
-use Rattle.std.specs.Prelude.{ℕ, not, List}
+use Rattle.std.specs.Prelude.{◌≡◌, ℕ, Bool, true, false, ◌&&◌, not, if◌then◌else◌, List, [], ◌∷◌, filter_map, Option, Some, None, unwrap_or, option_map, option_and_then}
+use Rattle.std.specs.List.{list_any}
+use Rattle.std.proofs.Common.{refl, sym, ap, ◌∙◌, arith}
+use Rattle.std.proofs.lemmas.Bool.{both_ways}
+use Rattle.cm_base.specs.declared.number.Moment.{Moment}
+use Rattle.cm_base.specs.declared.number.Oid.{Oid}
+use Rattle.cm_base.specs.declared.object.Object.{Object}
 use Rattle.cm_base.specs.declared.access.Level.TheVariants as levels
 use Rattle.cm_base.specs.declared.cause.Cause.TheVariants as causes
-use Rattle.cm_base.specs.Judged.{◌>>=◌, ◌>>◌, find_or, refuse}
+use Rattle.cm_base.specs.Judged.{Judged, ◌>>=◌, ◌>>◌, find_or, first_cause, refuse}
 use Rattle.cm_types.specs.declared.definition.BaseType.TheVariants as bases
 use Rattle.action_parts.specs.declared.action.Action.TheVariants as actions
+use Rattle.call_parts.specs.declared.versions.CancelCheckOut.{CancelCheckOut}
 use Rattle.call_parts.specs.declared.versions.Delete.{Delete}
 use Rattle.cm_show.specs.Addressed.{addressed}
-use Rattle.cmis_spec.specs.Repository.{Repository, same, root, is_a}
+use Rattle.cmis_spec.specs.Repository.{Repository, same, root, object_at, series_at, series_of, is_a}
 use Rattle.cmis_spec.specs.Access.{is_at_least, lacks, level_of_caller}
 use Rattle.cmis_spec.specs.Documents.{is_working_copy}
+use Rattle.cmis_spec.specs.Retention.{is_under_hold, judge_kept, retained_cause}
+use Rattle.cmis_spec.specs.Well.{Belongs, IsWellFormed, members}
+use Rattle.cmis_laws.proofs.Lists.{by_test, found_holds, same_eq, same_refl}
 use Rattle.wr_rules.specs.Documents.{is_checked_out}
+use Rattle.wr_rules.specs.Retained.{is_held_at}
 use Rattle.wr_rules.specs.Rules.{judge_storage}
-use Rattle.wr_remove.specs.Delete.{is_applied, is_filled, judge_removal, refusal_delete}
+use Rattle.wr_rules.proofs.Found.{addressed_there}
+use Rattle.wr_rules.proofs.Numbers.{held_numbers}
+use Rattle.wr_remove.specs.CancelCheckOut.{refusal_cancel}
+use Rattle.wr_remove.specs.Delete.{doomed, is_applied, is_filled, judge_removal, refusal_delete}
 use Rattle.action_laws.specs.Refused.{IsBarred, IsRefused}
 use Rattle.action_laws.proofs.Judging.{at_later, at_object, removal_lines, cancel_lines}
-use Rattle.call_parts.specs.declared.versions.CancelCheckOut.{CancelCheckOut}
-use Rattle.wr_remove.specs.CancelCheckOut.{refusal_cancel}
+
+-- ---- what is addressed is among what would go
+
+-- what holds of a number that is in a list holds of one of them
+any_of : (p : Oid → Bool) (n : Oid) (ns : List Oid) → list_any (same n) ns ≡ true → p n ≡ true → list_any p ns ≡ true
+any_of p n [] h e = absurd (both_ways false refl h)
+any_of p n (k ∷ ns) h e = by_test (same n k)
+    (λ s. rw (ap p (sym (same_eq n k s)) ∙ e) refl)
+    (λ s. later (p k) (any_of p n ns (rest s h) e))
+  where
+    rest : same n k ≡ false → list_any (same n) (k ∷ ns) ≡ true → list_any (same n) ns ≡ true
+    rest s h = rw s at h
+
+    later : (b : Bool) → list_any p ns ≡ true → list_any p (k ∷ ns) ≡ true
+    later b h = grind (arith, h)
+
+alone : (n : Oid) → list_any (same n) (n ∷ []) ≡ true
+alone n = rw (same_refl n) refl
+
+in_series : (r : Repository) (x : Object) (o : Option Oid) → Belongs r x o → list_any (same x.id) (unwrap_or (option_map members (option_and_then (series_at r) o)) (x.id ∷ [])) ≡ true
+in_series r x None b = alone x.id
+in_series r x (Some n) b = ap (λ s. list_any (same x.id) (unwrap_or (option_map members s) (x.id ∷ []))) b.1.1 ∙ b.1.2
+
+is_doomed : (r : Repository) (call : Delete) (x : Object) → Belongs r x x.series → list_any (same x.id) (doomed r call x) ≡ true
+is_doomed r call x b = by (call.all_versions && not (is_working_copy r x))
+  where
+    by : (all : Bool) → list_any (same x.id) (if all then unwrap_or (option_map members (series_of r x)) (x.id ∷ []) else x.id ∷ []) ≡ true
+    by true = in_series r x x.series b
+    by false = alone x.id
+
+-- an object that is held keeps all that would go with it
+one_held : (r : Repository) (call : Delete) (x : Object) → Belongs r x x.series → object_at r x.id ≡ Some x → (is_under_hold r x && not (list_any (is_under_hold r) (filter_map (object_at r) (doomed r call x)))) ≡ false
+one_held r call x b there = by_test (is_under_hold r x)
+    (λ e.
+    let at : is_held_at r x.id ≡ true = ap (λ o. unwrap_or (option_map (is_under_hold r) o) false) there ∙ e in
+    let held : list_any (is_under_hold r) (filter_map (object_at r) (doomed r call x)) ≡ true = sym (held_numbers r (doomed r call x)) ∙ any_of (is_held_at r) x.id (doomed r call x) (is_doomed r call x b) at in
+    rw (e, held) refl)
+    (λ e. rw e refl)
+
+-- ---- the calls
+
+module _ (r : Repository) (u : List ℕ) (m : Moment) (cost : ℕ) where
+  abbrev removal : Delete → Object → Judged (Unit {0})
+  removal call y = refuse causes.Denied (lacks r u levels.All y) >> judge_removal r y >> judge_kept r m (filter_map (object_at r) (doomed r call y))
+
+  pub delete : (call : Delete) → IsWellFormed r → IsBarred r u call.place actions.DeleteObject → IsRefused (refusal_delete r u m cost call)
+  delete call w b =
+      let x = b.object in
+      let there : object_at r x.id ≡ Some x = addressed_there r u call.place x w.numbers b.found in
+      let gone = filter_map (object_at r) (doomed r call x) in
+      at_later (judge_storage r cost) (find_or causes.NotFound (addressed r u call.place) >>= removal call)
+      (at_object (addressed r u call.place) x (removal call) b.found
+      (removal_lines causes.Denied causes.RootFixed causes.CheckedOut (refuse causes.NotEmpty (is_filled r x) >> refuse causes.PolicyInUse (is_applied r x)) (first_cause (retained_cause r m) gone)
+      (is_at_least levels.All (level_of_caller r u x)) (same x.id root) (is_under_hold r x) (is_working_copy r x) (is_checked_out r x) (list_any (is_under_hold r) gone)
+      (one_held r call x (found_holds (λ z. Belongs r z z.series) (λ z. same z.id x.id) r.objects x w.documents there) there) b.barred))
 
 module _ (r : Repository) (u : List ℕ) (cost : ℕ) where
-  pub delete : (call : Delete) → IsBarred r u call.place actions.DeleteObject → IsRefused (refusal_delete r u cost call)
-  delete call b =
-      let x = b.object in
-      at_later (judge_storage r cost) (find_or causes.NotFound (addressed r u call.place) >>= (λ y. refuse causes.Denied (lacks r u levels.All y) >> judge_removal r y))
-      (at_object (addressed r u call.place) x (λ y. refuse causes.Denied (lacks r u levels.All y) >> judge_removal r y) b.found
-      (removal_lines causes.Denied causes.RootFixed causes.CheckedOut (refuse causes.NotEmpty (is_filled r x) >> refuse causes.PolicyInUse (is_applied r x))
-      (is_at_least levels.All (level_of_caller r u x)) (same x.id root) (is_working_copy r x) (is_checked_out r x) b.barred))
-
   pub cancel_check_out : (call : CancelCheckOut) → IsBarred r u call.place actions.CancelCheckOut → IsRefused (refusal_cancel r u cost call)
   cancel_check_out call b =
       let x = b.object in

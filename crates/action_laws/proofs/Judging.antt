@@ -28,13 +28,14 @@ at_object o x rest found e = rw found e
 pub kind_lines : {B : Type 0} (a : Cause) (rest : Judged B) (f : Bool) → f ≡ false → IsRefused (refuse a (not f) >> rest)
 kind_lines a rest f e = rw e refl
 
-pub set_lines : (a b c : Cause) (token change rest : Judged (Unit {0})) (d w bars : Bool) → (d && w && is_ok change && not bars) ≡ false
-    → IsRefused ((refuse a (not w) >> token >> refuse b (not d) >> change) >> refuse c bars >> rest)
-set_lines a b c token change rest d w bars e = grind arith
+-- those of a document, and then those of its contents; a hold is judged last
+pub set_lines : (a b c : Cause) (token change more rest : Judged (Unit {0})) (d w held bars : Bool) → (d && w && is_ok change && not held && not bars) ≡ false
+    → IsRefused ((refuse a (not w) >> token >> refuse b (not d) >> change) >> (refuse c bars >> more) >> refuse causes.Held (held || false) >> rest)
+set_lines a b c token change more rest d w held bars e = grind arith
 
-pub delete_lines : (a b c : Cause) (token change : Judged (Unit {0})) (d w filled needs : Bool) → (d && w && is_ok change && filled && not needs) ≡ false → filled ≡ true
-    → IsRefused ((refuse a (not w) >> token >> refuse b (not d) >> change) >> refuse c needs)
-delete_lines a b c token change d w filled needs e k = grind arith
+pub delete_lines : (a b c : Cause) (token change rest : Judged (Unit {0})) (d w held filled needs : Bool) → (d && w && is_ok change && not held && filled && not needs) ≡ false → filled ≡ true
+    → IsRefused ((refuse a (not w) >> token >> refuse b (not d) >> change) >> refuse c needs >> refuse causes.Held (held || false) >> rest)
+delete_lines a b c token change rest d w held filled needs e k = grind arith
 
 pub check_out_lines : (a b c e f : Cause) (d w v l o : Bool) → (d && w && v && l && not o) ≡ false
     → IsRefused (refuse a (not w) >> refuse b (not d) >> refuse c (not v) >> refuse e o >> refuse f (not l))
@@ -71,9 +72,10 @@ pub access_lines : (a b : Cause) (rest : Judged (Unit {0})) (l access keeps : Bo
     → IsRefused (refuse a (not l) >> refuse b keeps >> rest)
 access_lines a b rest l access keeps k h = grind arith
 
-pub removal_lines : (a b c : Cause) (rest : Judged (Unit {0})) (w top copy out : Bool) → (w && not top && (copy || not out)) ≡ false
-    → IsRefused (refuse a (not w) >> refuse b top >> refuse c (out && not copy) >> rest)
-removal_lines a b c rest w top copy out h = grind arith
+-- where the object is held, something that would go is
+pub removal_lines : (a b c : Cause) (more rest : Judged (Unit {0})) (w top held copy out some : Bool) → (held && not some) ≡ false → (w && not top && not held && (copy || not out)) ≡ false
+    → IsRefused (refuse a (not w) >> (refuse b top >> refuse c (out && not copy) >> more) >> refuse causes.Held some >> rest)
+removal_lines a b c more rest w top held copy out some k h = grind arith
 
 pub creation_lines : {B : Type 0} (a b : Cause) (more : Judged (Unit {0})) (rest : Judged B) (f w other : Bool) → (f && w) ≡ false
     → IsRefused ((refuse a (not w) >> refuse b (not f || other) >> more) >> rest)

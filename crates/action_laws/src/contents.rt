@@ -3,6 +3,7 @@ ghost use Rattle.std.specs.Prelude.{◌≡◌, ℕ, true, List, is_some};
 ghost use Rattle.action_parts.specs.declared.action.Action.TheVariants as actions;
 ghost use Rattle.call_parts.specs.declared.changes.DeleteContent.{DeleteContent};
 ghost use Rattle.call_parts.specs.declared.changes.SetContent.{SetContent};
+ghost use Rattle.cm_base.specs.declared.number.Moment.{Moment};
 ghost use Rattle.cm_state.specs.Looks.{content_at};
 ghost use Rattle.cmis_spec.specs.Repository.{Repository};
 ghost use Rattle.wr_content.specs.SetContent.{refusal_set_content};
@@ -12,9 +13,9 @@ ghost use Rattle.action_laws.specs.Refused.{IsBarred, IsRefused};
 /// Where a caller may not set or delete the content of a document, that call is refused. The one exception: deleteContent does nothing to a
 /// document without content.
 pub fn contents_refused()
-    ensures set_content { (r : Repository) (u : List ℕ) (cost : ℕ) (call : SetContent)
-        → IsBarred r u call.place actions.SetContentStream → IsRefused (refusal_set_content r u cost call) }
-    ensures delete_content { (r : Repository) (u : List ℕ) (cost : ℕ) (call : DeleteContent)
+    ensures set_content { (r : Repository) (u : List ℕ) (m : Moment) (cost : ℕ) (call : SetContent)
+        → IsBarred r u call.place actions.SetContentStream → IsRefused (refusal_set_content r u m cost call) }
+    ensures delete_content { (r : Repository) (u : List ℕ) (m : Moment) (cost : ℕ) (call : DeleteContent)
         → (b : IsBarred r u call.place actions.DeleteContentStream) → is_some (content_at r b.object.id) ≡ true
-        → IsRefused (refusal_delete_content r u cost call) }
+        → IsRefused (refusal_delete_content r u m cost call) }
 {}

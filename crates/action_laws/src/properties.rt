@@ -2,12 +2,13 @@
 ghost use Rattle.std.specs.Prelude.{ℕ, List};
 ghost use Rattle.action_parts.specs.declared.action.Action.TheVariants as actions;
 ghost use Rattle.call_parts.specs.declared.changes.UpdateProperties.{UpdateProperties};
+ghost use Rattle.cm_base.specs.declared.number.Moment.{Moment};
 ghost use Rattle.cmis_spec.specs.Repository.{Repository};
 ghost use Rattle.wr_change.specs.Update.{refusal_update};
 ghost use Rattle.action_laws.specs.Refused.{IsBarred, IsRefused};
 
 /// Where a caller may not update the properties of an object, that call is refused.
 pub fn properties_refused()
-    ensures { (r : Repository) (u : List ℕ) (cost : ℕ) (call : UpdateProperties)
-        → IsBarred r u call.place actions.UpdateProperties → IsRefused (refusal_update r u cost call) }
+    ensures { (r : Repository) (u : List ℕ) (m : Moment) (cost : ℕ) (call : UpdateProperties)
+        → IsBarred r u call.place actions.UpdateProperties → IsRefused (refusal_update r u m cost call) }
 {}

@@ -76,6 +76,36 @@ fn words_of_pipe(rt: HostRuntime) {
     );
 }
 
+// The words of a pipe give so many groups, the first of this name.
+fn groups(alloc: Global, list: &str, number: usize, first: &str) -> bool {
+    match strings(alloc, &["pipe", "admin:pw,ann:a,bob:b", list]) {
+        Ok(words) => match read_words(alloc, &words) {
+            Ok(Words::Pipe(pipe)) => match pipe.groups.as_slice() {
+                [] => false,
+                [group, ..] => group.name.is_str(first) && pipe.groups.len() == number,
+            },
+            Err(_) => false,
+        },
+        Err(_) => false,
+    }
+}
+
+#[test]
+fn groups_of_pipe(rt: HostRuntime) {
+    let alloc = rt.alloc();
+    assert!(rt; groups(alloc, "groups=staff:ann", 1, "staff"));
+    assert!(rt; groups(alloc, "groups=staff:ann+bob,clerks:bob", 2, "clerks"));
+}
+
+#[test]
+fn groups_that_are_none(rt: HostRuntime) {
+    let alloc = rt.alloc();
+    assert!(rt; is_refused(alloc, &["pipe", "ann:a", "groups=staff:eve"]));
+    assert!(rt; is_refused(alloc, &["pipe", "ann:a", "groups=ann:ann"]));
+    assert!(rt; is_refused(alloc, &["pipe", "ann:a", "groups="]));
+    assert!(rt; is_refused(alloc, &["pipe", "ann:a", "groups=a:ann", "groups=b:ann"]));
+}
+
 #[test]
 fn other_words(rt: HostRuntime) {
     let alloc = rt.alloc();

@@ -1,5 +1,5 @@
 -- The arguments of bulkUpdate, judged in their order (CMIS 1.1, sections 2.2.4.14 and 5.4).
-use Rattle.std.specs.Prelude.{ℕ, ◌+◌, nat_lt, List, [], ◌∷◌, length, not, Ok}
+use Rattle.std.specs.Prelude.{ℕ, ◌+◌, nat_lt, List, [], ◌∷◌, length, Ok}
 use Rattle.cm_base.specs.declared.argument.Argument.TheVariants as args
 use Rattle.cm_base.specs.declared.cause.Cause.TheVariants as causes
 use Rattle.cm_base.specs.Arguments.{word_of}
@@ -8,7 +8,7 @@ use Rattle.bulk_parts.specs.declared.writes.BulkUpdate.{BulkUpdate}
 use Rattle.bulk_parts.specs.declared.writes.ObjectIdAndChangeToken.{ObjectIdAndChangeToken}
 use Rattle.form_args.specs.declared.pairs.Pair.{Pair}
 use Rattle.form_args.specs.Pairs.{first_of, indexed, texts_of}
-use Rattle.form_args.specs.Properties.{has_some, properties_of}
+use Rattle.form_args.specs.Properties.{properties_of}
 use Rattle.bind_parts.specs.declared.asking.Asking.{Asking}
 
 -- a call names at most so many objects
@@ -28,10 +28,9 @@ objects_from pairs i (id ∷ ids) = object_at pairs i id ∷ objects_from pairs 
 abbrev pub object_ids : List Pair → List (List ℕ)
 object_ids pairs = texts_of pairs (word_of args.ObjectId)
 
--- the objects that a form names: one at least, and not too many
+-- the objects that a form names, not too many
 abbrev pub objects_of : List Pair → Judged (List ObjectIdAndChangeToken)
 objects_of pairs = do
-  refuse (causes.BadArgument args.ObjectId) (not (has_some (object_ids pairs)))
   refuse (causes.BadArgument args.ObjectId) (nat_lt most_objects (length (object_ids pairs)))
   Ok (objects_from pairs 0 (object_ids pairs))
 

@@ -5,7 +5,6 @@ ghost use Rattle.cm_base.specs.Arguments.{word_of};
 ghost use Rattle.cm_base.specs.declared.argument.Argument.TheVariants as args;
 ghost use Rattle.cm_base.specs.Judged.{Meets};
 ghost use Rattle.form_args.specs.Pairs.{first_of, indexed};
-ghost use Rattle.form_args.specs.Properties.{has_some};
 ghost use Rattle.bind_bulk.specs.Writes.{most_objects, object_at, objects_from, objects_of};
 
 use bulk_parts::writes::{ObjectIdAndChangeToken, ObjectIdsAndChangeTokens};
@@ -25,15 +24,6 @@ fn most_objects() -> usize
     ensures { result ≡ most_objects }
 {
     1000
-}
-
-fn has_some(ids: &[Text]) -> bool
-    ensures { result ≡ has_some ids.now }
-{
-    match ids {
-        [] => false,
-        [_, ..] => true,
-    }
 }
 
 // The token at this place, where it is given.
@@ -77,14 +67,11 @@ fn objects(
     Ok(Items::from_vec(all))
 }
 
-/// The objects that a form names, in their order. None, or more than 1000, is BadArgument `objectId`.
+/// The objects that a form names, in their order. More than 1000 are BadArgument `objectId`.
 pub(crate) fn objects_of(alloc: Global, pairs: &Pairs) -> Result<ObjectIdsAndChangeTokens, Fail>
     ensures { Meets (λ all. all) result (objects_of pairs.now) }
 {
     let ids = texts(alloc, pairs, Argument::ObjectId.word())?;
-    if !has_some(ids.as_slice()) {
-        return Err(Fail::Refused(Cause::BadArgument(Argument::ObjectId)));
-    }
     if most_objects() < ids.len() {
         return Err(Fail::Refused(Cause::BadArgument(Argument::ObjectId)));
     }

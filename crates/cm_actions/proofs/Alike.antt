@@ -16,10 +16,12 @@ use Rattle.cm_types.specs.declared.definition.TypeDef.{TypeDef}
 use Rattle.cm_types.specs.declared.definition.BaseType.{BaseType}
 use Rattle.cm_types.specs.declared.definition.BaseType.TheVariants as bases
 use Rattle.cm_types.specs.Types.{type_in, is_of_base}
+use Rattle.cm_types.specs.Properties.{value_in, is_set}
 use Rattle.action_parts.specs.Actions.{all_actions}
 use Rattle.cmis_spec.specs.Repository.{Repository, same, root, is_a, entry_of, series_of, owner_of, is_latest, last_of}
 use Rattle.cmis_spec.specs.Access.{is_administrator, groups_of, aces_at, granted, greater, is_at_least, level_at, level_by_list, level_of_caller, read_at}
 use Rattle.cmis_spec.specs.Documents.{is_copy_of, is_working_copy, fixed_in, judge_changeable}
+use Rattle.cmis_spec.specs.Retention.{has_type, is_under_hold}
 use Rattle.cmis_spec.specs.Seen.{SeenSeries, seen_series, is_read}
 use Rattle.cmis_laws.proofs.Lists.{by_test, same_eq}
 use Rattle.cm_show.specs.Shown.{content_of, is_latest_version}
@@ -139,15 +141,6 @@ module _ (r other : Repository) (u : List ℕ) (x : Object) (h : IsAlike r other
   changeable_alike : judge_changeable r x ≡ judge_changeable other x
   changeable_alike = ap judge_by (and_then_alike (fixed_in x.id) (seen_fixed x) (λ q here s. fixed_seen q u x here s))
 
-  stage_alike : stage_of r x ≡ stage_of other x
-  stage_alike i = record {
-    working = working_alike i;
-    latest = latest_alike i;
-    checked_out = out_alike i;
-    changeable = is_ok (changeable_alike i);
-    filled = is_some (content_alike r other u x h i);
-  }
-
 -- ---- all grounds
 
 module _ (r other : Repository) (u : List ℕ) (a : AreAlike r other u) (x : Object) (h : IsAlike r other u x) where
@@ -198,8 +191,23 @@ module _ (r other : Repository) (u : List ℕ) (a : AreAlike r other u) (x : Obj
     access = unwrap_or (option_map (λ t. t.controllable_acl) (type_in (types_alike i) x.kind)) false;
   }
 
+  held_alike : is_under_hold r x ≡ is_under_hold other x
+  held_alike i =
+      (is_of_base (types_alike i) bases.Document x.kind && not (working_alike r other u x h i))
+      && (has_type (types_alike i) x.secondary (codes "cmis:rm_hold") && is_set (value_in x.values (codes "cmis:rm_holdIds")))
+
+  stage_alike : stage_of r x ≡ stage_of other x
+  stage_alike i = record {
+    working = working_alike r other u x h i;
+    latest = latest_alike r other u x h i;
+    checked_out = out_alike r other u x h i;
+    changeable = is_ok (changeable_alike r other u x h i);
+    filled = is_some (content_alike r other u x h i);
+    held = held_alike i;
+  }
+
   pub grounds_alike : grounds_of r u x ≡ grounds_of other u x
-  grounds_alike i = record { rights = rights_alike i; kind = kind_alike i; rules = rules_alike i; stage = stage_alike r other u x h i }
+  grounds_alike i = record { rights = rights_alike i; kind = kind_alike i; rules = rules_alike i; stage = stage_alike i }
 
   pub actions_alike : actions_of r u x ≡ actions_of other u x
   actions_alike = ap (λ g. map (flag_of g) all_actions) grounds_alike

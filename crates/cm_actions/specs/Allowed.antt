@@ -19,6 +19,7 @@ use Rattle.cm_show.specs.Shown.{is_latest_version}
 use Rattle.cmis_spec.specs.Repository.{Repository, same, root, is_a, type_of, entry_of}
 use Rattle.cmis_spec.specs.Access.{is_at_least, level_by_list, level_of_caller}
 use Rattle.cmis_spec.specs.Documents.{is_working_copy, judge_changeable}
+use Rattle.cmis_spec.specs.Retention.{is_under_hold}
 use Rattle.wr_rules.specs.Documents.{bars_content, needs_content, is_versionable, is_checked_out}
 
 -- ---- on what the actions depend
@@ -56,7 +57,7 @@ rules_of r x = record {
   access = by_type r x (λ t. t.controllable_acl);
 }
 
--- where it stands among the versions of its series, and whether it has content
+-- where it stands among the versions of its series, whether it has content, and whether a hold names it
 abbrev pub stage_of : Repository → Object → Stage
 stage_of r x = record {
   working = is_working_copy r x;
@@ -64,6 +65,7 @@ stage_of r x = record {
   checked_out = is_checked_out r x;
   changeable = is_ok (judge_changeable r x);
   filled = is_some (content_at r x.id);
+  held = is_under_hold r x;
 }
 
 abbrev pub grounds_of : Repository → List ℕ → Object → Grounds
@@ -91,8 +93,8 @@ allows g actions.CreateDocument = g.kind.folder && g.rights.write
 allows g actions.CreateFolder = g.kind.folder && g.rights.write
 allows g actions.CreateItem = g.kind.folder && g.rights.write
 allows g actions.CreateRelationship = not g.kind.relationship && g.rights.named
-allows g actions.DeleteContentStream = g.kind.document && g.rights.write && g.stage.changeable && g.stage.filled && not g.rules.needs_content
-allows g actions.DeleteObject = g.rights.all && not g.kind.root && is_free g
+allows g actions.DeleteContentStream = g.kind.document && g.rights.write && g.stage.changeable && not g.stage.held && g.stage.filled && not g.rules.needs_content
+allows g actions.DeleteObject = g.rights.all && not g.kind.root && not g.stage.held && is_free g
 allows g actions.DeleteTree = g.kind.folder && g.rights.all && not g.kind.root
 allows g actions.GetAcl = true
 allows g actions.GetAllVersions = g.kind.document
@@ -109,7 +111,7 @@ allows g actions.GetRenditions = true
 allows g actions.MoveObject = g.rights.write && is_filed_kind g && not g.kind.root
 allows g actions.RemoveObjectFromFolder = g.rights.write && is_filed_kind g && not g.kind.folder
 allows g actions.RemovePolicy = g.rights.write && g.rules.policies
-allows g actions.SetContentStream = g.kind.document && g.rights.write && g.stage.changeable && not g.rules.bars_content
+allows g actions.SetContentStream = g.kind.document && g.rights.write && g.stage.changeable && not g.stage.held && not g.rules.bars_content
 allows g actions.UpdateProperties = g.rights.write && g.stage.changeable
 
 -- ---- the actions of the caller

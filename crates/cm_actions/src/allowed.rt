@@ -48,10 +48,11 @@ pub fn allows(g: &Grounds, action: Action) -> bool
             g.kind.document
                 && g.rights.write
                 && g.stage.changeable
+                && !g.stage.held
                 && g.stage.filled
                 && !g.rules.needs_content
         }
-        Action::DeleteObject => g.rights.all && !g.kind.root && is_free(g),
+        Action::DeleteObject => { g.rights.all && !g.kind.root && !g.stage.held && is_free(g) }
         Action::DeleteTree => g.kind.folder && g.rights.all && !g.kind.root,
         Action::GetAcl => true,
         Action::GetAllVersions => g.kind.document,
@@ -69,7 +70,11 @@ pub fn allows(g: &Grounds, action: Action) -> bool
         Action::RemoveObjectFromFolder => g.rights.write && is_filed_kind(g) && !g.kind.folder,
         Action::RemovePolicy => g.rights.write && g.rules.policies,
         Action::SetContentStream => {
-            g.kind.document && g.rights.write && g.stage.changeable && !g.rules.bars_content
+            g.kind.document
+                && g.rights.write
+                && g.stage.changeable
+                && !g.stage.held
+                && !g.rules.bars_content
         }
         Action::UpdateProperties => g.rights.write && g.stage.changeable,
     }

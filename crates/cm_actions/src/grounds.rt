@@ -13,6 +13,7 @@ use cm_state::open::ROOT;
 use cm_state::state::State;
 use cm_types::definition::BaseType;
 use wr_rules::content::{bars_content, needs_content};
+use wr_rules::retention::is_under_hold;
 use wr_rules::versions::{is_checked_out, is_versionable, is_working_copy, judge_changeable};
 
 /// What the caller may do (CMIS 1.1, section 2.1.12).
@@ -52,7 +53,7 @@ pub struct Rules {
     pub access: bool,
 }
 
-/// Where it stands in its version series (CMIS 1.1, section 2.1.13), and whether it has content.
+/// Where it stands in its version series (CMIS 1.1, section 2.1.13), whether it has content, and whether a hold names it.
 #[derive(Clone, Copy)]
 pub struct Stage {
     /// It is the working copy.
@@ -65,6 +66,8 @@ pub struct Stage {
     pub changeable: bool,
     /// It has content.
     pub filled: bool,
+    /// It is under hold (CMIS 1.1, section 2.1.16.2).
+    pub held: bool,
 }
 
 /// All on what the allowed actions depend.
@@ -140,6 +143,7 @@ fn stage_of(state: &State, x: &Object) -> Stage
         checked_out: is_checked_out(state, x),
         changeable: judge_changeable(state, x).is_ok(),
         filled: state.content(x.id).is_some(),
+        held: is_under_hold(state, x),
     }
 }
 

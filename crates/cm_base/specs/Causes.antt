@@ -1,6 +1,7 @@
 -- The causes of refusals: the exception, the fixed text of the message, and the kept values as texts.
 use Rattle.std.specs.Prelude.{ℕ, List, [], ◌∷◌, ◌++◌, codes, decimal}
 use Rattle.std.specs.List.{flat_map}
+use Rattle.std.specs.Fmt.{signed_decimal}
 use Rattle.cm_base.specs.declared.exception.Exception.{Exception}
 use Rattle.cm_base.specs.declared.exception.Exception.TheVariants as exceptions
 use Rattle.cm_base.specs.declared.cause.PropertyFault.{PropertyFault}
@@ -78,6 +79,9 @@ cause_row causes.ContentExists = (exceptions.ContentAlreadyExists, (codes "conte
 cause_row causes.ContentRequired = (exceptions.Constraint, (codes "content is required", []))
 cause_row causes.StreamLong = (exceptions.Constraint, (codes "content is too long", []))
 cause_row causes.NoContent = (exceptions.Constraint, (codes "content is not there", []))
+cause_row causes.Held = (exceptions.Constraint, (codes "object is under hold", []))
+cause_row (causes.Retained moment expiration) = (exceptions.Constraint, (codes "object is under retention", signed_decimal moment.0 ∷ signed_decimal expiration.0 ∷ []))
+cause_row (causes.Shortened moment expiration) = (exceptions.Constraint, (codes "retention is shortened", signed_decimal moment.0 ∷ signed_decimal expiration.0 ∷ []))
 cause_row (causes.TooMany count) = (exceptions.Constraint, (codes "answer is too long", decimal count ∷ []))
 cause_row (causes.QueryText place) = (exceptions.InvalidArgument, (codes "query is not valid", decimal place ∷ []))
 cause_row (causes.QueryName name) = (exceptions.InvalidArgument, (codes "query name is not known", name ∷ []))

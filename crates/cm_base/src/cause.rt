@@ -1,9 +1,12 @@
 //! Causes of refusals: each has an exception, a status and a message of its own.
-ghost use Rattle.std.specs.Prelude.{◌≡◌, IfOk, string_bytes};
+ghost use Rattle.std.specs.Prelude.{◌≡◌, ◌∷◌, [], ◌++◌, codes, IfOk, string_bytes};
+ghost use Rattle.std.specs.List.{flat_map};
+ghost use Rattle.std.specs.Fmt.{signed_decimal};
 ghost use Rattle.cm_base.specs.Causes.{exception_of, cause_status, fixed_text, message_of, fault_word, property_exception_of};
 
 use crate::argument::Argument;
 use crate::exception::Exception;
+use crate::number::Moment;
 use crate::text::Text;
 use std::alloc::{AllocError, Global};
 
@@ -151,6 +154,12 @@ pub enum Cause {
     StreamLong,
     /// There is no content.
     NoContent,
+    /// The document is under hold.
+    Held,
+    /// The document is under retention: the moment of the write, and the expiration.
+    Retained(Moment, Moment),
+    /// The retention would end earlier: the moment of the write, and the expiration as it is.
+    Shortened(Moment, Moment),
     /// The answer would list so many objects, more than 5000.
     TooMany(u64),
     /// The query text has a fault at this byte.
@@ -230,6 +239,9 @@ impl Cause {
             Cause::ContentRequired => Exception::Constraint,
             Cause::StreamLong => Exception::Constraint,
             Cause::NoContent => Exception::Constraint,
+            Cause::Held => Exception::Constraint,
+            Cause::Retained(_, _) => Exception::Constraint,
+            Cause::Shortened(_, _) => Exception::Constraint,
             Cause::TooMany(_) => Exception::Constraint,
             Cause::QueryText(_) => Exception::InvalidArgument,
             Cause::QueryName(_) => Exception::InvalidArgument,
@@ -314,6 +326,9 @@ impl Cause {
             Cause::ContentRequired => "content is required",
             Cause::StreamLong => "content is too long",
             Cause::NoContent => "content is not there",
+            Cause::Held => "object is under hold",
+            Cause::Retained(_, _) => "object is under retention",
+            Cause::Shortened(_, _) => "retention is shortened",
             Cause::TooMany(_) => "answer is too long",
             Cause::QueryText(_) => "query is not valid",
             Cause::QueryName(_) => "query name is not known",
@@ -358,6 +373,18 @@ impl Cause {
                 let fault = fault.word();
                 format!(in alloc; "{text} {id} {fault}")
             }
+            Cause::Retained(moment, expiration) => with_moments(
+                alloc,
+                text,
+                moment.0,
+                expiration.0,
+            ),
+            Cause::Shortened(moment, expiration) => with_moments(
+                alloc,
+                text,
+                moment.0,
+                expiration.0,
+            ),
             Cause::TooMany(count) => { format!(in alloc; "{text} {count}") }
             Cause::QueryText(place) => { format!(in alloc; "{text} {place}") }
             Cause::QueryName(name) => {
@@ -376,6 +403,26 @@ impl Cause {
         };
         Ok(Text::from_string(message?))
     }
+}
+
+// A blank and a moment, in milliseconds since 1970.
+fn behind_blank(alloc: Global, moment: i64) -> Result<String, AllocError>
+    ensures { IfOk result (λ s. string_bytes s ≡ codes " " ++ signed_decimal moment) }
+{
+    format!(in alloc; " {moment}")
+}
+
+// A text and two moments behind it.
+fn with_moments(alloc: Global, text: &str, first: i64, second: i64) -> Result<String, AllocError>
+    ensures { IfOk result (λ s. string_bytes s ≡ text.now ++ flat_map (λ v. codes " " ++ v) (signed_decimal first ∷ signed_decimal second ∷ [])) }
+{
+    let first = behind_blank(alloc, first)?;
+    let second = behind_blank(alloc, second)?;
+    let mut all = String::new(alloc);
+    all.push_str(text)?;
+    all.push_str(first.as_str())?;
+    all.push_str(second.as_str())?;
+    Ok(all)
 }
 
 // A value of another form is an argument that is not valid; every other fault breaks a constraint.

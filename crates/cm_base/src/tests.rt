@@ -7,6 +7,7 @@ use crate::decimal::{read_i64, read_u64};
 use crate::items::Items;
 use crate::media::MediaType;
 use crate::name::name_ok;
+use crate::number::Moment;
 use crate::series::VersioningState;
 use crate::steps::Steps;
 use crate::text::Text;
@@ -154,6 +155,7 @@ fn causes_of_types_and_values(rt: HostRuntime) {
     assert!(rt; is_row(&Cause::ContentRequired, 6, 409, "content is required"));
     assert!(rt; is_row(&Cause::StreamLong, 6, 409, "content is too long"));
     assert!(rt; is_row(&Cause::NoContent, 6, 409, "content is not there"));
+    assert!(rt; is_row(&Cause::Held, 6, 409, "object is under hold"));
     assert!(rt; is_row(&Cause::TooMany(5001), 6, 409, "answer is too long"));
 }
 
@@ -207,6 +209,20 @@ fn messages_have_the_kept_values(rt: HostRuntime) {
         )
     );
     assert!(rt; says(alloc, &Cause::StepAhead(5, 2), "step is ahead 5 2"));
+    assert!(rt;
+        says(
+            alloc,
+            &Cause::Retained(Moment(1000), Moment(2000)),
+            "object is under retention 1000 2000"
+        )
+    );
+    assert!(rt;
+        says(
+            alloc,
+            &Cause::Shortened(Moment(1000), Moment(2000)),
+            "retention is shortened 1000 2000"
+        )
+    );
     assert!(rt;
         says(
             alloc,

@@ -1,10 +1,13 @@
-//! The base types.
+//! The base types, and the two secondary types of retention and holds.
 ghost use Rattle.std.specs.Prelude.{◌≡◌, ◌++◌, ◌∷◌, [], IfOk, map, true, false};
 ghost use Rattle.cm_types.specs.declared.definition.BaseType.TheVariants as bases;
 ghost use Rattle.cm_types.specs.declared.definition.ContentAllowed.TheVariants.{NotAllowed, Allowed};
-ghost use Rattle.cm_types.specs.BaseTypes.{common_props, version_props, content_props, folder_props, relationship_props, policy_props, base_def, base_row, base_types};
+ghost use Rattle.cm_types.specs.BaseTypes.{common_props, version_props, content_props, folder_props, relationship_props, policy_props, base_def, base_row, secondary_row, retention_type, hold_type, first_types, base_types};
 
-use crate::props::{common_props, document_props, folder_props, policy_props, relationship_props};
+use crate::props::{
+    common_props, document_props, folder_props, hold_props, policy_props, relationship_props,
+    retention_props,
+};
 use cm_base::items::Items;
 use cm_base::text::Text;
 use cm_type_list::types::Types;
@@ -176,9 +179,40 @@ fn table(alloc: Global, bases: &[BaseType]) -> Result<TypeDefs, AllocError>
     Ok(all)
 }
 
-/// The six base types, in byte order of their ids.
-pub fn base_types(alloc: Global) -> Result<Types, AllocError>
-    ensures { IfOk result (λ types. types ≡ base_types) }
+// A type below cmis:secondary that is queryable.
+fn secondary_row(alloc: Global, id: &str, properties: &PropDefs) -> Result<TypeDef, AllocError>
+    ensures { IfOk result (λ t. t ≡ secondary_row id.now properties.now) }
+{
+    let top = secondary_type(alloc)?;
+    let sorted = sorted_props(alloc, properties.as_slice())?;
+    Ok(TypeDef {
+        id: Text::from_str(alloc, id)?,
+        local_name: Text::from_str(alloc, id)?,
+        display_name: Text::from_str(alloc, id)?,
+        query_name: Text::from_str(alloc, id)?,
+        parent: Some(Text::from_str(alloc, "cmis:secondary")?),
+        queryable: true,
+        properties: sorted,
+        ..top
+    })
+}
+
+fn retention_type(alloc: Global) -> Result<TypeDef, AllocError>
+    ensures { IfOk result (λ t. t ≡ retention_type) }
+{
+    let properties = retention_props(alloc)?;
+    secondary_row(alloc, "cmis:rm_clientMgtRetention", &properties)
+}
+
+fn hold_type(alloc: Global) -> Result<TypeDef, AllocError>
+    ensures { IfOk result (λ t. t ≡ hold_type) }
+{
+    let properties = hold_props(alloc)?;
+    secondary_row(alloc, "cmis:rm_hold", &properties)
+}
+
+fn first_types(alloc: Global) -> Result<TypeDefs, AllocError>
+    ensures { IfOk result (λ all. all ≡ first_types) }
 {
     let bases = [
         BaseType::Document,
@@ -188,7 +222,20 @@ pub fn base_types(alloc: Global) -> Result<Types, AllocError>
         BaseType::Item,
         BaseType::Secondary,
     ];
-    let defs = table(alloc, &bases)?;
+    let mut all = table(alloc, &bases)?;
+    let retention = retention_type(alloc)?;
+    all.push(retention)?;
+    let hold = hold_type(alloc)?;
+    all.push(hold)?;
+    Ok(all)
+}
+
+/// The types with which a repository begins: the six base types and the secondary types of retention and holds, in byte
+/// order of their ids (CMIS 1.1, sections 2.1.3 and 2.1.16).
+pub fn base_types(alloc: Global) -> Result<Types, AllocError>
+    ensures { IfOk result (λ types. types ≡ base_types) }
+{
+    let defs = first_types(alloc)?;
     let types = Types::from_defs(alloc, &defs)?;
     Ok(types)
 }

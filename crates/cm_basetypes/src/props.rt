@@ -1,7 +1,7 @@
-//! The properties of the base types.
+//! The properties of the base types, and of the types of retention and holds.
 ghost use Rattle.std.specs.Prelude.{◌≡◌, ◌++◌, IfOk, OnOk, map};
 ghost use Rattle.cm_types.specs.Changes.{is_single};
-ghost use Rattle.cm_types.specs.BaseTypes.{prop, common_props, version_props, content_props, folder_props, relationship_props, policy_props};
+ghost use Rattle.cm_types.specs.BaseTypes.{prop, common_props, version_props, content_props, folder_props, relationship_props, policy_props, retention_props, hold_props};
 
 use cm_base::items::Items;
 use cm_base::text::Text;
@@ -295,5 +295,48 @@ pub fn policy_props(alloc: Global) -> Result<PropDefs, AllocError>
 {
     let mut all = common_props(alloc)?;
     add_policy_props(alloc, &mut all)?;
+    Ok(all)
+}
+
+/// The properties of what is under retention (CMIS 1.1, section 2.1.16.1).
+pub fn retention_props(alloc: Global) -> Result<PropDefs, AllocError>
+    ensures { IfOk result (λ all. all ≡ retention_props) }
+{
+    use Cardinality::Single;
+    use PropertyKind::Datetime;
+    use Updatability::ReadWrite;
+    let mut all = Items::new(alloc);
+    let rows = [
+        (
+            "cmis:rm_expirationDate",
+            Datetime,
+            Single,
+            ReadWrite,
+            false,
+            true,
+        ),
+        (
+            "cmis:rm_startOfRetention",
+            Datetime,
+            Single,
+            ReadWrite,
+            false,
+            true,
+        ),
+    ];
+    add_rows(alloc, &mut all, &rows)?;
+    Ok(all)
+}
+
+/// The properties of what is under hold (CMIS 1.1, section 2.1.16.2).
+pub fn hold_props(alloc: Global) -> Result<PropDefs, AllocError>
+    ensures { IfOk result (λ all. all ≡ hold_props) }
+{
+    use Cardinality::Multi;
+    use PropertyKind::String;
+    use Updatability::ReadWrite;
+    let mut all = Items::new(alloc);
+    let rows = [("cmis:rm_holdIds", String, Multi, ReadWrite, false, true)];
+    add_rows(alloc, &mut all, &rows)?;
     Ok(all)
 }

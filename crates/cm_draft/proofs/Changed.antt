@@ -25,7 +25,6 @@ module _ (s : Inside) (filing : List FilingEntry) (ps : List Filed) (e : filing 
   pub refiled_parts : IsParts s → IsParts (record s { filing = filing })
   refiled_parts is = record {
     told = (made (entry_by (arc_value s.types) s.lists.series s.lists.objects) (own_pair (arc_value s.types) s.lists.series s.lists.objects) filing ps e).1;
-    no_groups = is.no_groups;
   }
 
 -- ---- lists with another object or series of one number, and its entries told anew
@@ -44,7 +43,6 @@ module _ (s : Inside) (types : List TypeDef) (here : types ≡ arc_value s.types
   pub retold_parts : IsParts (record s { filing = filing; lists = new; next = next })
   retold_parts = record {
     told = settled.1 ∙ ap (λ l. map (entry_by (arc_value s.types) l.series l.objects) (pairs_of filing)) (sym at);
-    no_groups = is.no_groups;
   }
 
 -- ---- lists in which no object and no series is another
@@ -53,15 +51,13 @@ module _ (s : Inside) (new : Lists) (objects : new.objects ≡ s.lists.objects) 
   pub beside_parts : IsParts s → IsParts (record s { lists = new })
   beside_parts is = record {
     told = is.told ∙ (λ i. map (entry_by (arc_value s.types) (sym series i) (sym objects i)) (pairs_of s.filing));
-    no_groups = is.no_groups;
   }
 
 -- ---- other types
 
-pub retyped_parts : (s s' : Inside) (types : List TypeDef) → arc_value s'.types ≡ types → s'.filing ≡ s.filing → s'.lists ≡ s.lists → (arc_value s'.people).no_groups ≡ (arc_value s.people).no_groups
+pub retyped_parts : (s s' : Inside) (types : List TypeDef) → arc_value s'.types ≡ types → s'.filing ≡ s.filing → s'.lists ≡ s.lists
     → All (λ x. is_of_base types bases.Folder x.kind ≡ is_of_base (arc_value s.types) bases.Folder x.kind) s.lists.objects → IsParts s → IsParts s'
-retyped_parts s s' types at filing lists people same_folders is = record {
+retyped_parts s s' types at filing lists same_folders is = record {
   told = filing ∙ (is.told ∙ (filed_typed (arc_value s.types) s.lists.series s.lists.objects types same_folders (pairs_of s.filing)
       ∙ (λ i. map (entry_by (sym at i) (sym lists i).series (sym lists i).objects) (pairs_of (sym filing i)))));
-  no_groups = people ∙ is.no_groups;
 }

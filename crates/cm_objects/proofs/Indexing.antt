@@ -9,12 +9,9 @@ use Rattle.cm_base.specs.declared.number.Oid.{Oid}
 use Rattle.cm_base.specs.declared.object.Object.{Object}
 use Rattle.cm_lists.specs.Keyed.{Rises}
 use Rattle.cmis_spec.specs.Repository.{same}
-use Rattle.cmis_spec.specs.Removal.{ends_of, is_id_of}
 use Rattle.cm_index.specs.declared.index_key.IndexKey.{IndexKey}
-use Rattle.cm_index.specs.declared.index_key.IndexKey.TheVariants as keys
 use Rattle.cm_index.specs.Pairs.{same_key}
 use Rattle.cm_objects.specs.Indexed.{keys_of, keys_at, is_pair_of, is_keyed}
-use Rattle.cm_objects.proofs.Ends.{is_end}
 use Rattle.cm_objects.proofs.Rising.{by_test, same_eq, same_refl, differ}
 
 -- ---- booleans
@@ -95,16 +92,18 @@ keyed_put m p (x ∷ xs) there = by_test (same x.id m.id)
     over : (x put rest new : Bool) → put ≡ (rest || new) → (x || put) ≡ ((x || rest) || new)
     over x put rest new h = grind (arith, h)
 
--- ---- those that name an object as an end
+-- ---- those that have a key
 
-pub tied_members : (n m : Oid) (xs : List Object) → is_keyed xs (keys.End n, m) ≡ list_any (same m) (map (λ x. x.id) (filter (λ x. list_any (is_id_of n) (ends_of x)) xs))
-tied_members n m [] = refl
-tied_members n m (x ∷ xs) = (λ i. turned x.id m i && is_end n (ends_of x) i || tied_members n m xs i) ∙ by (list_any (is_id_of n) (ends_of x))
+turned : (a b : Oid) → same a b ≡ same b a
+turned a b = grind arith
+
+-- the numbers beside a key are those of the objects that pass a test, where each object has the key exactly if it passes
+pub members_of : (key : IndexKey) (test : Object → Bool) (m : Oid) → ((x : Object) → list_any (same_key key) (keys_of x) ≡ test x) → (xs : List Object)
+    → is_keyed xs (key, m) ≡ list_any (same m) (map (λ x. x.id) (filter test xs))
+members_of key test m fits [] = refl
+members_of key test m fits (x ∷ xs) = (λ i. turned x.id m i && fits x i || members_of key test m fits xs i) ∙ by (test x)
   where
-    turned : (a b : Oid) → same a b ≡ same b a
-    turned a b = grind arith
-
-    by : (b : Bool) → (same m x.id && b || list_any (same m) (map (λ x. x.id) (filter (λ x. list_any (is_id_of n) (ends_of x)) xs)))
-        ≡ list_any (same m) (map (λ x. x.id) (if b then x ∷ filter (λ x. list_any (is_id_of n) (ends_of x)) xs else filter (λ x. list_any (is_id_of n) (ends_of x)) xs))
+    by : (b : Bool) → (same m x.id && b || list_any (same m) (map (λ x. x.id) (filter test xs)))
+        ≡ list_any (same m) (map (λ x. x.id) (if b then x ∷ filter test xs else filter test xs))
     by true = grind arith
     by false = grind arith

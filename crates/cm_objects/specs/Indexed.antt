@@ -1,5 +1,5 @@
 -- What objects are looked up by.
-use Rattle.std.specs.Prelude.{◌≡◌, Bool, ◌&&◌, List, [], ℕ, Option, unwrap_or, option_map, option_and_then, find}
+use Rattle.std.specs.Prelude.{◌≡◌, Bool, ◌&&◌, List, [], ◌∷◌, ◌++◌, map, ℕ, Option, unwrap_or, option_map, option_and_then, find}
 use Rattle.std.specs.List.{list_any, filter_map}
 use Rattle.cm_base.specs.declared.number.Oid.{Oid}
 use Rattle.cm_base.specs.declared.object.Object.{Object}
@@ -19,9 +19,9 @@ end_key id = option_map keys.End (oid_named id)
 abbrev pub scalar_key : Scalar → Option IndexKey
 scalar_key s = option_and_then end_key (text_of_scalar s)
 
--- the keys of an object: the ends that it names (CMIS 1.1, section 2.1.6)
+-- the keys of an object: the ends that it names (CMIS 1.1, section 2.1.6), its type and its secondary types
 abbrev pub keys_of : Object → List IndexKey
-keys_of x = filter_map end_key (ends_of x)
+keys_of x = filter_map end_key (ends_of x) ++ map keys.Kind (x.kind ∷ x.secondary)
 
 -- the keys of the object of this number
 abbrev pub keys_at : List Object → Oid → List IndexKey

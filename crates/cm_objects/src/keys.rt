@@ -1,10 +1,13 @@
 //! What an object is looked up by.
-ghost use Rattle.std.specs.Prelude.{◌≡◌, ◌++◌, [], ◌∷◌, OnOk, IfOk, find, bytes_eq};
+ghost use Rattle.std.specs.Prelude.{◌≡◌, ◌++◌, [], ◌∷◌, OnOk, IfOk, find, map, bytes_eq};
 ghost use Rattle.std.specs.Option.{option_copied};
 ghost use Rattle.std.specs.List.{filter_map};
 ghost use Rattle.cm_types.specs.Properties.{value_in, scalars_of};
+ghost use Rattle.cmis_spec.specs.Removal.{ends_of};
+ghost use Rattle.cm_index.specs.declared.index_key.IndexKey.TheVariants.{Kind};
 ghost use Rattle.cm_objects.specs.Indexed.{end_key, scalar_key, keys_of};
 
+use cm_base::copies::Copies;
 use cm_base::decimal::read_u64;
 use cm_base::items::Items;
 use cm_base::number::Oid;
@@ -80,12 +83,39 @@ fn push_named(keys: &mut Keys, x: &Object, id: &str) -> Result<(), AllocError>
     }
 }
 
-/// The keys of the object. For an object that names no ends it takes no memory.
-pub fn keys_of(alloc: Global, x: &Object) -> Result<Keys, AllocError>
-    ensures { IfOk result (λ ks. ks ≡ keys_of x.now) }
+// The ends that the object names.
+fn ends_of(alloc: Global, x: &Object) -> Result<Keys, AllocError>
+    ensures { IfOk result (λ ks. ks ≡ filter_map end_key (ends_of x.now)) }
 {
     let mut keys = Items::new(alloc);
     push_named(&mut keys, x, "cmis:sourceId")?;
     push_named(&mut keys, x, "cmis:targetId")?;
+    Ok(keys)
+}
+
+// A type.
+fn push_type(alloc: Global, keys: &mut Keys, id: &Text) -> Result<(), AllocError>
+    ensures { OnOk result (keys.new ≡ keys.old ++ Kind id.now ∷ []) }
+{
+    let id = id.copied(alloc)?;
+    keys.push(IndexKey::Kind(id))
+}
+
+fn push_types(alloc: Global, keys: &mut Keys, ids: &[Text]) -> Result<(), AllocError>
+    ensures { OnOk result (keys.new ≡ keys.old ++ map Kind ids.now) }
+{
+    for id in ids {
+        push_type(alloc, keys, id)?;
+    }
+    Ok(())
+}
+
+/// The keys of the object.
+pub fn keys_of(alloc: Global, x: &Object) -> Result<Keys, AllocError>
+    ensures { IfOk result (λ ks. ks ≡ keys_of x.now) }
+{
+    let mut keys = ends_of(alloc, x)?;
+    push_type(alloc, &mut keys, &x.kind)?;
+    push_types(alloc, &mut keys, x.secondary.as_slice())?;
     Ok(keys)
 }

@@ -4,14 +4,17 @@ ghost use Rattle.std.specs.Option.{option_copied};
 ghost use Rattle.std.specs.List.{list_any};
 ghost use Rattle.cm_lists.specs.Keyed.{Rises};
 ghost use Rattle.cm_index.specs.Pairs.{has_pair};
+ghost use Rattle.cmis_spec.specs.Repository.{is_of_type};
 ghost use Rattle.cmis_spec.specs.Removal.{ends_of, is_id_of};
 ghost use Rattle.cm_objects.specs.Indexed.{keys_at, is_pair_of, is_keyed};
 
 use crate::keys::{Keys, keys_of};
 use crate::pairs::{with_pairs, without_pairs};
+use cm_base::copies::Copies;
 use cm_base::items::Items;
 use cm_base::number::{Oid, Oids};
 use cm_base::object::Object;
+use cm_base::text::Text;
 use cm_index::index::Index;
 use cm_index::index_key::IndexKey;
 use cm_lists::table::Table;
@@ -125,6 +128,17 @@ impl Objects {
     {
         let _rising = self.table.len();
         let ids = self.index.of_key(alloc, &IndexKey::End(n))?;
+        Ok(ids)
+    }
+
+    /// The numbers of the objects that have this type, or have it as a secondary type, rising. It looks at them and at a bounded
+    /// number of others.
+    pub fn of_type(&self, alloc: Global, id: &Text) -> Result<Oids, AllocError>
+        ensures { IfOk result (λ ns. ns ≡ map (λ x. x.id) (filter (is_of_type id.now) self.now)) }
+    {
+        let _rising = self.table.len();
+        let key = IndexKey::Kind(id.copied(alloc)?);
+        let ids = self.index.of_key(alloc, &key)?;
         Ok(ids)
     }
 

@@ -1,4 +1,4 @@
--- A repository may begin with the base types.
+-- A repository may begin with the base types and those of retention and holds.
 use Rattle.std.specs.Prelude.{◌≡◌, ◌≤◌, ℕ, Bool, true, false, ◌&&◌, ◌||◌, not, List, [], ◌∷◌, ◌++◌, map, find, All, Option, Some, option_map, bytes_eq, codes}
 use Rattle.std.specs.List.{list_all, list_any}
 use Rattle.core.specs.declared.cmp.Ordering.{Ordering}
@@ -11,6 +11,7 @@ use Rattle.cmis_laws.proofs.Kept.{bytes_true}
 use Rattle.std.proofs.lemmas.List.Elements.{All-nil, All-cons, All-weaker}
 use Rattle.cm_base.specs.declared.number.Moment.{Moment}
 use Rattle.cm_base.specs.declared.user.User.{User}
+use Rattle.cm_base.specs.declared.user.Group.{Group}
 use Rattle.cm_base.specs.declared.value.Scalar.TheVariants.{Words}
 use Rattle.cm_base.specs.declared.value.Value.TheVariants.{Unset}
 use Rattle.cm_types.specs.declared.definition.TypeDef.{TypeDef}
@@ -23,10 +24,10 @@ use Rattle.cm_types.specs.Changes.{base_id}
 use Rattle.cm_types.specs.Sound.{IsSoundDef}
 use Rattle.cm_types.proofs.Sound.{row_is_sound}
 use Rattle.cm_types.specs.Properties.{is_faulty, is_of_kind, is_too_long, is_no_choice}
-use Rattle.cm_types.specs.BaseTypes.{prop, common_props, version_props, content_props, folder_props, relationship_props, policy_props, base_types}
+use Rattle.cm_types.specs.BaseTypes.{prop, common_props, version_props, content_props, folder_props, relationship_props, policy_props, retention_props, hold_props, base_types}
 use Rattle.cmis_spec.specs.Values.{words, texts}
 use Rattle.cmis_spec.specs.Repository.{opening, most_steps, last_of}
-use Rattle.cmis_spec.specs.Well.{Apart, MayOpen, IsWellFormed, root_value, ends_at_base, HasBases, IsRooted, Agrees, TakesTexts, IsDef, HasDefs, define_apart}
+use Rattle.cmis_spec.specs.Well.{Apart, MayOpen, IsWellFormed, root_value, ends_at_base, HasBases, IsRooted, Agrees, TakesTexts, IsDef, HasDefs, HasGroups, define_apart}
 use Rattle.cmis_laws.proofs.Opening.{opening_is}
 use Rattle.cmis_laws.proofs.Lists.{by_test, some_eq, all_zip, apart_weaker}
 
@@ -81,7 +82,7 @@ apart_by_test f (x ∷ xs) h = (
 -- ---- the table of properties
 
 abbrev all_props : List PropDef
-all_props = common_props ++ (version_props ++ (content_props ++ (folder_props ++ (relationship_props ++ policy_props))))
+all_props = common_props ++ (version_props ++ (content_props ++ (folder_props ++ (relationship_props ++ (policy_props ++ (retention_props ++ hold_props))))))
 
 abbrev in_table : List ℕ → Option PropDef
 in_table id = find (λ p. bytes_eq p.id id) all_props
@@ -231,5 +232,6 @@ base_types_may_open = record {
   root = root_fits;
 }
 
-pub opens : (types : List TypeDef) (users : List User) (m : Moment) (n : ℕ) → types ≡ base_types → n ≤ most_steps → IsWellFormed (opening types users m n)
-opens types users m n e bound = opening_is types users m n (subst MayOpen (sym e) base_types_may_open) bound
+pub opens : (types : List TypeDef) (users : List User) (groups : List Group) (m : Moment) (n : ℕ) → types ≡ base_types → HasGroups (map (λ u. u.name) users) groups → n ≤ most_steps
+    → IsWellFormed (opening types users groups m n)
+opens types users groups m n e g bound = opening_is types users groups m n (subst MayOpen (sym e) base_types_may_open) g bound

@@ -1,4 +1,5 @@
 mod Among
 mod Looked
+mod Noted
 pub mod Numbers
 mod Stands

@@ -7,7 +7,7 @@ use Rattle.cm_base.specs.declared.series.Series.{Series}
 use Rattle.cm_base.specs.declared.access.AccessList.{AccessList}
 use Rattle.cm_base.specs.declared.content.Content.{Content}
 use Rattle.cm_base.specs.declared.content.Rendition.{Rendition}
-use Rattle.cmis_spec.specs.Repository.{Repository, same, object_at, series_at, latest_version, entry_of, entry_name, is_filed}
+use Rattle.cmis_spec.specs.Repository.{Repository, same, object_at, series_at, latest_version, entry_of, entry_name, is_filed, is_of_type}
 use Rattle.cmis_spec.specs.Access.{stands}
 use Rattle.cmis_spec.specs.Removal.{ends_of, is_id_of}
 
@@ -57,6 +57,10 @@ standing_in r f = filter (λ x. is_filed r f (entry_of x) && stands r x) r.objec
 -- the objects that name this one as an end, as relationships do (CMIS 1.1, section 2.1.6), in the order of their numbers
 abbrev pub tied_to : Repository → Oid → List Oid
 tied_to r n = map (λ x. x.id) (filter (λ x. list_any (is_id_of n) (ends_of x)) r.objects)
+
+-- the numbers of the objects of a type, also of those that have it as a secondary type
+abbrev pub numbers_of_type : Repository → List ℕ → List Oid
+numbers_of_type r id = map (λ x. x.id) (filter (is_of_type id) r.objects)
 
 abbrev pub numbers_in : Repository → Oid → List Oid
 numbers_in r f = map (λ x. x.id) (standing_in r f)

@@ -7,6 +7,7 @@ pub mod lists;
 pub mod look;
 pub mod open;
 pub mod parts;
+pub mod people;
 mod standing;
 pub mod state;
 pub mod told;

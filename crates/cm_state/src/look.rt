@@ -5,7 +5,7 @@ ghost use Rattle.std.specs.Option.{option_copied};
 ghost use Rattle.cm_types.specs.Types.{type_in};
 ghost use Rattle.cmis_spec.specs.Repository.{object_at, series_at, series_of, owner_of, is_latest, latest_version, is_a, parent_in, is_filed, entry_of, entry_name, is_taken};
 ghost use Rattle.cmis_spec.specs.Access.{stands, groups_of};
-ghost use Rattle.cm_state.specs.Looks.{list_at, content_at, rendition_at, entries_in, folders_in, child_in, own_at, standing_at, tied_to};
+ghost use Rattle.cm_state.specs.Looks.{list_at, content_at, rendition_at, entries_in, folders_in, child_in, own_at, standing_at, tied_to, numbers_of_type};
 
 use crate::parts::Parts;
 use crate::told::is_of_base;
@@ -73,15 +73,14 @@ impl Parts {
     pub fn users(&self) -> &Texts
         ensures { result.now ≡ self.now.users }
     {
-        &self.people.users
+        self.people.users()
     }
 
-    /// The names of the groups that have the user as a member.
+    /// The names of the groups that have the user as a member; of anybody else none.
     pub fn groups_of(&self, user: &Text) -> &Texts
         ensures { result.now ≡ groups_of self.now user.now }
     {
-        let _ = user;
-        &self.people.no_groups
+        self.people.groups_of(user)
     }
 
     /// The series of this number.
@@ -168,6 +167,14 @@ impl Parts {
         ensures { IfOk result (λ ns. ns ≡ tied_to self.now n) }
     {
         self.lists.objects.tied(alloc, n)
+    }
+
+    /// The numbers of the objects that have this type, or have it as a secondary type, rising. It looks at them and at a bounded
+    /// number of others.
+    pub fn of_type(&self, alloc: Global, id: &Text) -> Result<Oids, AllocError>
+        ensures { IfOk result (λ ns. ns ≡ numbers_of_type self.now id.now) }
+    {
+        self.lists.objects.of_type(alloc, id)
     }
 
     /// The number of objects.

@@ -4,7 +4,8 @@ ghost use Rattle.cmis_spec.specs.Repository.{opening, root, root_folder, root_ac
 ghost use Rattle.cmis_spec.specs.Well.{IsWellFormed};
 
 use crate::lists::Lists;
-use crate::parts::{Parts, People};
+use crate::parts::Parts;
+use crate::people::People;
 use crate::state::State;
 use cm_base::access::{AccessList, Ace, Aces, Level};
 use cm_base::copies::Copies;
@@ -12,7 +13,7 @@ use cm_base::items::Items;
 use cm_base::number::{Moment, Oid};
 use cm_base::object::Object;
 use cm_base::text::{Text, Texts};
-use cm_base::user::{User, Users};
+use cm_base::user::{Groups, User, Users};
 use cm_folder::filing::Filing;
 use cm_lists::sequence::Sequence;
 use cm_lists::table::Table;
@@ -118,16 +119,17 @@ fn first_lists(alloc: Global, folder: Object, aces: Aces) -> Result<Lists, Alloc
 }
 
 impl State {
-    /// The repository with the root alone, made by the first user at this moment, with this step number.
+    /// The repository of these users and groups with the root alone, made by the first user at this moment, with this step number.
     pub fn opening(
         alloc: Global,
         types: Types,
         users: &Users,
+        groups: Groups,
         moment: Moment,
         first_step: u64,
     ) -> Result<State, AllocError>
-        requires well { IsWellFormed (opening types users.now moment first_step) }
-        ensures { IfOk result (λ s. s ≡ opening types users.now moment first_step) }
+        requires well { IsWellFormed (opening types users.now groups moment first_step) }
+        ensures { IfOk result (λ s. s ≡ opening types users.now groups moment first_step) }
     {
         let names = names_of(alloc, users.as_slice())?;
         let administrator = administrator_of(alloc, names.as_slice())?;
@@ -135,10 +137,7 @@ impl State {
         let aces = root_aces(alloc, &administrator)?;
         let lists = first_lists(alloc, root, aces)?;
         let types = Arc::new(alloc, types)?;
-        let people = People {
-            users: names,
-            no_groups: Items::new(alloc),
-        };
+        let people = People::new(alloc, names, groups)?;
         let people = Arc::new(alloc, people)?;
         let parts = Parts {
             types,

@@ -2,20 +2,12 @@
 ghost use Rattle.std.specs.Prelude.{◌≡◌, IfOk};
 
 use crate::lists::Lists;
-use cm_base::text::Texts;
+use crate::people::People;
 use cm_folder::filing::Filing;
 use cm_type_list::types::Types;
 use std::alloc::{AllocError, Global};
 use std::marker::Model;
 use std::sync::Arc;
-
-/// The users.
-#[derive(Drop)]
-pub struct People {
-    pub users: Texts,
-    /// The names of no groups: the empty list.
-    pub no_groups: Texts,
-}
 
 /// The parts of a repository, which need not be well formed, seen as the record of its lists.
 #[derive(Drop)]

@@ -6,7 +6,7 @@ ghost use Rattle.cm_types.specs.Types.{type_in};
 ghost use Rattle.cmis_spec.specs.Repository.{object_at, series_at, series_of, owner_of, is_a, parent_in, is_filed, entry_of, entry_name, is_taken};
 ghost use Rattle.cmis_spec.specs.Access.{stands, groups_of};
 ghost use Rattle.cmis_spec.specs.Well.{IsWellFormed};
-ghost use Rattle.cm_state.specs.Looks.{list_at, content_at, rendition_at, folders_in, numbers_in, tied_to};
+ghost use Rattle.cm_state.specs.Looks.{list_at, content_at, rendition_at, folders_in, numbers_in, tied_to, numbers_of_type};
 
 use crate::parts::Parts;
 use crate::standing::standing_among;
@@ -169,6 +169,14 @@ impl State {
         ensures { IfOk result (λ ns. ns ≡ tied_to self.now n) }
     {
         self.parts.tied(alloc, n)
+    }
+
+    /// The numbers of the objects that have this type, or have it as a secondary type, rising. It looks at them and at a bounded
+    /// number of others.
+    pub fn of_type(&self, alloc: Global, id: &Text) -> Result<Oids, AllocError>
+        ensures { IfOk result (λ ns. ns ≡ numbers_of_type self.now id.now) }
+    {
+        self.parts.of_type(alloc, id)
     }
 
     /// The number of objects.

@@ -1,5 +1,5 @@
--- The base types: one table of their properties and one of their attributes (CMIS 1.1, sections 2.1.3 and 2.1.4).
-use Rattle.std.specs.Prelude.{ℕ, Bool, true, false, ◌&&◌, List, [], ◌∷◌, ◌++◌, map, None, codes}
+-- The types that are always there: one table of their properties and one of their attributes (CMIS 1.1, sections 2.1.3, 2.1.4 and 2.1.16).
+use Rattle.std.specs.Prelude.{ℕ, Bool, true, false, ◌&&◌, List, [], ◌∷◌, ◌++◌, map, Some, None, codes}
 use Rattle.cm_base.specs.declared.value.Value.TheVariants.{Unset}
 use Rattle.cm_types.specs.declared.property.PropDef.{PropDef}
 use Rattle.cm_types.specs.declared.property.PropertyKind.{PropertyKind}
@@ -133,6 +133,43 @@ base_row bases.Policy = base_def bases.Policy true false true false NotAllowed (
 base_row bases.Item = base_def bases.Item true true true false NotAllowed common_props
 base_row bases.Secondary = base_def bases.Secondary false false false false NotAllowed []
 
+-- ---- the secondary types of retention and holds (section 2.1.16)
+
+abbrev pub retention_props : List PropDef
+retention_props =
+    prop (codes "cmis:rm_expirationDate") Datetime Single ReadWrite false true
+    ∷ prop (codes "cmis:rm_startOfRetention") Datetime Single ReadWrite false true
+    ∷ []
+
+abbrev pub hold_props : List PropDef
+hold_props = prop (codes "cmis:rm_holdIds") String Multi ReadWrite false true ∷ []
+
+-- a type below cmis:secondary: queryable, and else like it
+abbrev pub secondary_row : List ℕ → List PropDef → TypeDef
+secondary_row id properties = record (base_row bases.Secondary) {
+  id = id;
+  local_name = id;
+  display_name = id;
+  query_name = id;
+  parent = Some (codes "cmis:secondary");
+  queryable = true;
+  properties = sorted_props properties;
+}
+
+abbrev pub retention_type : TypeDef
+retention_type = secondary_row (codes "cmis:rm_clientMgtRetention") retention_props
+
+abbrev pub hold_type : TypeDef
+hold_type = secondary_row (codes "cmis:rm_hold") hold_props
+
+-- ---- all of them
+
+-- in no order
+abbrev pub first_types : List TypeDef
+first_types =
+    map base_row (bases.Document ∷ bases.Folder ∷ bases.Relationship ∷ bases.Policy ∷ bases.Item ∷ bases.Secondary ∷ [])
+    ++ retention_type ∷ hold_type ∷ []
+
 -- the list of types with which a repository begins
 abbrev pub base_types : List TypeDef
-base_types = sorted_types (map base_row (bases.Document ∷ bases.Folder ∷ bases.Relationship ∷ bases.Policy ∷ bases.Item ∷ bases.Secondary ∷ []))
+base_types = sorted_types first_types

@@ -6,6 +6,7 @@ use Rattle.outside.specs.Hosts.{HostTold, Begins}
 use Rattle.http_reply.specs.Sent.{TookFront}
 use Rattle.cm_base.specs.declared.number.Moment.{Moment}
 use Rattle.cm_base.specs.declared.user.User.{User}
+use Rattle.cm_base.specs.declared.user.Group.{Group}
 use Rattle.cm_types.specs.BaseTypes.{base_types}
 use Rattle.cm_call.specs.declared.write.Write.{Write}
 use Rattle.cmis_spec.specs.Repository.{Repository, opening}
@@ -19,10 +20,10 @@ use Rattle.cmis_words.specs.declared.serve.Serve.{Serve}
 use Rattle.cm_face.specs.Served.{repository}
 
 -- The links that were served, over one history of the repository with the root alone, which was made at the clock's first word.
-pub record ServedAll {L : Type 0} (source : L → SourceTold) (sink : L → SinkTold) (users : List User) (clock : Option Words) (links : Option (List L)) (last : History Repository Write) (ended : List (Ended L)) : Type 0 where
+pub record ServedAll {L : Type 0} (source : L → SourceTold) (sink : L → SinkTold) (users : List User) (groups : List Group) (clock : Option Words) (links : Option (List L)) (last : History Repository Write) (ended : List (Ended L)) : Type 0 where
   pub root : Moment
   pub begins : IfSome clock (λ w. root ≡ moment_of (first_word w))
-  pub closed : Closed (record { kind = repository; source = source; sink = sink; users = users; links = links }) (opening base_types users root 0) last ended
+  pub closed : Closed (record { kind = repository; source = source; sink = sink; users = users; links = links }) (opening base_types users groups root 0) last ended
 
 -- a host that began with these words, and then gave n links, until this end
 pub record Hosted {L : Type 0} (asked : Serve) (host : HostTold) (links : Option (List L)) (host' : HostTold) (links' : Option (List L)) (n : ℕ) (end : HostEnd) : Type 0 where

@@ -5,6 +5,7 @@ use Rattle.outside.specs.Outside.{SourceTold, SinkTold, Took, Rose}
 use Rattle.http_reply.specs.Sent.{TookFront}
 use Rattle.cm_base.specs.declared.number.Moment.{Moment}
 use Rattle.cm_base.specs.declared.user.User.{User}
+use Rattle.cm_base.specs.declared.user.Group.{Group}
 use Rattle.cm_types.specs.BaseTypes.{base_types}
 use Rattle.cm_call.specs.declared.write.Write.{Write}
 use Rattle.cmis_spec.specs.Repository.{Repository, opening}
@@ -45,11 +46,11 @@ Begins (Some at) clock root words = (root ≡ at) × ((word : ℕ) × (at ≡ mo
 Begins None clock root words = IfSome clock (λ w. (root ≡ moment_of (first_word w)) × (words ≡ Some (rest_words w)))
 
 -- a run that serves one session, over the repository with the root alone
-pub record Piped (users : List User) (at : Option Moment) (from : ℕ) (clock : Option Words) (before : SourceTold) (empty : SinkTold) (after : SourceTold) (full : SinkTold) (status : ℕ) : Type 0 where
+pub record Piped (users : List User) (groups : List Group) (at : Option Moment) (from : ℕ) (clock : Option Words) (before : SourceTold) (empty : SinkTold) (after : SourceTold) (full : SinkTold) (status : ℕ) : Type 0 where
   pub root : Moment
   pub words : Option Words
   pub begins : Begins at clock root words
-  pub served : Served (opening base_types users root from) users words before empty after full status
+  pub served : Served (opening base_types users groups root from) users words before empty after full status
 
 -- what is written for words that are none of the program's
 abbrev pub not_valid : List ℕ
@@ -70,7 +71,7 @@ Ran None clock before empty after full status =
     ⊎ (after ≡ before) × Refused empty full status
 Ran (Some (Pipe asked)) clock before empty after full status =
     Unbegun before empty after full status
-    ⊎ Piped asked.users asked.at asked.from clock before empty after full status
+    ⊎ Piped asked.users asked.groups asked.at asked.from clock before empty after full status
 
 -- 3 and 4 come only where the input, the output failed in this call
 pub record OnlyWhereFailed (before : SourceTold) (empty : SinkTold) (after : SourceTold) (full : SinkTold) (status : ℕ) : Type 0 where

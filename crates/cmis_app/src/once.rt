@@ -2,18 +2,22 @@
 ghost use Rattle.std.specs.Prelude.{◌≡◌, ◌⊎◌, ◌≤◌, ℕ, map, string_bytes, Some, None, IfSome};
 ghost use Rattle.cm_types.specs.BaseTypes.{base_types};
 ghost use Rattle.cmis_spec.specs.Repository.{opening};
+ghost use Rattle.cmis_spec.specs.Well.{HasGroups};
 ghost use Rattle.desk_model.specs.Clocks.{moment_of};
 ghost use Rattle.cmis_words.specs.Programs.{words_of};
 ghost use Rattle.cmis_words.specs.Bounds.{IsMoment};
+ghost use Rattle.cmis_app.specs.Once.{RunsOnce};
 ghost use Rattle.cmis_app.specs.Runs.{status_of, OnlyWhereFailed, always, Refused, Unbegun, Served, Piped, Ran};
 
 use crate::lent::Lent;
 use cm_base::number::Moment;
-use cm_base::user::Users;
+use cm_base::user::{Groups, Users};
 use cm_face::face::Face;
 use cm_opening::open::open;
 use cm_state::state::State;
+use cmis_load::load;
 use cmis_words::laws::words_are_bounded;
+use cmis_words::load::read_load;
 use cmis_words::words::{Pipe, Words, WordsStop, read_words};
 use desk_model::moment_of_word;
 use http_reply::send;
@@ -95,18 +99,26 @@ fn word_of(moment: Moment) -> u64
 
 // Serves a session of which each moment is this one.
 #[tactic(auto, unfolding(cmis_spec::specs::Repository::most_steps))]
-fn at_moment<L: Link>(alloc: Global, users: &Users, moment: Moment, from: u64, link: &mut L) -> u8
+fn at_moment<L: Link>(
+    alloc: Global,
+    users: &Users,
+    groups: Groups,
+    moment: Moment,
+    from: u64,
+    link: &mut L,
+) -> u8
+    requires groups { HasGroups (map (λ u. u.name) users.now) groups }
     requires moment { IsMoment moment }
     requires from { from ≤ 1048576 }
     ensures ran { Unbegun (L.Source.told link.old) (L.Sink.told link.old) (L.Source.told link.new)
         (L.Sink.told link.new) result
         ⊎ ((word : ℕ) × (moment ≡ moment_of word)
-        × Served (opening base_types users.now moment from) users.now (Some (always word)) (L.Source.told link.old)
-        (L.Sink.told link.old) (L.Source.told link.new) (L.Sink.told link.new) result) }
+        × Served (opening base_types users.now groups moment from) users.now (Some (always word))
+        (L.Source.told link.old) (L.Sink.told link.old) (L.Source.told link.new) (L.Sink.told link.new) result) }
     ensures stands_for { L.stands_for link.new ≡ L.stands_for link.old }
 {
     let word = word_of(moment);
-    match open(alloc, users, moment, from) {
+    match open(alloc, users, groups, moment, from) {
         Ok(state) => serve(alloc, state, FixedClock::new(word), users, link),
         Err(_) => WANTS_MEMORY,
     }
@@ -117,37 +129,41 @@ fn at_moment<L: Link>(alloc: Global, users: &Users, moment: Moment, from: u64, l
 fn by_clock<L: Link, C: Clock>(
     alloc: Global,
     users: &Users,
+    groups: Groups,
     from: u64,
     link: &mut L,
     clock: &mut C,
 ) -> u8
+    requires groups { HasGroups (map (λ u. u.name) users.now) groups }
     requires from { from ≤ 1048576 }
     ensures ran { Unbegun (L.Source.told link.old) (L.Sink.told link.old) (L.Source.told link.new)
         (L.Sink.told link.new) result
-        ⊎ Piped users.now None from (C.words clock.old) (L.Source.told link.old) (L.Sink.told link.old)
+        ⊎ Piped users.now groups None from (C.words clock.old) (L.Source.told link.old) (L.Sink.told link.old)
         (L.Source.told link.new) (L.Sink.told link.new) result }
     ensures stands_for { L.stands_for link.new ≡ L.stands_for link.old }
 {
     let root = moment_of_word(clock.now());
-    match open(alloc, users, root, from) {
+    match open(alloc, users, groups, root, from) {
         Ok(state) => serve(alloc, state, clock, users, link),
         Err(_) => WANTS_MEMORY,
     }
 }
 
 // Serves one session.
-fn piped<L: Link, C: Clock>(alloc: Global, asked: &Pipe, link: &mut L, clock: &mut C) -> u8
-    requires at { IfSome asked.now.at IsMoment }
-    requires from { asked.now.from ≤ 1048576 }
+fn piped<L: Link, C: Clock>(alloc: Global, asked: Pipe, link: &mut L, clock: &mut C) -> u8
+    requires groups { HasGroups (map (λ u. u.name) asked.users) asked.groups }
+    requires at { IfSome asked.at IsMoment }
+    requires from { asked.from ≤ 1048576 }
     ensures ran { Unbegun (L.Source.told link.old) (L.Sink.told link.old) (L.Source.told link.new)
         (L.Sink.told link.new) result
-        ⊎ Piped asked.now.users asked.now.at asked.now.from (C.words clock.old) (L.Source.told link.old)
+        ⊎ Piped asked.users asked.groups asked.at asked.from (C.words clock.old) (L.Source.told link.old)
         (L.Sink.told link.old) (L.Source.told link.new) (L.Sink.told link.new) result }
     ensures stands_for { L.stands_for link.new ≡ L.stands_for link.old }
 {
+    let users = asked.users;
     match asked.at {
-        Some(moment) => at_moment(alloc, &asked.users, moment, asked.from, link),
-        None => by_clock(alloc, &asked.users, asked.from, link, clock),
+        Some(moment) => at_moment(alloc, &users, asked.groups, moment, asked.from, link),
+        None => by_clock(alloc, &users, asked.groups, asked.from, link, clock),
     }
 }
 
@@ -159,7 +175,7 @@ fn run_words<L: Link, C: Clock>(alloc: Global, words: &[String], link: &mut L, c
 {
     words_are_bounded();
     match read_words(alloc, words) {
-        Ok(Words::Pipe(asked)) => piped(alloc, &asked, link, clock),
+        Ok(Words::Pipe(asked)) => piped(alloc, asked, link, clock),
         Err(WordsStop::NotValid) => refused(link),
         Err(WordsStop::Memory) => WANTS_MEMORY,
     }
@@ -178,8 +194,9 @@ fn run_link<L: Link, C: Clock>(alloc: Global, words: &[String], link: &mut L, cl
 
 /// Runs the program with these words, and answers its status.
 ///
-/// 0: the session ended well. 2: the words are not valid. 3, 4: the input, the output failed. 7: memory was wanted.
-/// 8: the bytes of a request have a fault.
+/// 0: the session ended well, or the load's line was written. 2: the words are not valid. 3, 4: the input, the output failed.
+/// 7: memory was wanted. 8: the bytes of a request have a fault.
+#[tactic(auto, using(crate::proofs::Failed::load_failed))]
 pub fn run_once<I: Source, O: Sink, C: Clock>(
     alloc: Global,
     words: &[String],
@@ -187,11 +204,16 @@ pub fn run_once<I: Source, O: Sink, C: Clock>(
     output: &mut O,
     clock: &mut C,
 ) -> u8
-    ensures ran { Ran (words_of (map string_bytes words.now)) (C.words clock.old)
+    ensures ran { RunsOnce (map string_bytes words.now) (C.words clock.old)
         (I.told input.old) (O.told output.old) (I.told input.new) (O.told output.new) result }
     ensures failed { OnlyWhereFailed (I.told input.old) (O.told output.old)
         (I.told input.new) (O.told output.new) result }
 {
-    let mut link = Lent { input, output };
-    run_link(alloc, words, &mut link, clock)
+    match read_load(words) {
+        Some(n) => load(alloc, n, output),
+        None => {
+            let mut link = Lent { input, output };
+            run_link(alloc, words, &mut link, clock)
+        }
+    }
 }

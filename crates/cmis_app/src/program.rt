@@ -1,10 +1,11 @@
 //! One run of the program, with one connection or with many.
 ghost use Rattle.std.specs.Prelude.{◌≡◌, ◌⊎◌, map, string_bytes, length, Some, None, IfSome, MatchOption};
+ghost use Rattle.cmis_spec.specs.Well.{HasGroups};
 ghost use Rattle.desk_model.specs.Histories.{state_of};
 ghost use Rattle.cm_face.specs.Faces.{shown_step};
-ghost use Rattle.cmis_words.specs.Programs.{words_of};
 ghost use Rattle.cmis_words.specs.Serving.{serve_of};
-ghost use Rattle.cmis_app.specs.Runs.{Ran as RunsOnce, OnlyWhereFailed};
+ghost use Rattle.cmis_app.specs.Once.{RunsOnce};
+ghost use Rattle.cmis_app.specs.Runs.{OnlyWhereFailed};
 ghost use Rattle.cmis_app.specs.Many.{ServedAll, Hosted, Summed, Unserved, summary, status_of_end, status_of_loss};
 
 use crate::line::summary;
@@ -68,7 +69,7 @@ fn sum_up<O: Sink>(output: &mut O, sessions: u64, steps: u64, end: HostEnd) -> u
 fn run_serve<O: Sink, H: Host, C: Clock + Send, G: Gate + Sync, R: Threads + Wait + Sync>(
     rt: &R,
     alloc: Global,
-    asked: &Serve,
+    asked: Serve,
     output: &mut O,
     host: &mut H,
     clock: &mut C,
@@ -76,11 +77,12 @@ fn run_serve<O: Sink, H: Host, C: Clock + Send, G: Gate + Sync, R: Threads + Wai
 ) -> Ran<H::Link>
 where
     H::Link: Send,
+    requires groups { HasGroups (map (λ u. u.name) asked.users) asked.groups }
     ensures served { MatchOption result.closing (Unserved (H.told host.old) (H.told host.new) result.status
         × (O.told output.new ≡ O.told output.old))
-        (λ c. ServedAll H.Link.Source.told H.Link.Sink.told asked.now.users (C.words clock.old)
+        (λ c. ServedAll H.Link.Source.told H.Link.Sink.told asked.users asked.groups (C.words clock.old)
         (H.left host.old) c.last c.ended
-        × Hosted asked.now (H.told host.old) (H.left host.old) (H.told host.new) (H.left host.new)
+        × Hosted asked (H.told host.old) (H.left host.old) (H.told host.new) (H.left host.new)
         (length c.ended) c.end
         × Summed c.end (summary (length c.ended) (state_of shown_step c.last).step) (O.told output.old)
         (O.told output.new) result.status) }
@@ -94,7 +96,7 @@ where
             };
         }
     }
-    match serve(rt, alloc, &asked.users, asked.workers, host, clock, gate) {
+    match serve(rt, alloc, asked, host, clock, gate) {
         Ok(closing) => {
             let sessions = closing.ended.len() as u64;
             let steps = closing.last.number();
@@ -113,7 +115,7 @@ where
 
 /// Runs the program with these words, and answers its status.
 ///
-/// `serve USERS PORT WORKERS [links=K]` serves the host's links at this port. 0: the host had none to give, or as many were served as may be;
+/// `serve USERS PORT WORKERS [links=K] [groups=LIST]` serves the host's links at this port. 0: the host had none to give, or as many were served as may be;
 /// 4: the line at the end could not be written; 5: the host failed; 7: memory was wanted. Every other list of words is run by `run_once`.
 pub fn run<I: Source, O: Sink, H: Host, C: Clock + Send, G: Gate + Sync, R: Threads + Wait + Sync>(
     rt: &R,
@@ -129,12 +131,12 @@ where
     H::Link: Send,
     ensures once { serve_of (map string_bytes words.now) ≡ None → (result.closing ≡ None)
         × ((result.status ≡ 7) × (I.told input.new ≡ I.told input.old) × (O.told output.new ≡ O.told output.old)
-        ⊎ RunsOnce (words_of (map string_bytes words.now)) (C.words clock.old) (I.told input.old)
+        ⊎ RunsOnce (map string_bytes words.now) (C.words clock.old) (I.told input.old)
         (O.told output.old) (I.told input.new) (O.told output.new) result.status
         × OnlyWhereFailed (I.told input.old) (O.told output.old) (I.told input.new) (O.told output.new) result.status) }
     ensures served { IfSome (serve_of (map string_bytes words.now)) (λ asked. MatchOption result.closing
         (Unserved (H.told host.old) (H.told host.new) result.status × (O.told output.new ≡ O.told output.old))
-        (λ c. ServedAll H.Link.Source.told H.Link.Sink.told asked.users (C.words clock.old)
+        (λ c. ServedAll H.Link.Source.told H.Link.Sink.told asked.users asked.groups (C.words clock.old)
         (H.left host.old) c.last c.ended
         × Hosted asked (H.told host.old) (H.left host.old) (H.told host.new) (H.left host.new) (length c.ended) c.end
         × Summed c.end (summary (length c.ended) (state_of shown_step c.last).step) (O.told output.old)
@@ -143,7 +145,7 @@ where
     ensures unread { IfSome (serve_of (map string_bytes words.now)) (λ asked. I.told input.new ≡ I.told input.old) }
 {
     match read_serve(alloc, words) {
-        Ok(asked) => run_serve(rt, alloc, &asked, output, host, clock, gate),
+        Ok(asked) => run_serve(rt, alloc, asked, output, host, clock, gate),
         Err(WordsStop::NotValid) => {
             let status = run_once(alloc, words, input, output, clock);
             Ran {

@@ -13,6 +13,7 @@ use Rattle.cmis_spec.specs.Access.{rank}
 use Rattle.cm_base.specs.declared.number.Moment.{Moment}
 use Rattle.cm_base.specs.declared.object.Object.{Object}
 use Rattle.cm_base.specs.declared.user.User.{User}
+use Rattle.cm_base.specs.declared.user.Group.{Group}
 use Rattle.cm_base.specs.declared.value.Value.{Value}
 use Rattle.cm_base.specs.declared.value.Value.TheVariants.{Unset}
 use Rattle.cm_types.specs.declared.definition.TypeDef.{TypeDef}
@@ -21,7 +22,7 @@ use Rattle.cm_types.specs.Types.{type_in, same_base, is_below, props_of}
 use Rattle.cm_types.specs.Properties.{is_faulty}
 use Rattle.cmis_spec.specs.Repository.{object_at, series_at, root, same, most_steps, most_cost, is_a, opening, root_folder, root_access, administrator_of, entry_of, longest_stream}
 use Rattle.cmis_spec.specs.Values.{words, form_value}
-use Rattle.cmis_spec.specs.Well.{MayOpen, root_value, IsTyped, IsKept, IsAceList, ComesBefore, IsAccess, is_listed, IsOwn, OwnsValues, IsRendition, IsGroup, IsPair, HasWay, Belongs, IsMember, members, HasSome, IsBaseAt, IsThere, HasEnds, IsLabel, IsAlone, is_plain, is_version, Apart, IsWellFormed}
+use Rattle.cmis_spec.specs.Well.{MayOpen, root_value, IsTyped, IsKept, IsAceList, ComesBefore, IsAccess, is_listed, IsOwn, OwnsValues, IsRendition, HasGroups, IsPair, HasWay, Belongs, IsMember, members, HasSome, IsBaseAt, IsThere, HasEnds, IsLabel, IsAlone, is_plain, is_version, Apart, IsWellFormed}
 use Rattle.cmis_laws.proofs.Entries.{not_both}
 
 one : {A : Type 0} (P : A → Type 0) (x : A) → P x → All P (x ∷ [])
@@ -32,9 +33,9 @@ there None h = absurd (both_ways false refl h)
 there (Some t) h = refl
 
 -- the root has no value of its own but its name and its type
-root_kept : (types : List TypeDef) (users : List User) (m : Moment) (n : ℕ) (x : Object) → x ≡ root_folder (administrator_of (map (λ u. u.name) users)) m n
-    → (id : List ℕ) → root_value id ≡ form_value (opening types users m n) x id
-root_kept types users m n x e id = rw e (same (bytes_eq id (codes "cmis:name")) (bytes_eq id (codes "cmis:objectTypeId")) (bytes_eq id (codes "cmis:secondaryObjectTypeIds")) (words (codes "root")) (words (codes "cmis:folder")))
+root_kept : (types : List TypeDef) (users : List User) (groups : List Group) (m : Moment) (n : ℕ) (x : Object) → x ≡ root_folder (administrator_of (map (λ u. u.name) users)) m n
+    → (id : List ℕ) → root_value id ≡ form_value (opening types users groups m n) x id
+root_kept types users groups m n x e id = rw e (same (bytes_eq id (codes "cmis:name")) (bytes_eq id (codes "cmis:objectTypeId")) (bytes_eq id (codes "cmis:secondaryObjectTypeIds")) (words (codes "root")) (words (codes "cmis:folder")))
   where
     same : (a b c : Bool) (v w : Value) → (if a then v else if b then w else Unset) ≡ (if a then v else if b then w else if c then Unset else Unset)
     same true b c v w = refl
@@ -58,11 +59,12 @@ two_aces a b Less e =
 two_aces a b Equal e = turned a b (ap (λ o. ordering_then o Less) (nat_list_cmp_total.antisymm b a ∙ ap ordering_reverse e))
 two_aces a b Greater e = turned a b (ap (λ o. ordering_then o Less) (nat_list_cmp_total.antisymm b a ∙ ap ordering_reverse e))
 
--- by the types alone: they are well formed, and the root is a folder of theirs without a fault
-pub opening_is : (types : List TypeDef) (users : List User) (m : Moment) (n : ℕ) → MayOpen types → n ≤ most_steps → IsWellFormed (opening types users m n)
+-- by the types and the groups alone: they are well formed, and the root is a folder of the types without a fault
+pub opening_is : (types : List TypeDef) (users : List User) (groups : List Group) (m : Moment) (n : ℕ) → MayOpen types → HasGroups (map (λ u. u.name) users) groups → n ≤ most_steps
+    → IsWellFormed (opening types users groups m n)
 unfolding most_cost
-opening_is types users m n f bound =
-    let r = opening types users m n in
+opening_is types users groups m n f g bound =
+    let r = opening types users groups m n in
     let admin : List ℕ = administrator_of (map (λ u. u.name) users) in
     let x : Object = root_folder admin m n in
     record {
@@ -84,14 +86,14 @@ opening_is types users m n f bound =
       access = ((All-nil (λ l. root.0 < l.at.0), tt), one (IsAccess r) (root_access admin) (inl (x, refl, not_both r x bases.Folder bases.Document refl f.folder), two_aces admin (codes "anyone") (slice_cmp nat_cmp admin (codes "anyone")) refl));
       listed = one (λ y. is_listed (root_access admin ∷ []) (entry_of y) ≡ true) x refl;
       sizes = All-nil (λ c. length c.stream.pieces ≤ longest_stream);
-      groups = (tt, All-nil (IsGroup (map (λ u. u.name) users)));
+      groups = g;
       own_values = one (OwnsValues types) x (All-nil (IsOwn types x), tt);
       contents = (tt, All-nil (λ c. IsBaseAt r bases.Document c.of × (c.step ≤ n)));
       typed = one (IsTyped types) x (there (type_in types (codes "cmis:folder")) f.folder, All-nil (λ s. is_below types s (codes "cmis:secondary") ≡ true));
       types = f.well;
       defs = f.defs;
       kept = one (λ y. IsKept r (props_of types y.kind y.secondary) y) x
-          (All-weaker (λ d. is_faulty d (root_value d.id) ≡ false) (λ d. is_faulty d (form_value r x d.id) ≡ false) (λ d e. subst (λ v. is_faulty d v ≡ false) (root_kept types users m n x refl d.id) e) (props_of types (codes "cmis:folder") []) f.root);
+          (All-weaker (λ d. is_faulty d (root_value d.id) ≡ false) (λ d. is_faulty d (form_value r x d.id) ≡ false) (λ d e. subst (λ v. is_faulty d v ≡ false) (root_kept types users groups m n x refl d.id) e) (props_of types (codes "cmis:folder") []) f.root);
       bounds = (bound, omega arith, omega arith);
       tokens = one (λ y. y.token ≤ n) x (omega arith);
       labels = All-nil (λ s. All (λ v. IfSome v.label (IsLabel n)) s.versions);

@@ -14,16 +14,16 @@ use Rattle.cmis_spec.specs.Access.{level_of_caller, reads, object_named, read_na
 use Rattle.cmis_spec.specs.Changes.{stepped, noted, with_object, with_pair}
 use Rattle.cmis_spec.specs.Seen.{seen}
 
-abbrev admin : List ℕ
+abbrev pub admin : List ℕ
 admin = codes "admin"
 
-abbrev bob : List ℕ
+abbrev pub bob : List ℕ
 bob = codes "bob"
 
-abbrev dawn : Moment
+abbrev pub dawn : Moment
 dawn = record { 0 = pos 0 }
 
-abbrev number : ℕ → Oid
+abbrev pub number : ℕ → Oid
 number n = record { 0 = n }
 
 abbrev folder : ℕ → List ℕ → Object
@@ -55,7 +55,7 @@ abbrev users : List User
 users = record { name = admin; secret = codes "pw" } ∷ record { name = bob; secret = codes "b" } ∷ []
 
 abbrev begun : Repository
-begun = opening base_types users dawn 0
+begun = opening base_types users [] dawn 0
 
 -- the first folder has this name
 abbrev small : List ℕ → Repository

@@ -110,13 +110,13 @@ abbrev pub root_access : List ℕ → AccessList
 root_access administrator = record { at = root; aces = root_aces administrator }
 
 -- the root alone, made by the administrator at this moment, with this step number
-abbrev pub opening : List TypeDef → List User → Moment → ℕ → Repository
-opening types users m step =
+abbrev pub opening : List TypeDef → List User → List Group → Moment → ℕ → Repository
+opening types users groups m step =
     let names = map (λ u. u.name) users in
     record {
       types = types;
       users = names;
-      groups = [];
+      groups = groups;
       objects = root_folder (administrator_of names) m step ∷ [];
       series = [];
       filed = [];
@@ -141,6 +141,10 @@ type_of r x = type_in r.types x.kind
 -- the base type of x is this one
 abbrev pub is_a : Repository → BaseType → Object → Bool
 is_a r base x = is_of_base r.types base x.kind
+
+-- the type is the object's own, or one of its secondary types
+abbrev pub is_of_type : List ℕ → Object → Bool
+is_of_type id x = list_any (bytes_eq id) (x.kind ∷ x.secondary)
 
 -- ---- version series (section 2.1.13)
 

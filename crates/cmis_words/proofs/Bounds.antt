@@ -1,25 +1,17 @@
--- A moment and a step number that the words name are within their bounds.
-use Rattle.std.specs.Prelude.{◌≡◌, ◌≤◌, ℕ, pos, nat_le, Bool, true, false, if◌then◌else◌, List, [], ◌∷◌, map, All, codes, bytes_eq, Option, Some, None, IfSome, option_map, option_and_then, unwrap_or}
-use Rattle.std.specs.List.{filter_map}
-use Rattle.std.proofs.Common.{refl, ap, arith}
-use Rattle.std.proofs.lemmas.Bool.{both_ways, leb-true}
-use Rattle.std.proofs.lemmas.List.Elements.{All-nil, All-cons, All-head, All-tail}
+-- A moment, a step number and the groups that the words name are within their bounds.
+use Rattle.std.specs.Prelude.{◌≡◌, ◌≤◌, ℕ, pos, nat_le, Bool, true, false, ◌&&◌, if◌then◌else◌, List, [], ◌∷◌, map, codes, bytes_eq, Option, Some, None, IfSome, option_map}
+use Rattle.std.proofs.Common.{refl, arith}
+use Rattle.std.proofs.lemmas.Bool.{leb-true}
+use Rattle.cm_base.specs.declared.number.Moment.{Moment}
 use Rattle.cm_base.specs.declared.user.User.{User}
+use Rattle.cm_base.specs.declared.user.Group.{Group}
 use Rattle.cm_base.specs.Decimals.{decimal_u64}
 use Rattle.cm_base.specs.UserLists.{users_of}
-use Rattle.cmis_words.specs.declared.words.Choice.{Choice}
-use Rattle.cmis_words.specs.declared.words.Choice.TheVariants.{At, From}
-use Rattle.cmis_words.specs.declared.words.Choices.{Choices}
-use Rattle.cmis_words.specs.Programs.{behind, at_most, choice_by, choice_of, at_part, from_part, first_of, are_choices, choices_in, choices_of, pipe_of, words_of}
+use Rattle.cmis_words.specs.Options.{option_of}
+use Rattle.cmis_words.specs.Programs.{at_most, at_by, from_by, groups_by, are_pipe_options, pipe_by, words_of}
+use Rattle.cmis_words.specs.declared.words.Words.TheVariants.{Pipe}
 use Rattle.cmis_words.specs.Bounds.{IsMoment, AreBounded}
-
-none_is_some : {A : Type 0} (x : A) → None ≡ Some x → ⊥
-none_is_some x h = both_ways false refl (ap (λ o. elim o [ None ↦ false | Some y ↦ true ]) h)
-
-some_is : {A : Type 0} (x y : A) → Some x ≡ Some y → x ≡ y
-some_is x y h = ap (λ o. elim o [ None ↦ x | Some z ↦ z ]) h
-
--- ---- one word
+use Rattle.cmis_words.proofs.Grouped.{AreFormed, users_formed, given_well}
 
 at_most_bound : (most : ℕ) (o : Option ℕ) → IfSome (at_most most o) (λ n. n ≤ most)
 at_most_bound most None = tt
@@ -29,61 +21,42 @@ at_most_bound most (Some n) = by_bound (nat_le n most) refl
     by_bound true e = leb-true n most e
     by_bound false e = tt
 
-IsGood : Choice → Type 0
-IsGood (At moment) = IsMoment moment
-IsGood (From step) = step ≤ 1048576
+abbrev moment : ℕ → Moment
+moment n = record { 0 = pos n }
 
-at_good : (o : Option ℕ) → IfSome o (λ n. n ≤ 253402300799999) → IfSome (option_map At (option_map (λ n. record { 0 = pos n }) o)) IsGood
-unfolding IsGood
-at_good None h = tt
-at_good (Some n) h = (n, h, refl)
+moment_good : (o : Option ℕ) → IfSome o (λ n. n ≤ 253402300799999) → IfSome (option_map Some (option_map moment o)) (λ at. IfSome at IsMoment)
+moment_good None h = tt
+moment_good (Some n) h = (n, h, refl)
 
-from_good : (o : Option ℕ) → IfSome o (λ n. n ≤ 1048576) → IfSome (option_map From o) IsGood
-unfolding IsGood
-from_good None h = tt
-from_good (Some n) h = h
+at_good : (option : Option (List ℕ)) → IfSome (at_by option) (λ at. IfSome at IsMoment)
+at_good None = tt
+at_good (Some digits) = moment_good (at_most 253402300799999 (decimal_u64 digits)) (at_most_bound 253402300799999 (decimal_u64 digits))
 
-choice_good : (at from : Option (List ℕ)) → IfSome (choice_by at from) IsGood
-choice_good (Some ms) from = at_good (at_most 253402300799999 (decimal_u64 ms)) (at_most_bound 253402300799999 (decimal_u64 ms))
-choice_good None (Some n) = from_good (at_most 1048576 (decimal_u64 n)) (at_most_bound 1048576 (decimal_u64 n))
-choice_good None None = tt
+from_good : (option : Option (List ℕ)) → IfSome (from_by option) (λ n. n ≤ 1048576)
+from_good None = omega arith
+from_good (Some digits) = at_most_bound 1048576 (decimal_u64 digits)
 
-choices_good : (words : List (List ℕ)) → All (λ o. IfSome o IsGood) (map choice_of words)
-choices_good [] = All-nil (λ o. IfSome o IsGood)
-choices_good (w ∷ ws) = All-cons (λ o. IfSome o IsGood) (choice_of w) (map choice_of ws) (choice_good (behind (codes "at=") w) (behind (codes "from=") w)) (choices_good ws)
+users_good : (list : List ℕ) (o : Option (List User)) → users_of list ≡ o → IfSome o (λ users. AreFormed (map (λ u. u.name) users))
+users_good list None h = tt
+users_good list (Some users) h = users_formed list users h
 
--- ---- the first of each kind
-
-first_at : (cs : List (Option Choice)) → All (λ o. IfSome o IsGood) cs → IfSome (first_of (filter_map at_part cs)) IsMoment
-unfolding IsGood
-first_at [] all = tt
-first_at (None ∷ cs) all = first_at cs (All-tail (λ o. IfSome o IsGood) None cs all)
-first_at (Some (At m) ∷ cs) all = All-head (λ o. IfSome o IsGood) (Some (At m)) cs all
-first_at (Some (From n) ∷ cs) all = first_at cs (All-tail (λ o. IfSome o IsGood) (Some (From n)) cs all)
-
-first_from : (cs : List (Option Choice)) → All (λ o. IfSome o IsGood) cs → unwrap_or (first_of (filter_map from_part cs)) 0 ≤ 1048576
-unfolding IsGood
-first_from [] all = omega arith
-first_from (None ∷ cs) all = first_from cs (All-tail (λ o. IfSome o IsGood) None cs all)
-first_from (Some (From n) ∷ cs) all = All-head (λ o. IfSome o IsGood) (Some (From n)) cs all
-first_from (Some (At m) ∷ cs) all = first_from cs (All-tail (λ o. IfSome o IsGood) (Some (At m)) cs all)
-
--- ---- all words
-
-bounded_users : (choices : Choices) → IfSome choices.at IsMoment → choices.from ≤ 1048576 → (o : Option (List User)) → IfSome (option_map (pipe_of choices) o) AreBounded
-bounded_users choices at from None = tt
-bounded_users choices at from (Some users) = (at, from)
-
-bounded_choices : (cs : List (Option Choice)) (users : Option (List User)) → All (λ o. IfSome o IsGood) cs → (b : Bool)
-    → IfSome (option_and_then (λ choices. option_map (pipe_of choices) users) (if b then Some (choices_in cs) else None)) AreBounded
-bounded_choices cs users all true = bounded_users (choices_in cs) (first_at cs all) (first_from cs all) users
-bounded_choices cs users all false = tt
+pipe_good : (at : Option (Option Moment)) (from : Option ℕ) (option : Option (List ℕ)) (users : Option (List User)) → IfSome at (λ at. IfSome at IsMoment) → IfSome from (λ n. n ≤ 1048576)
+    → IfSome users (λ users. AreFormed (map (λ u. u.name) users)) → IfSome (pipe_by at from option users) AreBounded
+pipe_good None from option users a f u = tt
+pipe_good (Some at) None option users a f u = tt
+pipe_good (Some at) (Some from) option None a f u = tt
+pipe_good (Some at) (Some from) option (Some users) a f u = by_groups (groups_by (map (λ u. u.name) users) option) refl
+  where
+    by_groups : (o : Option (List Group)) → groups_by (map (λ u. u.name) users) option ≡ o → IfSome (option_map (λ gs. Pipe (record { users = users; groups = gs; at = at; from = from })) o) AreBounded
+    by_groups None h = tt
+    by_groups (Some groups) h = (a, f, given_well (map (λ u. u.name) users) u option groups h)
 
 pub are_bounded : (words : List (List ℕ)) → IfSome (words_of words) AreBounded
 are_bounded [] = tt
 are_bounded (w ∷ []) = tt
-are_bounded (w ∷ list ∷ options) = by_word (bytes_eq w (codes "pipe"))
+are_bounded (w ∷ list ∷ options) = by_words (bytes_eq w (codes "pipe") && are_pipe_options options)
   where
-    by_word : (b : Bool) → IfSome (if b then option_and_then (λ choices. option_map (pipe_of choices) (users_of list)) (choices_of (map choice_of options)) else None) AreBounded
-    by_word true = bounded_choices (map choice_of options) (users_of list) (choices_good options) (are_choices (map choice_of options))
-    by_word false = tt
+    by_words : (b : Bool) → IfSome (if b then pipe_by (at_by (option_of (codes "at") options)) (from_by (option_of (codes "from") options)) (option_of (codes "groups") options) (users_of list) else None) AreBounded
+    by_words true = pipe_good (at_by (option_of (codes "at") options)) (from_by (option_of (codes "from") options)) (option_of (codes "groups") options) (users_of list)
+        (at_good (option_of (codes "at") options)) (from_good (option_of (codes "from") options)) (users_good list (users_of list) refl)
+    by_words false = tt

@@ -1,3 +1,6 @@
 pub mod Bounds
-pub mod Three
+mod Differ
 mod Four
+pub mod Grouped
+mod Two
+pub mod Placed

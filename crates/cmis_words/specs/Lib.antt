@@ -1,3 +1,6 @@
 pub mod Bounds
+pub mod GroupLists
+pub mod Options
 pub mod Programs
 pub mod Serving
+pub mod Loading

@@ -1,21 +1,17 @@
--- The program's words: pipe USERS [at=MS] [from=N], the options in any order, each at most once.
-use Rattle.std.specs.Prelude.{ℕ, pos, ◌≡◌, nat_le, Bool, true, false, ◌&&◌, is_some, List, [], ◌∷◌, length, map, take, drop, codes, bytes_eq, Option, Some, None, option_map, option_and_then, unwrap_or, Result, Ok, Err, if◌then◌else◌}
-use Rattle.std.specs.List.{list_all, filter_map}
+-- The program's words: pipe USERS [at=MS] [from=N] [groups=LIST], the options in any order, each at most once.
+use Rattle.std.specs.Prelude.{ℕ, pos, ◌≡◌, nat_le, Bool, ◌&&◌, ◌||◌, is_some, List, [], ◌∷◌, length, map, codes, bytes_eq, Option, Some, None, option_map, Result, Ok, Err, if◌then◌else◌}
+use Rattle.std.specs.List.{list_all}
 use Rattle.cm_base.specs.declared.number.Moment.{Moment}
 use Rattle.cm_base.specs.declared.user.User.{User}
+use Rattle.cm_base.specs.declared.user.Group.{Group}
 use Rattle.cm_base.specs.Decimals.{decimal_u64}
 use Rattle.cm_base.specs.UserLists.{users_of}
-use Rattle.cmis_words.specs.declared.words.Choice.{Choice}
-use Rattle.cmis_words.specs.declared.words.Choice.TheVariants.{At, From}
-use Rattle.cmis_words.specs.declared.words.Choices.{Choices}
+use Rattle.cmis_words.specs.Options.{behind, option_of, stands_once}
+use Rattle.cmis_words.specs.GroupLists.{groups_of}
 use Rattle.cmis_words.specs.declared.words.Words.{Words}
 use Rattle.cmis_words.specs.declared.words.Words.TheVariants.{Pipe}
 use Rattle.cmis_words.specs.declared.words.WordsStop.{WordsStop}
 use Rattle.cmis_words.specs.declared.words.WordsStop.TheVariants as stops
-
--- what stands behind this name at the front of a word
-abbrev pub behind : List ℕ → List ℕ → Option (List ℕ)
-behind name word = if bytes_eq (take (length name) word) name then Some (drop (length name) word) else None
 
 -- a decimal number of at most this size
 abbrev pub at_most : ℕ → Option ℕ → Option ℕ
@@ -29,52 +25,58 @@ moment_of digits = option_map (λ n. record { 0 = pos n }) (at_most 253402300799
 abbrev pub step_of : List ℕ → Option ℕ
 step_of digits = at_most 1048576 (decimal_u64 digits)
 
-abbrev pub choice_by : Option (List ℕ) → Option (List ℕ) → Option Choice
-choice_by (Some ms) _ = option_map At (moment_of ms)
-choice_by None (Some n) = option_map From (step_of n)
-choice_by None None = None
+-- ---- the options
 
--- at=MS or from=N
-abbrev pub choice_of : List ℕ → Option Choice
-choice_of word = choice_by (behind (codes "at=") word) (behind (codes "from=") word)
+abbrev pub is_pipe_option : List ℕ → Bool
+is_pipe_option word = is_some (behind (codes "at") word) || is_some (behind (codes "from") word) || is_some (behind (codes "groups") word)
 
-abbrev pub at_part : Option Choice → Option Moment
-at_part (Some (At moment)) = Some moment
-at_part _ = None
+-- at most three words, each an option, and no option twice
+abbrev pub are_pipe_options : List (List ℕ) → Bool
+are_pipe_options options =
+    nat_le (length options) 3 && list_all is_pipe_option options
+    && stands_once (codes "at") options && stands_once (codes "from") options && stands_once (codes "groups") options
 
-abbrev pub from_part : Option Choice → Option ℕ
-from_part (Some (From step)) = Some step
-from_part _ = None
+-- at=MS: the moment that is every moment; without it there is none
+abbrev pub at_by : Option (List ℕ) → Option (Option Moment)
+at_by None = Some None
+at_by (Some digits) = option_map Some (moment_of digits)
 
-abbrev pub one_at_most : {A : Type 0} → List A → Bool
-one_at_most [] = true
-one_at_most (x ∷ []) = true
-one_at_most (x ∷ y ∷ xs) = false
+-- from=N: the step number of the opening; without it 0
+abbrev pub from_by : Option (List ℕ) → Option ℕ
+from_by None = Some 0
+from_by (Some digits) = step_of digits
 
-abbrev pub first_of : {A : Type 0} → List A → Option A
-first_of [] = None
-first_of (x ∷ xs) = Some x
+-- groups=LIST: the groups of the users; without it there are none
+abbrev pub groups_by : List (List ℕ) → Option (List ℕ) → Option (List Group)
+groups_by users None = Some []
+groups_by users (Some list) = groups_of users list
 
--- each is an option, and no option stands twice
-abbrev pub are_choices : List (Option Choice) → Bool
-are_choices cs = one_at_most (filter_map at_part cs) && one_at_most (filter_map from_part cs) && list_all is_some cs
+-- the users of a list, the groups of an option; words that are not valid exactly where there are none; want of memory is free
+abbrev pub ReadsList : Result (List User) WordsStop → List ℕ → Type 0
+ReadsList (Ok users) list = users_of list ≡ Some users
+ReadsList (Err stops.NotValid) list = users_of list ≡ None
+ReadsList (Err stops.Memory) list = Unit {0}
 
--- what the options choose: a moment that is every moment, and a step number, 0 without one
-abbrev pub choices_in : List (Option Choice) → Choices
-choices_in cs = record { at = first_of (filter_map at_part cs); from = unwrap_or (first_of (filter_map from_part cs)) 0 }
+abbrev pub ReadsOption : Result (List Group) WordsStop → List (List ℕ) → Option (List ℕ) → Type 0
+ReadsOption (Ok groups) users option = groups_by users option ≡ Some groups
+ReadsOption (Err stops.NotValid) users option = groups_by users option ≡ None
+ReadsOption (Err stops.Memory) users option = Unit {0}
 
-abbrev pub choices_of : List (Option Choice) → Option Choices
-choices_of cs = if are_choices cs then Some (choices_in cs) else None
+-- ---- the words
 
-abbrev pub pipe_of : Choices → List User → Words
-pipe_of choices users = Pipe (record { users = users; at = choices.at; from = choices.from })
+abbrev pub pipe_by : Option (Option Moment) → Option ℕ → Option (List ℕ) → Option (List User) → Option Words
+pipe_by None from groups users = None
+pipe_by (Some at) None groups users = None
+pipe_by (Some at) (Some from) groups None = None
+pipe_by (Some at) (Some from) groups (Some users) = option_map (λ gs. Pipe (record { users = users; groups = gs; at = at; from = from })) (groups_by (map (λ u. u.name) users) groups)
 
 -- what the words ask for, or none where they are no words of the program
 abbrev pub words_of : List (List ℕ) → Option Words
 words_of [] = None
 words_of (word ∷ []) = None
 words_of (word ∷ list ∷ options) =
-    if bytes_eq word (codes "pipe") then option_and_then (λ choices. option_map (pipe_of choices) (users_of list)) (choices_of (map choice_of options))
+    if bytes_eq word (codes "pipe") && are_pipe_options options
+    then pipe_by (at_by (option_of (codes "at") options)) (from_by (option_of (codes "from") options)) (option_of (codes "groups") options) (users_of list)
     else None
 
 -- the words are not valid exactly where they ask for nothing; want of memory is free

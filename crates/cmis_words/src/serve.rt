@@ -1,24 +1,28 @@
-//! The words of the program for many connections: `serve USERS PORT WORKERS [links=K]`.
-ghost use Rattle.std.specs.Prelude.{◌≡◌, ◌≤◌, codes, bytes_eq, map, option_map, string_bytes, IfOk, IfSome};
-ghost use Rattle.cmis_words.specs.Programs.{behind};
-ghost use Rattle.cmis_words.specs.Serving.{within, port_of, workers_of, links_of, bound_of, ReadsServe};
+//! The words of the program for many connections: `serve USERS PORT WORKERS [links=K] [groups=LIST]`.
+ghost use Rattle.std.specs.Prelude.{◌≡◌, ◌≤◌, codes, bytes_eq, map, string_bytes, IfOk, IfSome};
+ghost use Rattle.std.specs.List.{list_all};
+ghost use Rattle.cmis_spec.specs.Well.{HasGroups};
+ghost use Rattle.cmis_words.specs.Options.{option_of};
+ghost use Rattle.cmis_words.specs.Serving.{within, port_of, workers_of, is_serve_option, are_serve_options, links_by, ReadsServe};
 
-use crate::words::{WordsStop, behind};
+use crate::options::{behind, option, stands_once};
+use crate::words::{WordsStop, groups, users};
 use cm_base::decimal::read_u64;
-use cm_base::user::Users;
-use cm_base::users::{UsersStop, read_users};
+use cm_base::user::{Groups, Users};
 use std::alloc::Global;
 
-/// Many connections on loopback: the users, the port, how many sessions run at once, and how many links are served at most.
+/// Many connections on loopback: the users, their groups in byte order of the names, the port, how many sessions run at once,
+/// and how many links are served at most.
 #[derive(Drop)]
 pub struct Serve {
     pub users: Users,
+    pub groups: Groups,
     pub port: u16,
     pub workers: usize,
     pub links: Option<u64>,
 }
 
-fn within(least: u64, most: u64, number: Option<u64>) -> Option<u64>
+pub(crate) fn within(least: u64, most: u64, number: Option<u64>) -> Option<u64>
     ensures value { result ≡ within least most number }
     ensures bounds { IfSome result (λ n. (least ≤ n) × (n ≤ most)) }
 {
@@ -53,25 +57,39 @@ fn workers(word: &[u8]) -> Option<usize>
     }
 }
 
-fn links(word: &[u8]) -> Option<u64>
-    ensures { result ≡ links_of word.now }
+fn is_option(word: &str) -> bool
+    ensures { result ≡ is_serve_option word.now }
 {
-    match behind(word, "links=".as_bytes()) {
-        None => None,
-        Some(digits) => within(1, 1_048_576, read_u64(digits)),
+    behind(word, "links").is_some() || behind(word, "groups").is_some()
+}
+
+fn are_options(options: &[String]) -> bool
+    ensures { result ≡ list_all is_serve_option (map string_bytes options.now) }
+{
+    match options {
+        [] => true,
+        [word, rest @ ..] => is_option(word.as_str()) && are_options(rest),
     }
 }
 
-fn bound(options: &[String]) -> Option<Option<u64>>
-    ensures { result ≡ bound_of (map string_bytes options.now) }
+fn are_serve_options(options: &[String]) -> bool
+    ensures { result ≡ are_serve_options (map string_bytes options.now) }
 {
-    match options {
-        [] => Some(None),
-        [word] => match links(word.as_bytes()) {
+    options.len() <= 2
+        && are_options(options)
+        && stands_once(options, "links")
+        && stands_once(options, "groups")
+}
+
+fn links(options: &[String]) -> Option<Option<u64>>
+    ensures { result ≡ links_by (option_of (codes "links") (map string_bytes options.now)) }
+{
+    match option(options, "links") {
+        None => Some(None),
+        Some(digits) => match within(1, 1_048_576, read_u64(digits.as_bytes())) {
             None => None,
             Some(most) => Some(Some(most)),
         },
-        _ => None,
     }
 }
 
@@ -81,18 +99,19 @@ fn is_serve(word: &String) -> bool
     word.as_bytes() == "serve".as_bytes()
 }
 
-/// What the words ask for: `serve USERS PORT WORKERS [links=K]`. PORT is 1 to 65535, WORKERS 1 to 64 and K 1 to 1048576,
-/// decimal without sign or leading zeros.
+/// What the words ask for: `serve USERS PORT WORKERS [links=K] [groups=LIST]`, the options in any order, each at most once. PORT is 1 to 65535,
+/// WORKERS 1 to 64 and K 1 to 1048576, decimal without sign or leading zeros, LIST a list of groups.
 pub fn read_serve(alloc: Global, words: &[String]) -> Result<Serve, WordsStop>
     ensures asked { ReadsServe result (map string_bytes words.now) }
     ensures workers { IfOk result (λ s. (1 ≤ s.workers) × (s.workers ≤ 64)) }
+    ensures groups { IfOk result (λ s. HasGroups (map (λ u. u.name) s.users) s.groups) }
 {
     match words {
         [word, list, port_word, workers_word, options @ ..] => {
-            if !is_serve(word) {
+            if !is_serve(word) || !are_serve_options(options) {
                 return Err(WordsStop::NotValid);
             }
-            let Some(links) = bound(options) else {
+            let Some(links) = links(options) else {
                 return Err(WordsStop::NotValid);
             };
             let Some(port) = port(port_word.as_bytes()) else {
@@ -101,16 +120,16 @@ pub fn read_serve(alloc: Global, words: &[String]) -> Result<Serve, WordsStop>
             let Some(workers) = workers(workers_word.as_bytes()) else {
                 return Err(WordsStop::NotValid);
             };
-            match read_users(alloc, list.as_str()) {
-                Ok(users) => Ok(Serve {
-                    users,
-                    port,
-                    workers,
-                    links,
-                }),
-                Err(UsersStop::Words) => Err(WordsStop::NotValid),
-                Err(UsersStop::Memory) => Err(WordsStop::Memory),
-            }
+            let users = users(alloc, list.as_str())?;
+            let list = option(options, "groups");
+            let groups = groups(alloc, list, users.as_slice())?;
+            Ok(Serve {
+                users,
+                groups,
+                port,
+                workers,
+                links,
+            })
         }
         _ => Err(WordsStop::NotValid),
     }

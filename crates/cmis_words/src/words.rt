@@ -1,12 +1,18 @@
-//! The words of the program: `pipe USERS [at=MS] [from=N]`.
-ghost use Rattle.std.specs.Prelude.{◌≡◌, [], ◌∷◌, map, codes, bytes_eq, option_map, string_bytes};
-ghost use Rattle.cmis_words.specs.Programs.{behind, at_most, moment_of, step_of, choice_of, are_choices, choices_of, ReadsWords};
+//! The words of the program: `pipe USERS [at=MS] [from=N] [groups=LIST]`.
+ghost use Rattle.std.specs.Prelude.{◌≡◌, map, codes, bytes_eq, option_map, string_bytes};
+ghost use Rattle.std.specs.List.{list_all};
+ghost use Rattle.cmis_words.specs.declared.words.WordsStop.TheVariants.{Memory};
+ghost use Rattle.cmis_words.specs.Options.{option_of};
+ghost use Rattle.cmis_words.specs.Programs.{at_most, moment_of, step_of, is_pipe_option, are_pipe_options, at_by, from_by, ReadsList, ReadsOption, ReadsWords};
 
+use crate::groups::read_groups;
+use crate::options::{behind, option, stands_once};
 use cm_base::decimal::read_u64;
+use cm_base::items::Items;
 use cm_base::number::Moment;
-use cm_base::user::Users;
+use cm_base::user::{Groups, User, Users};
 use cm_base::users::{UsersStop, read_users};
-use std::alloc::Global;
+use std::alloc::{AllocError, AllocFailed, Global};
 
 /// The last moment that a word may name, in milliseconds since 1970: the end of the year 9999.
 pub const LAST_MOMENT: u64 = 253402300799999;
@@ -14,17 +20,12 @@ pub const LAST_MOMENT: u64 = 253402300799999;
 /// The greatest step number with which a repository may begin.
 pub const LAST_STEP: u64 = 1048576;
 
-/// An option's word.
-#[derive(Clone, Copy)]
-enum Choice {
-    At(Moment),
-    From(u64),
-}
-
-/// One session from input to output: the users, the moment that is every moment (none: the clock is asked), the opening's step number.
+/// One session from input to output: the users, their groups in byte order of the names, the moment that is every moment
+/// (none: the clock is asked), the opening's step number.
 #[derive(Drop)]
 pub struct Pipe {
     pub users: Users,
+    pub groups: Groups,
     pub at: Option<Moment>,
     pub from: u64,
 }
@@ -44,10 +45,20 @@ pub enum WordsStop {
     Memory,
 }
 
-pub(crate) fn behind<'a>(word: &'a [u8], name: &[u8]) -> Option<&'a [u8]>
-    ensures { option_map (λ s. s.now) result ≡ behind name.now word.now }
-{
-    word.strip_prefix(name)
+impl From<AllocError> for WordsStop {
+    ghost from_gives = { λ _ e. e ≡ Memory };
+
+    fn from(_e: AllocError) -> WordsStop {
+        WordsStop::Memory
+    }
+}
+
+impl<T: Drop> From<AllocFailed<T>> for WordsStop {
+    ghost from_gives = { λ _ e. e ≡ Memory };
+
+    fn from(_e: AllocFailed<T>) -> WordsStop {
+        WordsStop::Memory
+    }
 }
 
 fn at_most(most: u64, number: Option<u64>) -> Option<u64>
@@ -74,77 +85,72 @@ fn step(digits: &[u8]) -> Option<u64>
     at_most(LAST_STEP, read_u64(digits))
 }
 
-fn read_choice(word: &[u8]) -> Option<Choice>
-    ensures { result ≡ choice_of word.now }
+fn is_option(word: &str) -> bool
+    ensures { result ≡ is_pipe_option word.now }
 {
-    match behind(word, "at=".as_bytes()) {
-        Some(digits) => match moment(digits) {
-            None => None,
-            Some(moment) => Some(Choice::At(moment)),
-        },
-        None => match behind(word, "from=".as_bytes()) {
-            None => None,
-            Some(digits) => match step(digits) {
-                None => None,
-                Some(step) => Some(Choice::From(step)),
-            },
-        },
-    }
+    behind(word, "at").is_some()
+        || behind(word, "from").is_some()
+        || behind(word, "groups").is_some()
 }
 
-// The choices of at most two words; none where they are no options, or one stands twice.
-#[derive(Clone, Copy)]
-struct Choices {
-    at: Option<Moment>,
-    from: u64,
-}
-
-fn one(word: &[u8]) -> Option<Choices>
-    ensures { result ≡ choices_of (choice_of word.now ∷ []) }
-{
-    match read_choice(word) {
-        None => None,
-        Some(Choice::At(moment)) => Some(Choices {
-            at: Some(moment),
-            from: 0,
-        }),
-        Some(Choice::From(step)) => Some(Choices {
-            at: None,
-            from: step,
-        }),
-    }
-}
-
-fn two(word: &[u8], other: &[u8]) -> Option<Choices>
-    ensures { result ≡ choices_of (choice_of word.now ∷ choice_of other.now ∷ []) }
-{
-    match read_choice(word) {
-        None => None,
-        Some(Choice::At(moment)) => match read_choice(other) {
-            Some(Choice::From(step)) => Some(Choices {
-                at: Some(moment),
-                from: step,
-            }),
-            _ => None,
-        },
-        Some(Choice::From(step)) => match read_choice(other) {
-            Some(Choice::At(moment)) => Some(Choices {
-                at: Some(moment),
-                from: step,
-            }),
-            _ => None,
-        },
-    }
-}
-
-fn read_choices(options: &[String]) -> Option<Choices>
-    ensures { result ≡ choices_of (map choice_of (map string_bytes options.now)) }
+fn are_options(options: &[String]) -> bool
+    ensures { result ≡ list_all is_pipe_option (map string_bytes options.now) }
 {
     match options {
-        [] => Some(Choices { at: None, from: 0 }),
-        [word] => one(word.as_bytes()),
-        [word, other] => two(word.as_bytes(), other.as_bytes()),
-        _ => None,
+        [] => true,
+        [word, rest @ ..] => is_option(word.as_str()) && are_options(rest),
+    }
+}
+
+fn are_pipe_options(options: &[String]) -> bool
+    ensures { result ≡ are_pipe_options (map string_bytes options.now) }
+{
+    options.len() <= 3
+        && are_options(options)
+        && stands_once(options, "at")
+        && stands_once(options, "from")
+        && stands_once(options, "groups")
+}
+
+fn at(options: &[String]) -> Option<Option<Moment>>
+    ensures { result ≡ at_by (option_of (codes "at") (map string_bytes options.now)) }
+{
+    match option(options, "at") {
+        None => Some(None),
+        Some(digits) => match moment(digits.as_bytes()) {
+            None => None,
+            Some(moment) => Some(Some(moment)),
+        },
+    }
+}
+
+fn from(options: &[String]) -> Option<u64>
+    ensures { result ≡ from_by (option_of (codes "from") (map string_bytes options.now)) }
+{
+    match option(options, "from") {
+        None => Some(0),
+        Some(digits) => step(digits.as_bytes()),
+    }
+}
+
+/// The users of the list.
+pub(crate) fn users(alloc: Global, list: &str) -> Result<Users, WordsStop>
+    ensures { ReadsList result list.now }
+{
+    match read_users(alloc, list) {
+        Ok(users) => Ok(users),
+        Err(UsersStop::Words) => Err(WordsStop::NotValid),
+        Err(UsersStop::Memory) => Err(WordsStop::Memory),
+    }
+}
+
+/// The groups of the users, by the list of the option `groups=LIST`; without it there are none.
+pub(crate) fn groups(alloc: Global, list: Option<&str>, users: &[User]) -> Result<Groups, WordsStop>
+    ensures { ReadsOption result (map (λ u. u.name) users.now) (option_map (λ s. s.now) list.entry) }
+{
+    match list {
+        None => Ok(Items::new(alloc)),
+        Some(list) => read_groups(alloc, users, list),
     }
 }
 
@@ -154,28 +160,31 @@ fn is_pipe(word: &String) -> bool
     word.as_bytes() == "pipe".as_bytes()
 }
 
-/// What the words ask for: `pipe USERS [at=MS] [from=N]`, the options in any order, each at most once. USERS is a list of users,
-/// MS a moment up to 253402300799999 and N a step number up to 1048576, decimal without sign or leading zeros.
+/// What the words ask for: `pipe USERS [at=MS] [from=N] [groups=LIST]`, the options in any order, each at most once. USERS is a list
+/// of users, MS a moment up to 253402300799999 and N a step number up to 1048576, decimal without sign or leading zeros, LIST a list of groups.
 pub fn read_words(alloc: Global, words: &[String]) -> Result<Words, WordsStop>
     ensures { ReadsWords result (map string_bytes words.now) }
 {
     match words {
         [word, list, options @ ..] => {
-            if !is_pipe(word) {
+            if !is_pipe(word) || !are_pipe_options(options) {
                 return Err(WordsStop::NotValid);
             }
-            match read_choices(options) {
-                None => Err(WordsStop::NotValid),
-                Some(choices) => match read_users(alloc, list.as_str()) {
-                    Ok(users) => Ok(Words::Pipe(Pipe {
-                        users,
-                        at: choices.at,
-                        from: choices.from,
-                    })),
-                    Err(UsersStop::Words) => Err(WordsStop::NotValid),
-                    Err(UsersStop::Memory) => Err(WordsStop::Memory),
-                },
-            }
+            let Some(at) = at(options) else {
+                return Err(WordsStop::NotValid);
+            };
+            let Some(from) = from(options) else {
+                return Err(WordsStop::NotValid);
+            };
+            let users = users(alloc, list.as_str())?;
+            let list = option(options, "groups");
+            let groups = groups(alloc, list, users.as_slice())?;
+            Ok(Words::Pipe(Pipe {
+                users,
+                groups,
+                at,
+                from,
+            }))
         }
         _ => Err(WordsStop::NotValid),
     }

@@ -40,8 +40,8 @@ dawn = record { 0 = pos 0 }
 abbrev number : ℕ → Oid
 number n = record { 0 = n }
 
-abbrev document : ℕ → List Slot → Object
-document n values = record {
+abbrev numbered_document : ℕ → List Slot → Object
+numbered_document n values = record {
   id = number n;
   kind = codes "cmis:document";
   name = None;
@@ -59,7 +59,7 @@ abbrev series : ℕ → List ℕ → Series
 series n name = record { id = number n; name = name; versions = record { object = number n; label = Some (record { major = 1; minor = 0 }) } ∷ []; working = None }
 
 abbrev begun : Repository
-begun = opening base_types (record { name = admin; secret = codes "pw" } ∷ []) dawn 0
+begun = opening base_types (record { name = admin; secret = codes "pw" } ∷ []) [] dawn 0
 
 abbrev description : List Slot
 description = record { id = codes "cmis:description"; value = One (Words (codes "k")) } ∷ []
@@ -69,7 +69,7 @@ r = record {
   types = base_types;
   users = begun.users;
   groups = [];
-  objects = document 2 [] ∷ document 3 description ∷ [];
+  objects = numbered_document 2 [] ∷ numbered_document 3 description ∷ [];
   series = series 2 (codes "5%0") ∷ series 3 (codes "5x") ∷ [];
   filed = record { folder = root; child = number 2 } ∷ record { folder = root; child = number 3 } ∷ [];
   access = begun.access;

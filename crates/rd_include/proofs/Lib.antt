@@ -1,4 +1,3 @@
-mod Listed
 mod Majors
-mod Pages
+pub mod Pages
 mod Versions

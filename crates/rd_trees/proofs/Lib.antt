@@ -1,5 +1,4 @@
 mod Copies
-mod Pages
 mod Placing
 mod Trees
 mod Walks

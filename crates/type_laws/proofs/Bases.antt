@@ -1,15 +1,15 @@
 -- The base types in a list of types: they are neither changed nor removed, and what defines no property of theirs is none of the properties that are kept beside the others.
-use Rattle.std.specs.Prelude.{◌≡◌, ℕ, true, false, ◌||◌, List, [], ◌∷◌, map, All, Some, bytes_eq, codes}
+use Rattle.std.specs.Prelude.{◌≡◌, ℕ, true, false, ◌||◌, List, [], ◌∷◌, All, Some, bytes_eq, codes}
 use Rattle.std.specs.List.{list_any}
 use Rattle.std.proofs.Common.{refl, sym, ap, subst, ◌∙◌}
 use Rattle.std.proofs.lemmas.Bool.{both_ways, or_from}
-use Rattle.std.proofs.lemmas.List.Elements.{All-nil, All-cons, All-head, All-tail, All-weaker}
+use Rattle.std.proofs.lemmas.List.Elements.{All-nil, All-head, All-tail, All-weaker, All-from_recursion}
 use Rattle.cm_types.specs.declared.definition.TypeDef.{TypeDef}
 use Rattle.cm_types.specs.declared.definition.BaseType.TheVariants as bases
 use Rattle.cm_types.specs.declared.property.PropDef.{PropDef}
 use Rattle.cm_types.specs.Types.{type_in}
 use Rattle.cm_types.specs.Changes.{clashes, is_taken_prop}
-use Rattle.cm_types.specs.BaseTypes.{base_types, base_row}
+use Rattle.cm_types.specs.BaseTypes.{base_types, base_row, first_types}
 use Rattle.cmis_spec.specs.Values.{is_apart}
 use Rattle.cmis_spec.specs.Well.{HasBases, TakesTexts}
 use Rattle.cmis_laws.proofs.Lists.{by_test, found_holds, all_from_any, all_zip, some_eq}
@@ -23,13 +23,28 @@ abbrev pub IsFixed : TypeDef → Type 0
 IsFixed t = (t.mutability.update ≡ false) × (t.mutability.delete ≡ false)
 
 pub bases_fixed : All IsFixed base_types
-bases_fixed = ordered_all IsFixed (λ t. t.id) [] (map base_row (bases.Document ∷ bases.Folder ∷ bases.Relationship ∷ bases.Policy ∷ bases.Item ∷ bases.Secondary ∷ [])) (All-nil IsFixed)
-    (All-cons IsFixed (base_row bases.Document) (map base_row (bases.Folder ∷ bases.Relationship ∷ bases.Policy ∷ bases.Item ∷ bases.Secondary ∷ [])) (refl, refl)
-    (All-cons IsFixed (base_row bases.Folder) (map base_row (bases.Relationship ∷ bases.Policy ∷ bases.Item ∷ bases.Secondary ∷ [])) (refl, refl)
-    (All-cons IsFixed (base_row bases.Relationship) (map base_row (bases.Policy ∷ bases.Item ∷ bases.Secondary ∷ [])) (refl, refl)
-    (All-cons IsFixed (base_row bases.Policy) (map base_row (bases.Item ∷ bases.Secondary ∷ [])) (refl, refl)
-    (All-cons IsFixed (base_row bases.Item) (map base_row (bases.Secondary ∷ [])) (refl, refl)
-    (All-cons IsFixed (base_row bases.Secondary) [] (refl, refl) (All-nil IsFixed)))))))
+bases_fixed = ordered_all IsFixed (λ t. t.id) [] first_types (All-nil IsFixed) (All-from_recursion IsFixed first_types (
+  (refl, refl),
+  (
+    (refl, refl),
+    (
+      (refl, refl),
+      (
+        (refl, refl),
+        (
+          (refl, refl),
+          (
+            (refl, refl),
+            (
+              (refl, refl),
+              ((refl, refl), tt),
+            ),
+          ),
+        ),
+      ),
+    ),
+  ),
+))
 
 -- ---- in a list of types
 

@@ -13,7 +13,7 @@ use Rattle.cm_types.specs.declared.definition.TypeDef.{TypeDef}
 use Rattle.cm_types.specs.Types.{type_in, longest_chain, is_child_type, props_of}
 use Rattle.cm_types.specs.Changes.{without_type}
 use Rattle.cm_types.specs.BaseTypes.{base_types}
-use Rattle.cmis_spec.specs.Repository.{Repository}
+use Rattle.cmis_spec.specs.Repository.{Repository, is_of_type}
 use Rattle.cmis_spec.specs.Changes.{with_types}
 use Rattle.cmis_spec.specs.Well.{Apart, HasTypes, HasDefs, HasBases, IsRooted, IsDef, IsTyped, IsKept, OwnsValues, Agrees, ends_at_base, IsWellFormed}
 use Rattle.cmis_laws.proofs.Lists.{found_holds, found_passes, all_from_any, all_zip, bytes_turned}
@@ -21,7 +21,6 @@ use Rattle.cmis_laws.proofs.Left.{not_true, all_kept, apart_filter, find_filtere
 use Rattle.cmis_laws.proofs.Passed.{not_false, or_left, or_right}
 use Rattle.cmis_laws.proofs.Kept.{bytes_true}
 use Rattle.cmis_laws.proofs.TypeSharing.{apart_without}
-use Rattle.type_laws.specs.Used.{is_of}
 use Rattle.type_laws.proofs.Bases.{no_base}
 use Rattle.type_laws.proofs.Created.{same_retyped, rising_differ}
 use Rattle.type_laws.proofs.Likeness as alike
@@ -93,19 +92,19 @@ module _ (types : List TypeDef) (w : HasTypes types) (id : List ℕ) (t : TypeDe
 -- ---- the repository
 
 pub deleted_retypes : (r : Repository) (id : List ℕ) (t : TypeDef) → IsWellFormed r → type_in r.types id ≡ Some t → not t.mutability.delete ≡ false → list_any (is_child_type t.id) r.types ≡ false
-    → list_any (is_of id) r.objects ≡ false → All (IsRetyped r (without_type r.types id)) r.objects
+    → list_any (is_of_type id) r.objects ≡ false → All (IsRetyped r (without_type r.types id)) r.objects
 deleted_retypes r id t w there may childless unused =
-    all_zip (λ x. is_of id x ≡ false) (λ x. IsTyped r.types x × IsKept r (props_of r.types x.kind x.secondary) x × OwnsValues r.types x) (IsRetyped r (without_type r.types id)) r.objects
+    all_zip (λ x. is_of_type id x ≡ false) (λ x. IsTyped r.types x × IsKept r (props_of r.types x.kind x.secondary) x × OwnsValues r.types x) (IsRetyped r (without_type r.types id)) r.objects
     (λ x u k. same_retyped r (without_type r.types id) (λ k. bytes_eq k id ≡ false) (like r.types w.types id t there may childless) x
-    (or_left (bytes_eq x.kind id) (list_any (bytes_eq id) x.secondary) u)
+    (bytes_turned id x.kind (or_left (bytes_eq id x.kind) (list_any (bytes_eq id) x.secondary) u))
     (All-weaker (λ s. bytes_eq id s ≡ false) (λ s. bytes_eq s id ≡ false) (λ s. bytes_turned id s) x.secondary
-    (all_from_any (bytes_eq id) x.secondary (or_right (bytes_eq x.kind id) (list_any (bytes_eq id) x.secondary) u))) k.0 k.1 k.2)
-    (all_from_any (is_of id) r.objects unused)
+    (all_from_any (bytes_eq id) x.secondary (or_right (bytes_eq id x.kind) (list_any (bytes_eq id) x.secondary) u))) k.0 k.1 k.2)
+    (all_from_any (is_of_type id) r.objects unused)
     (all_zip (IsTyped r.types) (λ x. IsKept r (props_of r.types x.kind x.secondary) x × OwnsValues r.types x) (λ x. IsTyped r.types x × IsKept r (props_of r.types x.kind x.secondary) x × OwnsValues r.types x) r.objects
     (λ x a b. (a, b.0, b.1)) w.typed
     (all_zip (λ x. IsKept r (props_of r.types x.kind x.secondary) x) (OwnsValues r.types) (λ x. IsKept r (props_of r.types x.kind x.secondary) x × OwnsValues r.types x) r.objects (λ x a b. (a, b)) w.kept w.own_values))
 
 pub deleted_keeps : (r : Repository) (id : List ℕ) (t : TypeDef) → IsWellFormed r → type_in r.types id ≡ Some t → not t.mutability.delete ≡ false → list_any (is_child_type t.id) r.types ≡ false
-    → list_any (is_of id) r.objects ≡ false → IsWellFormed (with_types r (without_type r.types id))
+    → list_any (is_of_type id) r.objects ≡ false → IsWellFormed (with_types r (without_type r.types id))
 deleted_keeps r id t w there may childless unused = retyped_keeps r (without_type r.types id) w (deleted_retypes r id t w there may childless unused)
     (types_keep r.types w.types id t there may childless) (defs_keep r.types w.types id t there may childless w.defs)

@@ -1,6 +1,0 @@
-mod Ends
-mod KeptUpdated
-mod Put
-mod Renamed
-mod Turns
-mod Updating

@@ -4,7 +4,4 @@
 ghost use Rattle.std.specs.Prelude.{◌≡◌};
 
 pub mod bulk_update;
-mod judge;
-mod putting;
-mod secondary;
-mod values;
+mod each;

@@ -1,5 +1,5 @@
--- What an update makes: the object in its place, and its series under its name, are the repository after the call.
-use Rattle.std.specs.Prelude.{◌≡◌, ℕ, ◌+◌, Bool, true, false, if◌then◌else◌, List, [], ◌∷◌, map, find, All, Option, Some, None, IfSome, is_some, unwrap_or, option_map, option_and_then}
+-- What an update makes: the object in its place, and its series under its name, are the repository with the object changed.
+use Rattle.std.specs.Prelude.{◌≡◌, ℕ, Bool, true, false, if◌then◌else◌, List, [], ◌∷◌, map, find, All, Option, Some, None, IfSome, is_some, unwrap_or, option_map, option_and_then}
 use Rattle.std.proofs.Common.{refl, sym, ap, subst, ◌∙◌}
 use Rattle.std.proofs.lemmas.List.Elements.{All-nil, All-cons}
 use Rattle.cm_base.specs.declared.number.Oid.{Oid}
@@ -11,20 +11,17 @@ use Rattle.cm_base.specs.declared.log.ChangeKind.TheVariants as changes
 use Rattle.call_parts.specs.declared.changes.UpdateProperties.{UpdateProperties}
 use Rattle.cm_show.specs.Addressed.{addressed}
 use Rattle.cmis_spec.specs.Repository.{Repository, same, root_folder, object_at, series_at, series_of}
-use Rattle.cmis_spec.specs.Values.{kept_beside}
 use Rattle.cmis_spec.specs.Changes.{stepped, noted, edited, series_edited}
 use Rattle.cmis_spec.specs.Documents.{is_working_copy}
-use Rattle.cmis_spec.specs.Well.{HasNumbers, HasSeriesNumbers, Belongs, IsWellFormed}
+use Rattle.cmis_spec.specs.Well.{HasSeriesNumbers, Belongs, IsWellFormed}
 use Rattle.cmis_laws.proofs.Lists.{by_test, find_alike, found_holds, same_refl}
 use Rattle.cmis_laws.proofs.Entries.{series_found}
 use Rattle.cmis_laws.proofs.Kept.{find_mapped}
 use Rattle.cmis_laws.proofs.Passed.{and_then_some}
 use Rattle.wr_rules.specs.Documents.{name_after}
-use Rattle.wr_rules.proofs.Found.{addressed_there}
 use Rattle.wr_version.proofs.Making.{series_edits}
-use Rattle.wr_change.specs.Update.{secondary_updated, values_updated, name_kept, updated_object, under_name, renamed, after_update, object_updated}
+use Rattle.wr_change.specs.Update.{secondary_updated, values_updated, name_kept, updated_object, under_name, renamed, placed, changed_in, after_update, object_updated}
 use Rattle.wr_change.specs.UpdateParts.{series_renamed, with_maybe}
-use Rattle.wr_change.proofs.Updating.{after_is}
 
 -- ---- the series
 
@@ -41,11 +38,8 @@ named_by r x name numbers false (Some n) b =
     ∙ (ap (λ ss. record r { series = ss }) (series_edits r s (under_name name) numbers (ap (series_at r) number ∙ at))
     ∙ ap (λ k. series_edited r k (under_name name)) number)
 
-belongs_of : (r : Repository) (x : Object) → IsWellFormed r → object_at r x.id ≡ Some x → Belongs r x x.series
-belongs_of r x w there = found_holds (λ z. Belongs r z z.series) (λ z. same z.id x.id) r.objects x w.documents there
-
 named_is : (r : Repository) (x : Object) (name : List ℕ) → IsWellFormed r → object_at r x.id ≡ Some x → with_maybe r (series_renamed r x name) ≡ renamed r name (is_working_copy r x) x.series
-named_is r x name w there = named_by r x name w.series_numbers (is_working_copy r x) x.series (belongs_of r x w there)
+named_is r x name w there = named_by r x name w.series_numbers (is_working_copy r x) x.series (found_holds (λ z. Belongs r z z.series) (λ z. same z.id x.id) r.objects x w.documents there)
 
 -- it is there under its number
 pub series_there : (r : Repository) (x : Object) (name : List ℕ) (o : Option Series) → o ≡ series_renamed r x name → IfSome o (λ s. is_some (series_at r s.id) ≡ true)
@@ -60,27 +54,21 @@ series_there r x name o e = subst (λ o. IfSome o (λ s. is_some (series_at r s.
 
 -- ---- the object
 
-pub object_is : (r : Repository) (u : List ℕ) (m : Moment) (call : UpdateProperties) (x kept object : Object) (values : List Slot)
-    → kept ≡ record x { name = name_kept x.name (name_after r x call.properties); secondary = secondary_updated call x; values = kept_beside values }
-    → object ≡ record kept { changer = u; changed = m; token = r.step + 1 } → values ≡ values_updated r call x → object ≡ updated_object r u m call x
-object_is r u m call x kept object values e f v =
-    f ∙ (ap (λ (k : Object). record k { changer = u; changed = m; token = r.step + 1 }) e
-    ∙ ap (λ (vs : List Slot). record x { name = name_kept x.name (name_after r x call.properties); secondary = secondary_updated call x; values = kept_beside vs; changer = u; changed = m; token = r.step + 1 }) v)
+pub object_is : (r : Repository) (u : List ℕ) (m : Moment) (call : UpdateProperties) (x kept new : Object) (values : List Slot)
+    → kept ≡ record x { name = name_kept x.name (name_after r x call.properties); secondary = secondary_updated call x; values = values }
+    → new ≡ record kept { changer = u; changed = m; token = r.step } → values ≡ values_updated r call x → new ≡ updated_object r u m call x
+object_is r u m call x kept new values e f v =
+    f ∙ (ap (λ (k : Object). record k { changer = u; changed = m; token = r.step }) e
+    ∙ ap (λ (vs : List Slot). record x { name = name_kept x.name (name_after r x call.properties); secondary = secondary_updated call x; values = vs; changer = u; changed = m; token = r.step }) v)
 
--- the moment is that at which it was changed
-pub as_changed : (r : Repository) (u : List ℕ) (m : Moment) (call : UpdateProperties) (x object : Object) → object ≡ updated_object r u m call x → object ≡ updated_object r u object.changed call x
-as_changed r u m call x object e = e ∙ ap (λ t. updated_object r u t call x) (sym (ap (λ (y : Object). y.changed) e))
+-- ---- the repository with it
 
--- ---- the repository after the call
-
-pub put_is : (r : Repository) (u : List ℕ) (m : Moment) (cost : ℕ) (call : UpdateProperties) (x object : Object) (series : Option Series) → IsWellFormed r → addressed r u call.place ≡ Some x
-    → object ≡ updated_object r u m call x → series ≡ series_renamed r x (name_after r x call.properties)
-    → noted (stepped (edited (with_maybe r series) object.id (λ _. object)) cost) changes.Updated object.id m [] ≡ after_update r u m cost call
-put_is r u m cost call x object series w at e f =
-    let name : List ℕ = name_after r x call.properties in
-    (λ i. noted (stepped (edited (with_maybe r (f i)) (e i).id (λ _. e i)) cost) changes.Updated (e i).id m [])
-    ∙ (ap (λ q. noted (stepped (edited q x.id (λ _. updated_object r u m call x)) cost) changes.Updated x.id m []) (named_is r x name w (addressed_there r u call.place x w.numbers at))
-    ∙ sym (after_is r u m cost call x at))
+pub put_is : (r : Repository) (call : UpdateProperties) (x new : Object) (series : Option Series) → IsWellFormed r → object_at r x.id ≡ Some x → new.id ≡ x.id
+    → series ≡ series_renamed r x (name_after r x call.properties)
+    → noted (edited (with_maybe r series) new.id (λ _. new)) changes.Updated new.id new.changed [] ≡ placed r call x new
+put_is r call x new series w there e f =
+    (λ i. noted (edited (with_maybe r (f i)) (e i) (λ _. new)) changes.Updated (e i) new.changed [])
+    ∙ ap (λ q. noted (edited q x.id (λ _. new)) changes.Updated x.id new.changed []) (named_is r x (name_after r x call.properties) w there)
 
 -- an object in place of the one that has its number is found
 put_there : (xs : List Object) (y v : Object) → v.id ≡ y.id → find (λ z. same z.id y.id) xs ≡ Some y → find (λ z. same z.id y.id) (map (λ z. if same z.id y.id then v else z) xs) ≡ Some v
@@ -105,11 +93,22 @@ renamed_objects r name true (Some n) = refl
 renamed_objects r name false (Some n) = refl
 
 -- it is found under its number
-pub update_found : (r : Repository) (u : List ℕ) (m : Moment) (cost : ℕ) (call : UpdateProperties) (made : Repository) (x : Object) → HasNumbers r → addressed r u call.place ≡ Some x
-    → made ≡ after_update r u m cost call → object_at made x.id ≡ Some (object_updated r u m call)
-update_found r u m cost call made x w at e =
+change_found : (r : Repository) (u : List ℕ) (m : Moment) (call : UpdateProperties) (x : Object) → object_at r x.id ≡ Some x → object_at (changed_in r u m call x) x.id ≡ Some (updated_object r u m call x)
+change_found r u m call x there =
     let y : Object = updated_object r u m call x in
-    ap (λ q. object_at q x.id) (e ∙ after_is r u m cost call x at)
-    ∙ (ap (λ xs. find (λ z. same z.id x.id) (map (λ z. if same z.id x.id then y else z) xs)) (renamed_objects r (name_after r x call.properties) (is_working_copy r x) x.series)
-    ∙ (put_there r.objects x y refl (addressed_there r u call.place x w at)
-    ∙ ap (λ o. Some (updated_object r u m call (unwrap_or o (root_folder u m r.step)))) (sym at)))
+    ap (λ xs. find (λ z. same z.id x.id) (map (λ z. if same z.id x.id then y else z) xs)) (renamed_objects r (name_after r x call.properties) (is_working_copy r x) x.series)
+    ∙ put_there r.objects x y refl there
+
+-- ---- the call
+
+pub after_is : (r : Repository) (u : List ℕ) (m : Moment) (cost : ℕ) (call : UpdateProperties) (x : Object) → addressed r u call.place ≡ Some x → after_update r u m cost call ≡ changed_in (stepped r cost) u m call x
+after_is r u m cost call x at = ap (λ o. unwrap_or (option_map (changed_in (stepped r cost) u m call) o) r) at
+
+object_after : (r : Repository) (u : List ℕ) (m : Moment) (cost : ℕ) (call : UpdateProperties) (x : Object) → addressed r u call.place ≡ Some x → object_updated r u m cost call ≡ updated_object (stepped r cost) u m call x
+object_after r u m cost call x at = ap (λ o. updated_object (stepped r cost) u m call (unwrap_or o (root_folder u m r.step))) at
+
+-- the changed object is found
+pub made_found : (r : Repository) (u : List ℕ) (m : Moment) (cost : ℕ) (call : UpdateProperties) (x : Object) (made : Repository) → object_at r x.id ≡ Some x → addressed r u call.place ≡ Some x
+    → made ≡ changed_in (stepped r cost) u m call x → object_at made x.id ≡ Some (object_updated r u m cost call)
+made_found r u m cost call x made there at e =
+    ap (λ (q : Repository). object_at q x.id) e ∙ (change_found (stepped r cost) u m call x there ∙ ap Some (sym (object_after r u m cost call x at)))

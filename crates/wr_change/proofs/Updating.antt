@@ -1,4 +1,4 @@
--- updateProperties keeps what is well formed.
+-- An update keeps what is well formed.
 use Rattle.std.specs.Prelude.{◌≡◌, ℕ, ◌+◌, ◌<◌, ◌^◌, Bool, true, false, not, ◌&&◌, if◌then◌else◌, List, [], ◌∷◌, ◌++◌, filter, All, Option, Some, None, Ok, is_some, unwrap_or, option_map, option_and_then, bytes_eq, codes}
 use Rattle.std.specs.List.{list_any}
 use Rattle.std.proofs.Common.{refl, sym, ap, subst, ◌∙◌, arith}
@@ -12,7 +12,7 @@ use Rattle.cm_base.specs.declared.filing.Filed.{Filed}
 use Rattle.cm_base.specs.declared.access.Level.TheVariants as levels
 use Rattle.cm_base.specs.declared.log.ChangeKind.TheVariants as changes
 use Rattle.cm_base.specs.declared.cause.Cause.TheVariants as causes
-use Rattle.cm_base.specs.Judged.{first_cause}
+use Rattle.cm_base.specs.Judged.{◌>>=◌, find_or, first_cause}
 use Rattle.cm_base.specs.Names.{is_name}
 use Rattle.cm_types.specs.declared.definition.BaseType.TheVariants as bases
 use Rattle.cm_types.specs.declared.given.PropertyCall.TheVariants as calls
@@ -24,56 +24,49 @@ use Rattle.cmis_spec.specs.Repository.{Repository, same, root, object_at, series
 use Rattle.cmis_spec.specs.Access.{lacks}
 use Rattle.cmis_spec.specs.Changes.{stepped, noted, edited, series_edited}
 use Rattle.cmis_spec.specs.Documents.{is_working_copy, judge_changeable}
-use Rattle.cmis_spec.specs.Well.{IsSeriesAt, Belongs, HasEnds, is_version, IsTyped, IsKept, OwnsValues, IsWellFormed}
+use Rattle.cmis_spec.specs.Well.{HasNumbers, IsSeriesAt, Belongs, HasEnds, is_version, IsTyped, IsKept, OwnsValues, IsWellFormed}
 use Rattle.cmis_laws.proofs.Lists.{found_holds, all_from_any, none_some}
 use Rattle.cmis_laws.proofs.Entries.{series_found}
-use Rattle.cmis_laws.proofs.Edited.{edit_keeps, changed_keeps}
-use Rattle.cmis_laws.proofs.Passed.{refused_not, then_ok, refuse_ok, find_ok}
-use Rattle.cmis_laws.proofs.Steps.{HasRoom, step_keeps, note_keeps}
-use Rattle.wr_rules.specs.Rules.{judge_storage, judge_token, distinct, secondary_in, unknown_type, has_other_secondary}
+use Rattle.cmis_laws.proofs.Edited.{edit_keeps}
+use Rattle.cmis_laws.proofs.Passed.{refused_not, then_ok, refuse_ok}
+use Rattle.cmis_laws.proofs.Steps.{note_keeps}
+use Rattle.wr_rules.specs.Rules.{judge_token, distinct, secondary_in, unknown_type, has_other_secondary}
 use Rattle.wr_rules.specs.Documents.{form_slots, name_after, secondary_after, is_taken_anywhere}
 use Rattle.wr_rules.proofs.Found.{addressed_there}
 use Rattle.wr_rules.proofs.Known.{below_secondary}
-use Rattle.wr_rules.proofs.Room.{room_of, fits_of}
-use Rattle.wr_change.specs.Update.{secondary_named, props_updated, gives_name, takes_name, judge_allowed, refusal_update, name_kept, updated_object, under_name, renamed, after_update_of, after_update}
+use Rattle.wr_change.specs.Update.{secondary_named, props_updated, gives_name, takes_name, judge_new_name, judge_allowed, judge_update, refusal_one, name_kept, updated_object, under_name, renamed, changed_in}
+use Rattle.wr_change.specs.UpdateParts.{MayChange}
 use Rattle.wr_change.proofs.Ends.{all_front, all_back, ends_updated}
 use Rattle.wr_change.proofs.KeptUpdated.{kept_updated, owns_updated}
 use Rattle.wr_change.proofs.Renamed.{rename_keeps}
 
 -- ---- what a refusal that is none tells
 
-pub record Passes (r : Repository) (u : List ℕ) (cost : ℕ) (call : UpdateProperties) : Type 0 where
-  pub room : HasRoom r cost
-  pub x : Object
-  pub at : addressed r u call.place ≡ Some x
-  pub secondary : has_other_secondary r.types (secondary_named call) ≡ false
-  pub properties : judge_properties (calls.Update (is_working_copy r x)) (props_updated r call x) (form_slots r x) call.properties ≡ Ok tt
-  pub free : takes_name r x (name_after r x call.properties) ≡ false
-
-pub passes : (r : Repository) (u : List ℕ) (cost : ℕ) (call : UpdateProperties) → refusal_update r u cost call ≡ Ok tt → Passes r u cost call
-passes r u cost call h =
-    let s = then_ok (judge_storage r cost) _ h in
-    let a = find_ok causes.NotFound (addressed r u call.place) _ s.1 in
-    let t = then_ok (first_cause (unknown_type r.types) (secondary_named call)) _ a.2 in
-    let l = then_ok (judge_allowed r u call a.0) _ t.1 in
-    let d = refuse_ok causes.Denied (lacks r u levels.Write a.0) _ l.0 in
-    let e = then_ok (judge_token a.0 call.token) _ d.1 in
-    let f = refuse_ok causes.RootFixed (same a.0.id root && gives_name call) _ e.1 in
-    let g = then_ok (judge_changeable r a.0) _ f.1 in
-    let p = then_ok (judge_properties (calls.Update (is_working_copy r a.0)) (props_updated r call a.0) (form_slots r a.0) call.properties) _ l.1 in
-    let n = refuse_ok causes.BadName (not (is_name (name_after r a.0 call.properties))) _ p.1 in
+right : (r : Repository) (u : List ℕ) (m : Moment) (call : UpdateProperties) (x : Object) → object_at r x.id ≡ Some x → judge_update r u m call x ≡ Ok tt → MayChange r call x
+right r u m call x there h =
+    let t = then_ok (first_cause (unknown_type r.types) (secondary_named call)) _ h in
+    let l = then_ok (judge_allowed r u call x) _ t.1 in
+    let d = refuse_ok causes.Denied (lacks r u levels.Write x) _ l.0 in
+    let e = then_ok (judge_token x call.token) _ d.1 in
+    let f = refuse_ok causes.RootFixed (same x.id root && gives_name call) _ e.1 in
+    let g = then_ok (judge_changeable r x) _ f.1 in
+    let p = then_ok (judge_properties (calls.Update (is_working_copy r x)) (props_updated r call x) (form_slots r x) call.properties) _ l.1 in
+    let n = then_ok (judge_new_name r call x) _ p.1 in
+    let b = refuse_ok causes.BadName (not (is_name (name_after r x call.properties))) _ n.0 in
     record {
-      room = room_of r cost s.0;
-      x = a.0;
-      at = a.1;
+      there = there;
       secondary = refused_not causes.TypeKind (has_other_secondary r.types (secondary_named call)) g.1;
       properties = p.0;
-      free = refused_not causes.NameTaken (takes_name r a.0 (name_after r a.0 call.properties)) n.1;
+      free = refused_not causes.NameTaken (takes_name r x (name_after r x call.properties)) b.1;
     }
 
--- one more step and its cost stay numbers of 64 bits
-pub room_for : (r : Repository) (u : List ℕ) (cost : ℕ) (call : UpdateProperties) → refusal_update r u cost call ≡ Ok tt → (r.step + 1 < 2 ^ 64) × (r.cost + cost < 2 ^ 64)
-room_for r u cost call h = fits_of r cost (passes r u cost call h).room
+-- what is found may be changed so
+pub found_right : (r : Repository) (u : List ℕ) (m : Moment) (call : UpdateProperties) (x : Object) → HasNumbers r → addressed r u call.place ≡ Some x → refusal_one r u m call ≡ Ok tt → MayChange r call x
+found_right r u m call x numbers at h = right r u m call x (addressed_there r u call.place x numbers at) (subst (λ o. (find_or causes.NotFound o >>= judge_update r u m call) ≡ Ok tt) at h)
+
+-- also in a step that is taken for it
+pub right_stepped : (r : Repository) (cost : ℕ) (call : UpdateProperties) (x : Object) → MayChange r call x → MayChange (stepped r cost) call x
+right_stepped r cost call x p = record { there = p.there; secondary = p.secondary; properties = p.properties; free = p.free }
 
 -- ---- parts
 
@@ -104,10 +97,7 @@ own_name (Some t) name h = refl
 
 -- ---- all
 
-module _ (r : Repository) (u : List ℕ) (m : Moment) (cost : ℕ) (call : UpdateProperties) (w : IsWellFormed r) (p : Passes r u cost call) where
-  abbrev x : Object
-  x = p.x
-
+module _ (r : Repository) (u : List ℕ) (m : Moment) (call : UpdateProperties) (x : Object) (w : IsWellFormed r) (p : MayChange r call x) where
   abbrev y : Object
   y = updated_object r u m call x
 
@@ -115,7 +105,7 @@ module _ (r : Repository) (u : List ℕ) (m : Moment) (cost : ℕ) (call : Updat
   name = name_after r x call.properties
 
   there : object_at r x.id ≡ Some x
-  there = addressed_there r u call.place x w.numbers p.at
+  there = p.there
 
   belongs : Belongs r x x.series
   belongs = found_holds (λ z. Belongs r z z.series) (λ z. same z.id x.id) r.objects x w.documents there
@@ -177,9 +167,8 @@ module _ (r : Repository) (u : List ℕ) (m : Moment) (cost : ℕ) (call : Updat
       (subst (λ n. is_taken r q.folder n name ≡ false) entry (taken_not (same q.child (entry_of x)) (is_taken r q.folder (entry_of x) name) a (subst (λ n. same q.child n ≡ true) (sym entry) e))))
       r.filed (away copy)
 
-  -- in a repository with the same objects, types and pairs
-  alone_well : IsWellFormed (noted (stepped (edited r x.id (λ _. y)) cost) changes.Updated x.id m [])
-  alone_well = changed_keeps r cost changes.Updated m x (λ _. y) w p.room (record {
+  alone_well : IsWellFormed (noted (edited r x.id (λ _. y)) changes.Updated x.id m [])
+  alone_well = note_keeps (edited r x.id (λ _. y)) changes.Updated x.id m [] (edit_keeps r x (λ _. y) w (record {
     there = there;
     id = refl;
     kind = refl;
@@ -187,11 +176,11 @@ module _ (r : Repository) (u : List ℕ) (m : Moment) (cost : ℕ) (call : Updat
     named = named_same x.name name;
     free = free_by x.series refl;
     typed = typed;
-    kept = kept_in (stepped r cost);
+    kept = kept_in r;
     owned = owned;
     ends = ends;
     token = omega arith;
-  })
+  }))
 
   -- the series gets the name first
   module _ (n : Oid) (own : x.series ≡ Some n) (no_copy : is_working_copy r x ≡ false) (is_there : IsSeriesAt r n) where
@@ -205,10 +194,10 @@ module _ (r : Repository) (u : List ℕ) (m : Moment) (cost : ℕ) (call : Updat
     entry = ap (λ o. unwrap_or o x.id) own ∙ sym number
 
     abbrev base : Repository
-    base = series_edited (stepped r cost) s.id (under_name name)
+    base = series_edited r s.id (under_name name)
 
     base_well : IsWellFormed base
-    base_well = rename_keeps (stepped r cost) s name (step_keeps r cost w p.room) (ap (series_at r) number ∙ is_there.1)
+    base_well = rename_keeps r s name w (ap (series_at r) number ∙ is_there.1)
         (All-weaker IsAway (λ q. same q.child s.id ≡ true → is_taken r q.folder s.id name ≡ false)
         (λ q a e. subst (λ n. is_taken r q.folder n name ≡ false) entry (taken_not (same q.child (entry_of x)) (is_taken r q.folder (entry_of x) name) a (subst (λ n. same q.child n ≡ true) (sym entry) e)))
         r.filed (away no_copy))
@@ -217,8 +206,8 @@ module _ (r : Repository) (u : List ℕ) (m : Moment) (cost : ℕ) (call : Updat
     never [] = All-nil (λ q. x.series ≡ None → same q.child x.id ≡ true → is_taken base q.folder x.id (unwrap_or y.name []) ≡ false)
     never (q ∷ qs) = All-cons (λ q. x.series ≡ None → same q.child x.id ≡ true → is_taken base q.folder x.id (unwrap_or y.name []) ≡ false) q qs (λ none _. absurd (none_some n (sym none ∙ own))) (never qs)
 
-    series_well : IsWellFormed (noted (stepped (edited (series_edited r n (under_name name)) x.id (λ _. y)) cost) changes.Updated x.id m [])
-    series_well = subst (λ k. IsWellFormed (noted (stepped (edited (series_edited r k (under_name name)) x.id (λ _. y)) cost) changes.Updated x.id m [])) number
+    series_well : IsWellFormed (noted (edited (series_edited r n (under_name name)) x.id (λ _. y)) changes.Updated x.id m [])
+    series_well = subst (λ k. IsWellFormed (noted (edited (series_edited r k (under_name name)) x.id (λ _. y)) changes.Updated x.id m [])) number
         (note_keeps (edited base x.id (λ _. y)) changes.Updated x.id m []
         (edit_keeps base x (λ _. y) base_well (record {
           there = there;
@@ -234,16 +223,10 @@ module _ (r : Repository) (u : List ℕ) (m : Moment) (cost : ℕ) (call : Updat
           token = omega arith;
         })))
 
-  update_by : (working : Bool) (o : Option Oid) → is_working_copy r x ≡ working → x.series ≡ o → IsWellFormed (noted (stepped (edited (renamed r name working o) x.id (λ _. y)) cost) changes.Updated x.id m [])
+  update_by : (working : Bool) (o : Option Oid) → is_working_copy r x ≡ working → x.series ≡ o → IsWellFormed (noted (edited (renamed r name working o) x.id (λ _. y)) changes.Updated x.id m [])
   update_by working None e h = alone_well
   update_by true (Some n) e h = alone_well
   update_by false (Some n) e h = let b : Belongs r x (Some n) = subst (Belongs r x) h belongs in series_well n h e (b.1.0, b.1.1)
 
-  pub update_well : IsWellFormed (after_update_of r u m cost call x)
-  update_well = update_by (is_working_copy r x) x.series refl refl
-
-pub after_is : (r : Repository) (u : List ℕ) (m : Moment) (cost : ℕ) (call : UpdateProperties) (x : Object) → addressed r u call.place ≡ Some x → after_update r u m cost call ≡ after_update_of r u m cost call x
-after_is r u m cost call x at = ap (λ o. unwrap_or (option_map (after_update_of r u m cost call) o) r) at
-
-pub keeps_update : (r : Repository) (u : List ℕ) (m : Moment) (cost : ℕ) (call : UpdateProperties) → IsWellFormed r → refusal_update r u cost call ≡ Ok tt → IsWellFormed (after_update r u m cost call)
-keeps_update r u m cost call w h = let p = passes r u cost call h in subst IsWellFormed (sym (after_is r u m cost call p.x p.at)) (update_well r u m cost call w p)
+  pub changed_well : IsWellFormed (changed_in r u m call x)
+  changed_well = update_by (is_working_copy r x) x.series refl refl

@@ -1,5 +1,5 @@
 -- updateProperties (CMIS 1.1, section 2.2.4.13): when it is refused, what it makes of the repository, and what it answers.
-use Rattle.std.specs.Prelude.{ℕ, ◌+◌, Bool, true, false, ◌&&◌, not, List, [], ◌++◌, filter, Option, Some, None, is_some, unwrap_or, option_map, bytes_eq, codes}
+use Rattle.std.specs.Prelude.{ℕ, Bool, true, false, ◌&&◌, not, List, [], ◌++◌, filter, Option, Some, None, is_some, unwrap_or, option_map, bytes_eq, codes}
 use Rattle.std.specs.List.{list_any}
 use Rattle.cm_base.specs.declared.number.Oid.{Oid}
 use Rattle.cm_base.specs.declared.number.Moment.{Moment}
@@ -26,6 +26,7 @@ use Rattle.cmis_spec.specs.Access.{lacks}
 use Rattle.cmis_spec.specs.Values.{kept_beside}
 use Rattle.cmis_spec.specs.Changes.{stepped, noted, edited, series_edited}
 use Rattle.cmis_spec.specs.Documents.{is_working_copy, judge_changeable}
+use Rattle.cmis_spec.specs.Retention.{judge_retention}
 use Rattle.wr_rules.specs.Rules.{judge_storage, judge_token, distinct, secondary_in, unknown_type, has_other_secondary}
 use Rattle.wr_rules.specs.Documents.{form_slots, name_after, secondary_after, is_taken_anywhere}
 
@@ -45,6 +46,10 @@ secondary_updated call x = distinct (filter (λ t. not (list_any (bytes_eq t) ca
 -- the definitions of the properties that the object has after it
 abbrev pub props_updated : Repository → UpdateProperties → Object → List PropDef
 props_updated r call x = props_of r.types x.kind (secondary_updated call x)
+
+-- the values of these properties after it
+abbrev pub values_updated : Repository → UpdateProperties → Object → List Slot
+values_updated r call x = kept_beside (kept_values (calls.Update (is_working_copy r x)) (props_updated r call x) (form_slots r x) call.properties)
 
 abbrev pub gives_name : UpdateProperties → Bool
 gives_name call = is_some (given_of call.properties (codes "cmis:name"))
@@ -70,38 +75,42 @@ judge_allowed r u call x = do
   judge_changeable r x
   refuse causes.TypeKind (has_other_secondary r.types (secondary_named call))
 
-abbrev pub judge_update : Repository → List ℕ → UpdateProperties → Object → Judged (Unit {0})
-judge_update r u call x = do
+-- the retention of the object, if it is under one at the moment, is neither taken away nor shortened (section 2.1.16.1)
+abbrev pub judge_update : Repository → List ℕ → Moment → UpdateProperties → Object → Judged (Unit {0})
+judge_update r u m call x = do
   first_cause (unknown_type r.types) (secondary_named call)
   judge_allowed r u call x
   judge_properties (calls.Update (is_working_copy r x)) (props_updated r call x) (form_slots r x) call.properties
   judge_new_name r call x
+  judge_retention r m (secondary_updated call x) (values_updated r call x) x
 
-abbrev pub refusal_update : Repository → List ℕ → ℕ → UpdateProperties → Judged (Unit {0})
-refusal_update r u cost call = do
-  judge_storage r cost
+-- the limits of the repository aside
+abbrev pub refusal_one : Repository → List ℕ → Moment → UpdateProperties → Judged (Unit {0})
+refusal_one r u m call = do
   x ← find_or causes.NotFound (addressed r u call.place)
-  judge_update r u call x
+  judge_update r u m call x
+
+abbrev pub refusal_update : Repository → List ℕ → Moment → ℕ → UpdateProperties → Judged (Unit {0})
+refusal_update r u m cost call = do
+  judge_storage r cost
+  refusal_one r u m call
 
 -- ---- the repository after it
-
--- the values of the properties after the call
-abbrev pub values_updated : Repository → UpdateProperties → Object → List Slot
-values_updated r call x = kept_values (calls.Update (is_working_copy r x)) (props_updated r call x) (form_slots r x) call.properties
 
 -- a version has the name of its series, everything else one of its own
 abbrev pub name_kept : Option (List ℕ) → List ℕ → Option (List ℕ)
 name_kept None name = None
 name_kept (Some old) name = Some name
 
+-- the object as the call leaves it in the step that was taken last
 abbrev pub updated_object : Repository → List ℕ → Moment → UpdateProperties → Object → Object
 updated_object r u m call x = record x {
   name = name_kept x.name (name_after r x call.properties);
   secondary = secondary_updated call x;
-  values = kept_beside (values_updated r call x);
+  values = values_updated r call x;
   changer = u;
   changed = m;
-  token = r.step + 1;
+  token = r.step;
 }
 
 abbrev pub under_name : List ℕ → Series → Series
@@ -113,22 +122,27 @@ renamed r name working None = r
 renamed r name true (Some n) = r
 renamed r name false (Some n) = series_edited r n (under_name name)
 
-abbrev pub after_update_of : Repository → List ℕ → Moment → ℕ → UpdateProperties → Object → Repository
-after_update_of r u m cost call x =
-    noted (stepped (edited (renamed r (name_after r x call.properties) (is_working_copy r x) x.series) x.id (λ _. updated_object r u m call x)) cost) changes.Updated x.id m []
+-- a new object in place of the old one, after the series of the old one under its name, with its event
+abbrev pub placed : Repository → UpdateProperties → Object → Object → Repository
+placed r call x new =
+    noted (edited (renamed r (name_after r x call.properties) (is_working_copy r x) x.series) x.id (λ _. new)) changes.Updated x.id new.changed []
 
+abbrev pub changed_in : Repository → List ℕ → Moment → UpdateProperties → Object → Repository
+changed_in r u m call x = placed r call x (updated_object r u m call x)
+
+-- one step further, and in that step the object is changed
 abbrev pub after_update : Repository → List ℕ → Moment → ℕ → UpdateProperties → Repository
-after_update r u m cost call = unwrap_or (option_map (after_update_of r u m cost call) (addressed r u call.place)) r
+after_update r u m cost call = unwrap_or (option_map (changed_in (stepped r cost) u m call) (addressed r u call.place)) r
 
 -- ---- the reply
 
 -- the object that is made of the addressed one; where nothing is addressed the call is refused, and a root stands for it
-abbrev pub object_updated : Repository → List ℕ → Moment → UpdateProperties → Object
-object_updated r u m call = updated_object r u m call (unwrap_or (addressed r u call.place) (root_folder u m r.step))
+abbrev pub object_updated : Repository → List ℕ → Moment → ℕ → UpdateProperties → Object
+object_updated r u m cost call = updated_object (stepped r cost) u m call (unwrap_or (addressed r u call.place) (root_folder u m r.step))
 
 -- the object as the caller sees it after the step
 abbrev pub acknowledgement_update : Repository → List ℕ → Moment → ℕ → UpdateProperties → ObjectReply
 acknowledgement_update r u m cost call = record {
-  object = shown_object (after_update r u m cost call) u filters.All call.succinct (object_updated r u m call);
+  object = shown_object (after_update r u m cost call) u filters.All call.succinct (object_updated r u m cost call);
   created = false;
 }

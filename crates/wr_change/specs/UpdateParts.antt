@@ -1,11 +1,23 @@
--- The series of a document under the name that an update gives it.
-use Rattle.std.specs.Prelude.{ℕ, if◌then◌else◌, List, Option, Some, None, option_map}
+-- What the program makes of an object that an update changes.
+use Rattle.std.specs.Prelude.{◌≡◌, ℕ, false, if◌then◌else◌, List, Option, Some, None, Ok, option_map}
 use Rattle.cm_base.specs.declared.object.Object.{Object}
 use Rattle.cm_base.specs.declared.series.Series.{Series}
-use Rattle.cmis_spec.specs.Repository.{Repository, series_of}
+use Rattle.cm_types.specs.declared.given.PropertyCall.TheVariants as calls
+use Rattle.cm_types.specs.Properties.{judge_properties}
+use Rattle.call_parts.specs.declared.changes.UpdateProperties.{UpdateProperties}
+use Rattle.cmis_spec.specs.Repository.{Repository, object_at, series_of}
 use Rattle.cmis_spec.specs.Changes.{edited_series}
 use Rattle.cmis_spec.specs.Documents.{is_working_copy}
-use Rattle.wr_change.specs.Update.{under_name}
+use Rattle.wr_rules.specs.Rules.{has_other_secondary}
+use Rattle.wr_rules.specs.Documents.{form_slots, name_after}
+use Rattle.wr_change.specs.Update.{secondary_named, props_updated, takes_name, under_name}
+
+-- the object is there, and what the call asks of it is right, whoever calls and whatever the step
+pub record MayChange (r : Repository) (call : UpdateProperties) (x : Object) : Type 0 where
+  pub there : object_at r x.id ≡ Some x
+  pub secondary : has_other_secondary r.types (secondary_named call) ≡ false
+  pub properties : judge_properties (calls.Update (is_working_copy r x)) (props_updated r call x) (form_slots r x) call.properties ≡ Ok tt
+  pub free : takes_name r x (name_after r x call.properties) ≡ false
 
 -- a working copy keeps its name for itself
 abbrev pub series_renamed : Repository → Object → List ℕ → Option Series

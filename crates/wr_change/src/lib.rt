@@ -3,6 +3,7 @@
 
 ghost use Rattle.std.specs.Prelude.{◌≡◌};
 
+pub mod change;
 mod putting;
 mod secondary;
 pub mod update;

@@ -1,8 +1,8 @@
 //! A changed object in its place, and its series under its name, as a draft.
-ghost use Rattle.std.specs.Prelude.{◌≡◌, ◌+◌, ◌<◌, ◌^◌, [], IfOk, IfSome, is_some, true};
+ghost use Rattle.std.specs.Prelude.{◌≡◌, [], IfOk, IfSome, is_some, true};
 ghost use Rattle.cm_base.specs.declared.log.ChangeKind.TheVariants.{Updated};
 ghost use Rattle.cmis_spec.specs.Repository.{object_at, series_at};
-ghost use Rattle.cmis_spec.specs.Changes.{stepped, noted, edited};
+ghost use Rattle.cmis_spec.specs.Changes.{noted, edited};
 ghost use Rattle.wr_change.specs.Update.{under_name};
 ghost use Rattle.wr_change.specs.UpdateParts.{series_renamed, with_maybe};
 
@@ -63,20 +63,17 @@ fn with_maybe(alloc: Global, draft: Draft, series: Option<Series>) -> Result<Dra
     }
 }
 
-/// The object in place of the one that has its number, after its series, one step further, with its event.
+/// The object in place of the one that has its number, after its series, with its event.
 pub(crate) fn put_in(
     alloc: Global,
     state: &State,
     object: Object,
     series: Option<Series>,
-    cost: u64,
 ) -> Result<Draft, AllocError>
     requires object { is_some (object_at state.now object.id) ≡ true }
     requires series { IfSome series (λ s. is_some (series_at state.now s.id) ≡ true) }
-    requires step { state.now.step + 1 < 2 ^ 64 }
-    requires cost { state.now.cost + cost < 2 ^ 64 }
     ensures { IfOk result (λ d. d ≡
-        noted (stepped (edited (with_maybe state.now series) object.id (λ _. object)) cost)
+        noted (edited (with_maybe state.now series) object.id (λ _. object))
         Updated object.id object.changed []) }
 {
     let number = object.id;
@@ -84,8 +81,7 @@ pub(crate) fn put_in(
     let begun = Draft::of(alloc, state)?;
     let named = with_maybe(alloc, begun, series)?;
     let put = named.edited(alloc, object)?;
-    let paid = put.stepped(cost);
-    let noted = paid.noted(
+    let noted = put.noted(
         alloc,
         ChangeKind::Updated,
         number,

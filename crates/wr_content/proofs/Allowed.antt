@@ -1,5 +1,5 @@
 -- A document that a call on content does not refuse is one, and there is room for the step.
-use Rattle.std.specs.Prelude.{◌≡◌, ℕ, ◌+◌, ◌<◌, ◌^◌, true, not, List, Option, Some, Ok, unwrap_or, option_map}
+use Rattle.std.specs.Prelude.{◌≡◌, ℕ, ◌+◌, ◌<◌, ◌^◌, true, not, List, [], ◌∷◌, Option, Some, Ok, unwrap_or, option_map}
 use Rattle.std.proofs.Common.{sym, ap, subst, ◌∙◌}
 use Rattle.cm_base.specs.declared.number.Moment.{Moment}
 use Rattle.cm_base.specs.declared.object.Object.{Object}
@@ -11,13 +11,14 @@ use Rattle.call_parts.specs.declared.place.Place.{Place}
 use Rattle.cm_show.specs.Addressed.{addressed}
 use Rattle.cmis_spec.specs.Repository.{Repository, root_folder, object_at, is_a}
 use Rattle.cmis_spec.specs.Access.{lacks}
+use Rattle.cmis_spec.specs.Retention.{judge_kept}
 use Rattle.cmis_laws.proofs.Passed.{then_ok, refuse_ok, not_false}
 use Rattle.cmis_laws.proofs.Steps.{HasRoom}
 use Rattle.wr_rules.specs.Rules.{judge_storage, judge_token}
 use Rattle.wr_rules.proofs.Room.{room_of, fits_of}
 use Rattle.wr_content.specs.Document.{judge_document, document_at}
 
--- what is known of the object that is addressed; the rest are the lines behind those that the calls share
+-- what is known of the object that is addressed; the rest are the lines between those that the calls share
 pub record Passes (r : Repository) (cost : ℕ) (x : Object) (rest : Judged (Unit {0})) : Type 0 where
   pub room : HasRoom r cost
   pub step : r.step + 1 < 2 ^ 64
@@ -25,12 +26,12 @@ pub record Passes (r : Repository) (cost : ℕ) (x : Object) (rest : Judged (Uni
   pub document : is_a r bases.Document x ≡ true
   pub others : rest ≡ Ok tt
 
-pub passes : (r : Repository) (u : List ℕ) (cost : ℕ) (place : Place) (token : Option (List ℕ)) (rest : Object → Judged (Unit {0})) (x : Object) → addressed r u place ≡ Some x
-    → judge_storage r cost >> (find_or causes.NotFound (addressed r u place) >>= (λ y. judge_document r u token y >> rest y)) ≡ Ok tt → Passes r cost x (rest x)
-passes r u cost place token rest x at h =
+pub passes : (r : Repository) (u : List ℕ) (m : Moment) (cost : ℕ) (place : Place) (token : Option (List ℕ)) (rest : Object → Judged (Unit {0})) (x : Object) → addressed r u place ≡ Some x
+    → judge_storage r cost >> (find_or causes.NotFound (addressed r u place) >>= (λ y. judge_document r u token y >> (rest y >> judge_kept r m (y ∷ [])))) ≡ Ok tt → Passes r cost x (rest x)
+passes r u m cost place token rest x at h =
     let s = then_ok (judge_storage r cost) _ h in
-    let f : judge_document r u token x >> rest x ≡ Ok tt = subst (λ o. find_or causes.NotFound o >>= (λ y. judge_document r u token y >> rest y) ≡ Ok tt) at s.1 in
-    let d = then_ok (judge_document r u token x) (rest x) f in
+    let f : judge_document r u token x >> (rest x >> judge_kept r m (x ∷ [])) ≡ Ok tt = subst (λ o. find_or causes.NotFound o >>= (λ y. judge_document r u token y >> (rest y >> judge_kept r m (y ∷ []))) ≡ Ok tt) at s.1 in
+    let d = then_ok (judge_document r u token x) (rest x >> judge_kept r m (x ∷ [])) f in
     let a = refuse_ok causes.Denied (lacks r u levels.Write x) _ d.0 in
     let t = then_ok (judge_token x token) _ a.1 in
     let k = refuse_ok causes.WrongKind (not (is_a r bases.Document x)) _ t.1 in
@@ -41,7 +42,7 @@ passes r u cost place token rest x at h =
       step = fits.0;
       bytes = fits.1;
       document = not_false (is_a r bases.Document x) k.0;
-      others = d.1;
+      others = (then_ok (rest x) (judge_kept r m (x ∷ [])) d.1).0;
     }
 
 -- the repository after a call, where an object is addressed

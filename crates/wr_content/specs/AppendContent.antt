@@ -1,5 +1,5 @@
 -- appendContent (CMIS 1.1, section 2.2.4.19): when it is refused, what it makes of the repository, and what it answers.
-use Rattle.std.specs.Prelude.{ℕ, ◌+◌, ◌++◌, nat_lt, Bool, List, [], length, unwrap_or, option_map}
+use Rattle.std.specs.Prelude.{ℕ, ◌+◌, ◌++◌, nat_lt, Bool, List, [], ◌∷◌, length, unwrap_or, option_map}
 use Rattle.cm_base.specs.declared.number.Moment.{Moment}
 use Rattle.cm_base.specs.declared.object.Object.{Object}
 use Rattle.cm_base.specs.declared.content.Content.{Content}
@@ -11,6 +11,7 @@ use Rattle.call_parts.specs.declared.stream.GivenStream.{GivenStream}
 use Rattle.call_parts.specs.Changes.{weight_of_append}
 use Rattle.cm_show.specs.Addressed.{addressed}
 use Rattle.cmis_spec.specs.Repository.{Repository, longest_stream, name_of}
+use Rattle.cmis_spec.specs.Retention.{judge_kept}
 use Rattle.wr_rules.specs.Rules.{judge_storage}
 use Rattle.wr_rules.specs.Documents.{content_of_stream}
 use Rattle.cm_state.specs.Looks.{content_at}
@@ -51,12 +52,13 @@ judge_growth r call x = do
   refuse causes.StreamNot (is_barred r x)
   refuse causes.StreamLong (grows_too_long r call x)
 
-abbrev pub refusal_append_content : Repository → List ℕ → ℕ → AppendContent → Judged (Unit {0})
-refusal_append_content r u cost call = do
+abbrev pub refusal_append_content : Repository → List ℕ → Moment → ℕ → AppendContent → Judged (Unit {0})
+refusal_append_content r u m cost call = do
   judge_storage r cost
   x ← find_or causes.NotFound (addressed r u call.place)
   judge_document r u call.token x
   judge_growth r call x
+  judge_kept r m (x ∷ [])
 
 -- ---- the repository after it
 

@@ -1,5 +1,5 @@
 -- deleteContent (CMIS 1.1, section 2.2.4.20): when it is refused, what it makes of the repository, and what it answers.
-use Rattle.std.specs.Prelude.{ℕ, if◌then◌else◌, List, is_some, unwrap_or, option_map}
+use Rattle.std.specs.Prelude.{ℕ, if◌then◌else◌, List, [], ◌∷◌, is_some, unwrap_or, option_map}
 use Rattle.cm_base.specs.declared.number.Moment.{Moment}
 use Rattle.cm_base.specs.declared.object.Object.{Object}
 use Rattle.cm_base.specs.declared.cause.Cause.TheVariants as causes
@@ -10,6 +10,7 @@ use Rattle.call_parts.specs.Changes.{weight_of_delete_content}
 use Rattle.cm_show.specs.Addressed.{addressed}
 use Rattle.cmis_spec.specs.Repository.{Repository}
 use Rattle.cmis_spec.specs.Changes.{stepped}
+use Rattle.cmis_spec.specs.Retention.{judge_kept}
 use Rattle.wr_rules.specs.Rules.{judge_storage}
 use Rattle.cm_state.specs.Looks.{content_at}
 use Rattle.wr_content.specs.Changed.{changed_by, cleared}
@@ -20,12 +21,13 @@ cost_delete_content call = weight_of_delete_content call
 
 -- ---- the refusal
 
-abbrev pub refusal_delete_content : Repository → List ℕ → ℕ → DeleteContent → Judged (Unit {0})
-refusal_delete_content r u cost call = do
+abbrev pub refusal_delete_content : Repository → List ℕ → Moment → ℕ → DeleteContent → Judged (Unit {0})
+refusal_delete_content r u m cost call = do
   judge_storage r cost
   x ← find_or causes.NotFound (addressed r u call.place)
   judge_document r u call.token x
   refuse causes.ContentRequired (is_needed r x)
+  judge_kept r m (x ∷ [])
 
 -- ---- the repository after it
 

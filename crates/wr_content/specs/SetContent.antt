@@ -1,5 +1,5 @@
 -- setContent (CMIS 1.1, section 2.2.4.18): when it is refused, what it makes of the repository, and what it answers.
-use Rattle.std.specs.Prelude.{ℕ, ◌+◌, not, ◌&&◌, List, is_some, unwrap_or, option_map}
+use Rattle.std.specs.Prelude.{ℕ, ◌+◌, not, ◌&&◌, List, [], ◌∷◌, is_some, unwrap_or, option_map}
 use Rattle.cm_base.specs.declared.number.Moment.{Moment}
 use Rattle.cm_base.specs.declared.object.Object.{Object}
 use Rattle.cm_base.specs.declared.content.Content.{Content}
@@ -10,6 +10,7 @@ use Rattle.call_parts.specs.declared.replies.ObjectReply.{ObjectReply}
 use Rattle.call_parts.specs.Changes.{weight_of_set_content}
 use Rattle.cm_show.specs.Addressed.{addressed}
 use Rattle.cmis_spec.specs.Repository.{Repository, name_of}
+use Rattle.cmis_spec.specs.Retention.{judge_kept}
 use Rattle.wr_rules.specs.Rules.{judge_storage}
 use Rattle.wr_rules.specs.Documents.{is_too_long, content_of_stream}
 use Rattle.cm_state.specs.Looks.{content_at}
@@ -28,12 +29,13 @@ judge_stream r call x = do
   refuse causes.ContentExists (not call.overwrite && is_some (content_at r x.id))
   refuse causes.StreamLong (is_too_long call.stream)
 
-abbrev pub refusal_set_content : Repository → List ℕ → ℕ → SetContent → Judged (Unit {0})
-refusal_set_content r u cost call = do
+abbrev pub refusal_set_content : Repository → List ℕ → Moment → ℕ → SetContent → Judged (Unit {0})
+refusal_set_content r u m cost call = do
   judge_storage r cost
   x ← find_or causes.NotFound (addressed r u call.place)
   judge_document r u call.token x
   judge_stream r call x
+  judge_kept r m (x ∷ [])
 
 -- ---- the repository after it
 

@@ -26,6 +26,7 @@ use std::alloc::{AllocError, Global};
 use wr_rules::content::{content_of_stream, longest_stream};
 use wr_rules::copied::name_of;
 use wr_rules::made::with_changed;
+use wr_rules::retention::judge_kept;
 use wr_rules::storage::judge_storage;
 
 // How many bytes the document has.
@@ -66,16 +67,18 @@ fn judge<'a>(
     alloc: Global,
     state: &'a State,
     user: &Text,
+    moment: Moment,
     call: &AppendContent,
 ) -> Result<&'a Object, Fail>
     ensures { FindsOr (λ x. x.now) result
-        (refusal_append_content state.now user.now (cost_append_content call.now) call.now)
+        (refusal_append_content state.now user.now moment (cost_append_content call.now) call.now)
         (addressed state.now user.now call.now.place) }
 {
     judge_storage(state, weight_of_append(call))?;
     let x = addressed(state, user, &call.place).ok_or(Cause::NotFound)?;
     judge_document(alloc, state, user, &call.token, x)?;
     judge_growth(state, call, x)?;
+    judge_kept(state, moment, x)?;
     Ok(x)
 }
 
@@ -129,7 +132,7 @@ fn with_bytes(
     call: &AppendContent,
     x: &Object,
 ) -> Result<State, AllocError>
-    requires allowed { refusal_append_content state.now user.now (cost_append_content call.now) call.now ≡ Ok tt }
+    requires allowed { refusal_append_content state.now user.now moment (cost_append_content call.now) call.now ≡ Ok tt }
     requires found { addressed state.now user.now call.now.place ≡ Some x.now }
     ensures { IfOk result (λ s. s
         ≡ after_append_content state.now user.now moment (cost_append_content call.now) call.now) }
@@ -152,14 +155,14 @@ pub fn append_content(
     call: &AppendContent,
 ) -> Result<(State, ObjectReply), Fail>
     ensures written { Writes result
-        (refusal_append_content state.now user.now (cost_append_content call.now) call.now)
+        (refusal_append_content state.now user.now moment (cost_append_content call.now) call.now)
         (after_append_content state.now user.now moment (cost_append_content call.now) call.now)
         (acknowledgement_append_content state.now user.now moment
         (cost_append_content call.now) call.now) }
     ensures well { IfOk result (λ x. IsWellFormed x.0) }
 {
     let _step = state.step();
-    let x = judge(alloc, state, user, call)?;
+    let x = judge(alloc, state, user, moment, call)?;
     let made = with_bytes(alloc, state, user, moment, call, x)?;
     let (next, reply) = with_changed(alloc, made, user, call.succinct, x.id)?;
     let _next_step = next.step();

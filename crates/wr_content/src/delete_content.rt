@@ -22,6 +22,7 @@ use cm_show::address::addressed;
 use cm_state::state::State;
 use std::alloc::{AllocError, Global};
 use wr_rules::made::with_changed;
+use wr_rules::retention::judge_kept;
 use wr_rules::storage::judge_storage;
 
 // The document that is addressed, or the cause of the refusal.
@@ -30,10 +31,11 @@ fn judge<'a>(
     alloc: Global,
     state: &'a State,
     user: &Text,
+    moment: Moment,
     call: &DeleteContent,
 ) -> Result<&'a Object, Fail>
     ensures { FindsOr (λ x. x.now) result
-        (refusal_delete_content state.now user.now (cost_delete_content call.now) call.now)
+        (refusal_delete_content state.now user.now moment (cost_delete_content call.now) call.now)
         (addressed state.now user.now call.now.place) }
 {
     judge_storage(state, weight_of_delete_content(call))?;
@@ -42,6 +44,7 @@ fn judge<'a>(
     if is_needed(state, x) {
         return Err(Fail::Refused(Cause::ContentRequired));
     }
+    judge_kept(state, moment, x)?;
     Ok(x)
 }
 
@@ -65,7 +68,7 @@ fn without_content(
     call: &DeleteContent,
     x: &Object,
 ) -> Result<State, AllocError>
-    requires allowed { refusal_delete_content state.now user.now (cost_delete_content call.now) call.now ≡ Ok tt }
+    requires allowed { refusal_delete_content state.now user.now moment (cost_delete_content call.now) call.now ≡ Ok tt }
     requires found { addressed state.now user.now call.now.place ≡ Some x.now }
     ensures { IfOk result (λ s. s
         ≡ after_delete_content state.now user.now moment (cost_delete_content call.now) call.now) }
@@ -92,14 +95,14 @@ pub fn delete_content(
     call: &DeleteContent,
 ) -> Result<(State, ObjectReply), Fail>
     ensures written { Writes result
-        (refusal_delete_content state.now user.now (cost_delete_content call.now) call.now)
+        (refusal_delete_content state.now user.now moment (cost_delete_content call.now) call.now)
         (after_delete_content state.now user.now moment (cost_delete_content call.now) call.now)
         (acknowledgement_delete_content state.now user.now moment
         (cost_delete_content call.now) call.now) }
     ensures well { IfOk result (λ x. IsWellFormed x.0) }
 {
     let _step = state.step();
-    let x = judge(alloc, state, user, call)?;
+    let x = judge(alloc, state, user, moment, call)?;
     let made = without_content(alloc, state, user, moment, call, x)?;
     let (next, reply) = with_changed(alloc, made, user, call.succinct, x.id)?;
     let _next_step = next.step();

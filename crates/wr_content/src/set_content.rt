@@ -22,6 +22,7 @@ use std::alloc::{AllocError, Global};
 use wr_rules::content::{content_of_stream, is_too_long};
 use wr_rules::copied::name_of;
 use wr_rules::made::with_changed;
+use wr_rules::retention::judge_kept;
 use wr_rules::storage::judge_storage;
 
 // Whether the document may have the stream that is given.
@@ -46,16 +47,18 @@ fn judge<'a>(
     alloc: Global,
     state: &'a State,
     user: &Text,
+    moment: Moment,
     call: &SetContent,
 ) -> Result<&'a Object, Fail>
     ensures { FindsOr (λ x. x.now) result
-        (refusal_set_content state.now user.now (cost_set_content call.now) call.now)
+        (refusal_set_content state.now user.now moment (cost_set_content call.now) call.now)
         (addressed state.now user.now call.now.place) }
 {
     judge_storage(state, weight_of_set_content(call))?;
     let x = addressed(state, user, &call.place).ok_or(Cause::NotFound)?;
     judge_document(alloc, state, user, &call.token, x)?;
     judge_stream(state, call, x)?;
+    judge_kept(state, moment, x)?;
     Ok(x)
 }
 
@@ -82,7 +85,7 @@ fn with_stream(
     call: &SetContent,
     x: &Object,
 ) -> Result<State, AllocError>
-    requires allowed { refusal_set_content state.now user.now (cost_set_content call.now) call.now ≡ Ok tt }
+    requires allowed { refusal_set_content state.now user.now moment (cost_set_content call.now) call.now ≡ Ok tt }
     requires found { addressed state.now user.now call.now.place ≡ Some x.now }
     ensures { IfOk result (λ s. s
         ≡ after_set_content state.now user.now moment (cost_set_content call.now) call.now) }
@@ -105,14 +108,14 @@ pub fn set_content(
     call: &SetContent,
 ) -> Result<(State, ObjectReply), Fail>
     ensures written { Writes result
-        (refusal_set_content state.now user.now (cost_set_content call.now) call.now)
+        (refusal_set_content state.now user.now moment (cost_set_content call.now) call.now)
         (after_set_content state.now user.now moment (cost_set_content call.now) call.now)
         (acknowledgement_set_content state.now user.now moment
         (cost_set_content call.now) call.now) }
     ensures well { IfOk result (λ x. IsWellFormed x.0) }
 {
     let _step = state.step();
-    let x = judge(alloc, state, user, call)?;
+    let x = judge(alloc, state, user, moment, call)?;
     let made = with_stream(alloc, state, user, moment, call, x)?;
     let (next, reply) = with_changed(alloc, made, user, call.succinct, x.id)?;
     let _next_step = next.step();

@@ -1,21 +1,19 @@
 //! The rules that the calls share which make an item, a policy or a relationship.
-ghost use Rattle.std.specs.Prelude.{◌≡◌, ◌&&◌, ◌||◌, not, [], nat_lt, length, bytes_eq, codes, IfOk};
+ghost use Rattle.std.specs.Prelude.{◌≡◌, ◌||◌, not, [], bytes_eq, codes, IfOk};
 ghost use Rattle.cm_base.specs.Judged.{Leaves, Meets};
 ghost use Rattle.cm_types.specs.declared.given.PropertyCall.TheVariants as calls;
 ghost use Rattle.cm_types.specs.Types.{same_base};
-ghost use Rattle.cm_types.specs.Properties.{judge_properties, kept_values};
-ghost use Rattle.wr_rules.specs.Rules.{has_other_secondary, has_unknown_permission, has_entries};
+ghost use Rattle.cm_types.specs.Properties.{kept_values};
+ghost use Rattle.wr_rules.specs.Rules.{has_other_secondary};
 ghost use Rattle.wr_object.specs.Parts.{wanted_in};
 ghost use Rattle.wr_create.specs.Making.{judge_addressed, judge_type, is_uncontrollable, judge_request, cost_of_making};
 
 use call_parts::place::Place;
 use cm_base::cause::Cause;
 use cm_base::fail::Fail;
-use cm_base::items::Items;
 use cm_base::name::name_ok;
 use cm_base::text::Text;
 use cm_base::value::Values;
-use cm_rules::check::check_new;
 use cm_show::address::addressed;
 use cm_state::state::State;
 use cm_type_list::types::Types;
@@ -23,9 +21,9 @@ use cm_types::definition::{BaseType, TypeDef};
 use cm_types::given::Givens;
 use create_parts::writes::ObjectRequest;
 use std::alloc::{AllocError, Global};
+use wr_object::asked::{bars_changes, has_unknown, judge_values};
 use wr_object::wanted::{Wanted, wanted_by};
 use wr_rules::costs::with_defaults;
-use wr_rules::entries::{has_entries, has_unknown_permission};
 use wr_rules::kinds::has_other_secondary;
 
 /// Whether what is addressed, if anything is, is read. Takes no memory.
@@ -98,45 +96,16 @@ pub fn judge_type(
     Ok(())
 }
 
-fn bars_policies(kind: &TypeDef, object: &ObjectRequest) -> bool
-    ensures { result ≡ (not kind.now.controllable_policy && nat_lt 0 (length object.now.policies)) }
-{
-    !kind.controllable_policy && object.policies.as_slice().len() > 0
-}
-
-fn asks_entries(object: &ObjectRequest) -> bool
-    ensures { result ≡ (has_entries object.now.remove || has_entries object.now.add) }
-{
-    has_entries(object.remove.as_slice()) || has_entries(object.add.as_slice())
-}
-
-fn bars_entries(kind: &TypeDef, object: &ObjectRequest) -> bool
-    ensures { result
-        ≡ (not kind.now.controllable_acl && (has_entries object.now.remove || has_entries object.now.add)) }
-{
-    !kind.controllable_acl && asks_entries(object)
-}
-
 /// Whether the type lets no policies be applied and some are given, or no list be changed and entries are given. Takes no memory.
 pub fn is_uncontrollable(kind: &TypeDef, object: &ObjectRequest) -> bool
     ensures { result ≡ is_uncontrollable kind.now object.now }
 {
-    bars_policies(kind, object) || bars_entries(kind, object)
-}
-
-fn has_unknown(object: &ObjectRequest) -> bool
-    ensures { result ≡ (has_unknown_permission object.now.remove || has_unknown_permission object.now.add) }
-{
-    has_unknown_permission(object.remove.as_slice())
-        || has_unknown_permission(object.add.as_slice())
-}
-
-fn judge_values(alloc: Global, wanted: &Wanted, given: &Givens) -> Result<Values, Fail>
-    ensures { Leaves result
-        (judge_properties calls.Create wanted.now.defs [] given.now)
-        (kept_values calls.Create wanted.now.defs [] given.now) }
-{
-    check_new(alloc, &wanted.defs, &Items::new(alloc), given)
+    bars_changes(
+        kind,
+        object.policies.as_slice(),
+        object.remove.as_slice(),
+        object.add.as_slice(),
+    )
 }
 
 /// The values of the new object, or the first fault of its properties, of its entries and of its name.
@@ -151,8 +120,8 @@ pub fn judge_request(
         (judge_request wanted.now object.now given.now)
         (kept_values calls.Create wanted.now.defs [] given.now) }
 {
-    let values = judge_values(alloc, wanted, given)?;
-    if has_unknown(object) {
+    let values = judge_values(alloc, &wanted.defs, given)?;
+    if has_unknown(object.remove.as_slice(), object.add.as_slice()) {
         return Err(Fail::Refused(Cause::Permission));
     }
     if !name_ok(wanted.name.bytes()) {

@@ -3,7 +3,7 @@ use Rattle.std.specs.Prelude.{◌≡◌, ℕ, Bool, true, false, ◌||◌, not, 
 use Rattle.std.specs.List.{list_all}
 use Rattle.std.proofs.Common.{refl, sym, ap, subst, ◌∙◌, inl, inr}
 use Rattle.std.proofs.lemmas.Bool.{both_ways}
-use Rattle.std.proofs.lemmas.List.Elements.{All-head, All-tail, All-weaker}
+use Rattle.std.proofs.lemmas.List.Elements.{All-weaker}
 use Rattle.cm_base.specs.declared.number.Oid.{Oid}
 use Rattle.cm_base.specs.declared.number.Moment.{Moment}
 use Rattle.cm_base.specs.declared.object.Object.{Object}
@@ -16,16 +16,17 @@ use Rattle.cm_state.specs.Looks.{folders_in}
 use Rattle.cmis_spec.specs.Repository.{Repository, same, root, object_at, series_at, is_a, parent_in}
 use Rattle.cmis_spec.specs.Changes.{without_pair}
 use Rattle.cmis_spec.specs.Removal.{among, deleted}
-use Rattle.cmis_spec.specs.Well.{IsBaseAt, IsEntryAt, IsThere, IsPair, Belongs, members, IsMember, IsWellFormed}
-use Rattle.cmis_laws.proofs.Lists.{by_test, none_some, found_holds, found_passes, all_from_any, same_eq, differ}
+use Rattle.cmis_spec.specs.Well.{IsBaseAt, IsEntryAt, IsThere, IsPair, members, IsWellFormed}
+use Rattle.cmis_laws.proofs.Lists.{none_some, found_holds, found_passes, all_from_any, same_eq, differ}
 use Rattle.cmis_laws.proofs.Entries.{not_both, one_there, IsLeafAt}
-use Rattle.cmis_laws.proofs.Begun.{IsSeries}
-use Rattle.cmis_laws.proofs.Going.{IsFree, loose_free, deleted_keeps}
+use Rattle.cmis_laws.proofs.Going.{IsFree, deleted_keeps}
 use Rattle.cmis_laws.proofs.Steps.{note_keeps}
-use Rattle.wr_filing.specs.Filing.{out_of}
-use Rattle.wr_delete_tree.proofs.Outs.{out_keeps}
+use Rattle.wr_filing.specs.Filing.{lacks_at, out_of}
+use Rattle.wr_filing.proofs.Entry.{out_keeps}
+use Rattle.wr_remove.specs.Delete.{is_filled_at}
+use Rattle.wr_remove.proofs.Free.{one_free, series_free}
 use Rattle.delete_tree_parts.specs.declared.writes.DeleteTree.{DeleteTree}
-use Rattle.wr_delete_tree.specs.DeleteTree.{is_folder_at, is_checked_out_at, is_filled_at, is_to_go, is_deleted_by, lacks_at, may_not_go, fails, whole, event_object, taken_out}
+use Rattle.wr_delete_tree.specs.DeleteTree.{is_folder_at, is_checked_out_at, is_kept_at, is_to_go, is_deleted_by, may_not_go, fails, whole, event_object, taken_out}
 
 -- ---- what is filed
 
@@ -44,40 +45,24 @@ no_root r n w h = differ root n (λ e. both_ways (is_none (parent_in r.filed n))
 -- ---- deleted
 
 module _ (r : Repository) (w : IsWellFormed r) where
+  -- what is no policy is applied to nothing
+  unapplied : (n : Oid) (x : Object) → object_at r n ≡ Some x → is_a r bases.Policy x ≡ false → All (λ a. same a.policy n ≡ false) r.applied
+  unapplied n x there kind = All-weaker (λ a. IsBaseAt r bases.Policy a.policy × IsThere r a.object) (λ a. same a.policy n ≡ false)
+      (λ a l. differ a.policy n (λ e. both_ways (is_a r bases.Policy x) kind
+      (subst (λ z. is_a r bases.Policy z ≡ true) (one_there r n l.0.0 x (ap (object_at r) (sym e) ∙ l.0.1) there) l.0.2))) r.applied w.policies
+
   -- an object alone, where nothing is filed in it and it is no policy
-  one_free : (n : Oid) (x : Object) → object_at r n ≡ Some x → is_a r bases.Policy x ≡ false → same root n ≡ false → is_filled_at r n ≡ false → IsFree r w (n ∷ [])
-  one_free n x there kind other empty = record {
-    root = only root other;
-    folders = All-weaker (λ p. same p.folder n ≡ false) (λ p. among (n ∷ []) p.folder ≡ false) (λ p h. only p.folder h) r.filed (all_from_any (λ p. same p.folder n) r.filed empty);
-    policies = All-weaker (λ a. IsBaseAt r bases.Policy a.policy × IsThere r a.object) (λ a. among (n ∷ []) a.policy ≡ false)
-        (λ a l. only a.policy (differ a.policy n (λ e. both_ways (is_a r bases.Policy x) kind
-        (subst (λ z. is_a r bases.Policy z ≡ true) (one_there r n l.0.0 x (ap (object_at r) (sym e) ∙ l.0.1) there) l.0.2)))) r.applied w.policies;
-  }
-    where
-      only : (m : Oid) → same m n ≡ false → among (n ∷ []) m ≡ false
-      only m h = ap (λ b. b || false) h
-
-  member_of : (s : Series) (ms : List Oid) → All (IsMember r s) ms → (n : Oid) → among ms n ≡ true → IsMember r s n
-  member_of s [] all n h = absurd (both_ways false refl h)
-  member_of s (m ∷ ms) all n h = by_test (same n m)
-      (λ e. subst (IsMember r s) (sym (same_eq n m e)) (All-head (IsMember r s) m ms all))
-      (λ e. member_of s ms (All-tail (IsMember r s) m ms all) n (sym (ap (λ b. b || among ms n) e) ∙ h))
-
-  -- the documents of a series
-  series_free : (s : Series) (n : Oid) → series_at r n ≡ Some s → IsFree r w (members s)
-  series_free s n h = loose_free r w (members s) (λ k t.
-      let m : IsMember r s k = member_of s (members s) (found_holds (IsSeries r) (λ u. same u.id n) r.series s w.series h).0 k t in
-      let doc : is_a r bases.Document m.0 ≡ true = (subst (Belongs r m.0) m.2 (found_holds (λ z. Belongs r z z.series) (λ z. same z.id k) r.objects m.0 w.documents m.1)).0 in
-      (m.0, m.1, not_both r m.0 bases.Document bases.Folder refl doc, not_both r m.0 bases.Document bases.Policy refl doc))
+  object_free : (n : Oid) (x : Object) → object_at r n ≡ Some x → is_a r bases.Policy x ≡ false → same root n ≡ false → is_filled_at r n ≡ false → IsFree r w (n ∷ [])
+  object_free n x there kind other empty = one_free r w n other (all_from_any (λ p. same p.folder n) r.filed empty) (unapplied n x there kind)
 
   alone_free : (n : Oid) → IsEntryAt r n → series_at r n ≡ None → same root n ≡ false → is_filled_at r n ≡ false → IsFree r w (n ∷ [])
-  alone_free n (inl f) none other empty = one_free n f.0 f.1 (not_both r f.0 bases.Folder bases.Policy refl f.2) other empty
-  alone_free n (inr (inl i)) none other empty = one_free n i.0 i.1 (not_both r i.0 bases.Item bases.Policy refl i.2) other empty
+  alone_free n (inl f) none other empty = object_free n f.0 f.1 (not_both r f.0 bases.Folder bases.Policy refl f.2) other empty
+  alone_free n (inr (inl i)) none other empty = object_free n i.0 i.1 (not_both r i.0 bases.Item bases.Policy refl i.2) other empty
   alone_free n (inr (inr s)) none other empty = absurd (none_some s.0 (sym none ∙ s.1))
 
   whole_free : (n : Oid) (o : Option Series) → series_at r n ≡ o → IsEntryAt r n → same root n ≡ false → is_filled_at r n ≡ false → IsFree r w (unwrap_or (option_map members o) (n ∷ []))
   whole_free n None e entry other empty = alone_free n entry e other empty
-  whole_free n (Some s) e entry other empty = series_free s n e
+  whole_free n (Some s) e entry other empty = series_free r w s n e
 
 -- a folder in which nothing is filed, an item, or a series with all its documents
 whole_keeps : (r : Repository) (m : Moment) (n : Oid) → IsWellFormed r → is_none (parent_in r.filed n) ≡ false → is_filled_at r n ≡ false → IsWellFormed (deleted r m (whole r n))
@@ -103,15 +88,15 @@ first_of : (a b : Bool) → a || b ≡ false → a ≡ false
 first_of true b h = h
 first_of false b h = refl
 
-last_of_three : (a b c : Bool) → a || (b || c) ≡ false → c ≡ false
-last_of_three true b c h = absurd (both_ways true h refl)
-last_of_three false true c h = absurd (both_ways true h refl)
-last_of_three false false c h = h
+third_of : (a b c d : Bool) → a || (b || (c || d)) ≡ false → c ≡ false
+third_of true b c d h = absurd (both_ways true h refl)
+third_of false true c d h = absurd (both_ways true h refl)
+third_of false false c d h = first_of c d h
 
-pub deletion_keeps : (r : Repository) (u : List ℕ) (m : Moment) (call : DeleteTree) (tree : List Oid) (n : Oid) → IsWellFormed r → is_none (parent_in r.filed n) ≡ false → fails r u call tree n ≡ false
+pub deletion_keeps : (r : Repository) (u : List ℕ) (m : Moment) (call : DeleteTree) (tree : List Oid) (n : Oid) → IsWellFormed r → is_none (parent_in r.filed n) ≡ false → fails r u m call tree n ≡ false
     → is_to_go r call tree n ≡ true → IsWellFormed (deleted r m (whole r n))
 deletion_keeps r u m call tree n w filed able goes = whole_keeps r m n w filed
-    (last_of_three (lacks_at r u levels.All n) (is_checked_out_at r n) (is_filled_at r n) (sym (ap (λ b. if b then may_not_go r u n else lacks_at r u levels.Write n) goes) ∙ able))
+    (third_of (lacks_at r u levels.All n) (is_checked_out_at r n) (is_filled_at r n) (is_kept_at r m n) (sym (ap (λ b. if b then may_not_go r u m n else lacks_at r u levels.Write n) goes) ∙ able))
 
 pub taking_keeps : (r : Repository) (m : Moment) (call : DeleteTree) (tree : List Oid) (n : Oid) → IsWellFormed r → is_none (parent_in r.filed n) ≡ false
     → is_to_go r call tree n ≡ false → IsWellFormed (taken_out r m tree n)

@@ -1,5 +1,4 @@
 mod Answered
 mod Keeping
-mod Outs
 mod Values
 mod Visiting

@@ -1,29 +1,8 @@
--- The folders and the children of an entry, as a map has them by their places.
-use Rattle.std.specs.Prelude.{◌≡◌, ℕ, suc, Bool, true, ◌&&◌, ◌||◌, nat_lt, List, [], ◌∷◌, map, filter, length}
-use Rattle.std.specs.List.{list_any, list_all}
-use Rattle.std.proofs.Common.{refl, sym, ap, ◌∙◌, arith}
-use Rattle.std.proofs.lemmas.List.{length-map}
-use Rattle.cm_base.specs.declared.number.Oid.{Oid}
-use Rattle.cm_base.specs.declared.filing.Filed.{Filed}
-use Rattle.cm_state.specs.Looks.{entries_in}
-use Rattle.cmis_spec.specs.Repository.{Repository, same}
-use Rattle.cmis_laws.proofs.Lists.{by_test}
-
-pub any_values : {K A : Type 0} (t : A → Bool) (es : List (K × A)) → list_any (λ e. t e.1) es ≡ list_any t (map (λ e. e.1) es)
-any_values t [] = refl
-any_values t (e ∷ es) = ap (λ b. t e.1 || b) (any_values t es)
+-- The folders of an entry, as a map has them by their places.
+use Rattle.std.specs.Prelude.{◌≡◌, Bool, ◌&&◌, List, [], ◌∷◌, map}
+use Rattle.std.specs.List.{list_all}
+use Rattle.std.proofs.Common.{refl, ap}
 
 pub all_values : {K A : Type 0} (t : A → Bool) (es : List (K × A)) → list_all (λ e. t e.1) es ≡ list_all t (map (λ e. e.1) es)
 all_values t [] = refl
 all_values t (e ∷ es) = ap (λ b. t e.1 && b) (all_values t es)
-
-positive : (k : ℕ) → nat_lt 0 (suc k) ≡ true
-positive k = grind arith
-
-any_length : {A : Type 0} (q : A → Bool) (xs : List A) → nat_lt 0 (length (filter q xs)) ≡ list_any q xs
-any_length q [] = refl
-any_length q (x ∷ xs) = by_test (q x) (λ e. rw e (positive (length (filter q xs)))) (λ e. rw e (any_length q xs))
-
--- a folder has an entry where there is a pair of it
-pub entries_any : {K : Type 0} (r : Repository) (n : Oid) (es : List (K × Oid)) → map (λ e. e.1) es ≡ entries_in r n → nat_lt 0 (length es) ≡ list_any (λ p. same p.folder n) r.filed
-entries_any r n es at = ap (nat_lt 0) (sym (length-map es (λ e. e.1)) ∙ (ap length at ∙ length-map (filter (λ (p : Filed). same p.folder n) r.filed) (λ p. p.child))) ∙ any_length (λ (p : Filed). same p.folder n) r.filed

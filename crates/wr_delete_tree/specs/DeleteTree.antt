@@ -1,5 +1,5 @@
 -- deleteTree (CMIS 1.1, section 2.2.4.17): when it is refused, what it makes of the repository, and what it answers.
-use Rattle.std.specs.Prelude.{ℕ, zero, suc, Bool, true, false, ◌||◌, not, if◌then◌else◌, List, [], ◌∷◌, ◌++◌, map, filter, fold, Option, Some, None, is_some, is_none, unwrap_or, option_map, option_and_then}
+use Rattle.std.specs.Prelude.{ℕ, zero, suc, Bool, true, false, ◌||◌, not, if◌then◌else◌, List, [], ◌∷◌, ◌++◌, map, filter, fold, Option, Some, None, is_some, is_none, is_err, unwrap_or, option_map, option_and_then}
 use Rattle.std.specs.List.{list_any, list_all, flat_map, filter_map}
 use Rattle.core.specs.Ordering.{nat_cmp}
 use Rattle.cm_map.specs.Sets.{with_key}
@@ -7,7 +7,6 @@ use Rattle.cm_base.specs.declared.number.Oid.{Oid}
 use Rattle.cm_base.specs.declared.number.Moment.{Moment}
 use Rattle.cm_base.specs.declared.object.Object.{Object}
 use Rattle.cm_base.specs.declared.series.Series.{Series}
-use Rattle.cm_base.specs.declared.access.Level.{Level}
 use Rattle.cm_base.specs.declared.access.Level.TheVariants as levels
 use Rattle.cm_base.specs.declared.log.ChangeKind.TheVariants as changes
 use Rattle.cm_base.specs.declared.cause.Cause.TheVariants as causes
@@ -16,12 +15,14 @@ use Rattle.cm_types.specs.declared.definition.BaseType.TheVariants as bases
 use Rattle.cm_show.specs.Addressed.{addressed}
 use Rattle.cm_state.specs.Looks.{entries_in, folders_in, standing_at}
 use Rattle.cmis_spec.specs.Repository.{Repository, same, root, levels_up, object_at, series_at, last_of, is_a, parent_in}
-use Rattle.cmis_spec.specs.Access.{is_at_least, level_by_list, lacks, reads}
+use Rattle.cmis_spec.specs.Access.{lacks, reads}
 use Rattle.cmis_spec.specs.Changes.{stepped, noted}
 use Rattle.cmis_spec.specs.Removal.{among, each_once, deleted}
+use Rattle.cmis_spec.specs.Retention.{judge_kept}
 use Rattle.cmis_spec.specs.Well.{members}
 use Rattle.wr_rules.specs.Rules.{judge_storage}
-use Rattle.wr_filing.specs.Filing.{out_of}
+use Rattle.wr_filing.specs.Filing.{lacks_at, out_of}
+use Rattle.wr_remove.specs.Delete.{is_filled_at}
 use Rattle.delete_tree_parts.specs.declared.replies.DeleteTreeReply.{DeleteTreeReply}
 use Rattle.delete_tree_parts.specs.declared.writes.DeleteTree.{DeleteTree}
 use Rattle.delete_tree_parts.specs.declared.writes.UnfileObjects.{UnfileObjects}
@@ -61,19 +62,11 @@ tree_of r f = each_once (visited levels_up r (f ∷ []))
 
 -- ---- a visit
 
--- by the list of a folder, an item or a series
-abbrev pub lacks_at : Repository → List ℕ → Level → Oid → Bool
-lacks_at r u need n = not (is_at_least need (level_by_list r u n))
-
 abbrev pub is_folder_at : Repository → Oid → Bool
 is_folder_at r n = unwrap_or (option_map (is_a r bases.Folder) (object_at r n)) false
 
 abbrev pub is_checked_out_at : Repository → Oid → Bool
 is_checked_out_at r n = unwrap_or (option_map (λ s. is_some s.working) (series_at r n)) false
-
--- something is filed in the folder, series without versions counted
-abbrev pub is_filled_at : Repository → Oid → Bool
-is_filled_at r n = list_any (λ p. same p.folder n) r.filed
 
 -- an item or a series is deleted, and not taken out; this says whether all its folders are in the tree
 abbrev pub is_deleted_by : UnfileObjects → Bool → Bool
@@ -85,15 +78,19 @@ is_deleted_by ways.Delete within = true
 abbrev pub is_to_go : Repository → DeleteTree → List Oid → Oid → Bool
 is_to_go r call tree n = is_folder_at r n || is_deleted_by call.unfile_objects (list_all (among tree) (folders_in r n))
 
-abbrev pub may_not_go : Repository → List ℕ → Oid → Bool
-may_not_go r u n = lacks_at r u levels.All n || (is_checked_out_at r n || is_filled_at r n)
-
-abbrev pub fails : Repository → List ℕ → DeleteTree → List Oid → Oid → Bool
-fails r u call tree n = if is_to_go r call tree n then may_not_go r u n else lacks_at r u levels.Write n
-
 -- a series with all its documents, or a folder or an item alone
 abbrev pub whole : Repository → Oid → List Oid
 whole r n = unwrap_or (option_map members (series_at r n)) (n ∷ [])
+
+-- one of the documents is under a hold, or under retention at the moment
+abbrev pub is_kept_at : Repository → Moment → Oid → Bool
+is_kept_at r m n = is_err (judge_kept r m (filter_map (object_at r) (whole r n)))
+
+abbrev pub may_not_go : Repository → List ℕ → Moment → Oid → Bool
+may_not_go r u m n = lacks_at r u levels.All n || (is_checked_out_at r n || (is_filled_at r n || is_kept_at r m n))
+
+abbrev pub fails : Repository → List ℕ → Moment → DeleteTree → List Oid → Oid → Bool
+fails r u m call tree n = if is_to_go r call tree n then may_not_go r u m n else lacks_at r u levels.Write n
 
 -- of a series the latest version, or else the working copy
 abbrev pub event_document : Series → Option Oid
@@ -114,7 +111,7 @@ treated r m call tree n = if is_to_go r call tree n then deleted r m (whole r n)
 abbrev pub visit : List ℕ → Moment → DeleteTree → List Oid → Progress → Oid → Progress
 visit u m call tree p n =
     if p.ended || is_none (parent_in p.state.filed n) then p
-    else if fails p.state u call tree n then record { state = p.state; ended = not call.continue_on_failure }
+    else if fails p.state u m call tree n then record { state = p.state; ended = not call.continue_on_failure }
     else record { state = treated p.state m call tree n; ended = false }
 
 -- ---- the repository after it

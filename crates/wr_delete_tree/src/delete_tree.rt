@@ -127,7 +127,8 @@ fn deleted(
 
 /// Deletes a folder with the tree below it. The children of a folder are visited before it, in the order of their numbers; each visit
 /// works on the repository that the visits before have left. A folder is deleted once nothing is filed in it; a document goes with its
-/// whole series, or is taken out of the folders of the tree, as the call says. The cost is the weight of the call.
+/// whole series, or is taken out of the folders of the tree, as the call says. No series goes with a document under a hold, or under
+/// retention at the moment of the call (CMIS 1.1, section 2.1.16). The cost is the weight of the call.
 ///
 /// The answer is the first cause that refuses the call, or the repository after it and the ids of what is left of the tree, as far as
 /// the caller reads it.

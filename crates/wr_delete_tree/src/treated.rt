@@ -9,56 +9,19 @@ ghost use Rattle.wr_delete_tree.specs.DeleteTree.{event_document, event_object, 
 use cm_base::items::Items;
 use cm_base::log::ChangeKind;
 use cm_base::number::{Moment, Oid, Oids};
-use cm_base::series::{DocumentVersion, Series, WorkingCopy};
+use cm_base::series::Series;
 use cm_draft::draft::Draft;
 use cm_map::map::Map;
 use cm_removal::deleted::deleted;
 use cm_removal::gone::Gone;
 use cm_state::state::State;
 use std::alloc::{AllocError, Global};
+use wr_remove::members::{members, only};
 
 // ---- deleted
 
-fn versions_of(alloc: Global, versions: &[DocumentVersion]) -> Result<Oids, AllocError>
-    ensures { IfOk result (λ all. all ≡ map (λ v. v.object) versions.now) }
-{
-    let mut all = Items::new(alloc);
-    for version in versions {
-        all.push(version.object)?;
-    }
-    Ok(all)
-}
-
-fn with_copy(all: Oids, working: &Option<WorkingCopy>) -> Result<Oids, AllocError>
-    ensures { IfOk result (λ more. more ≡ all ++ unwrap_or (option_map (λ w. w.copy ∷ []) working.now) []) }
-{
-    let mut more = all;
-    match working {
-        Some(working) => {
-            more.push(working.copy)?;
-            Ok(more)
-        }
-        None => Ok(more),
-    }
-}
-
-fn members(alloc: Global, series: &Series) -> Result<Oids, AllocError>
-    ensures { IfOk result (λ all. all ≡ members series.now) }
-{
-    let versions = versions_of(alloc, series.versions.as_slice())?;
-    let all = with_copy(versions, &series.working)?;
-    Ok(all)
-}
-
-fn only(alloc: Global, n: Oid) -> Result<Oids, AllocError>
-    ensures { IfOk result (λ all. all ≡ n ∷ []) }
-{
-    let mut all = Items::new(alloc);
-    all.push(n)?;
-    Ok(all)
-}
-
-fn whole(alloc: Global, state: &State, n: Oid) -> Result<Oids, AllocError>
+/// A series with all its documents, or a folder or an item alone.
+pub(crate) fn whole(alloc: Global, state: &State, n: Oid) -> Result<Oids, AllocError>
     ensures { IfOk result (λ all. all ≡ whole state.now n) }
 {
     match state.series(n) {

@@ -1,23 +1,25 @@
 //! One visit in a tree that is deleted: whether it fails, and what it makes of the state.
-ghost use Rattle.std.specs.Prelude.{◌≡◌, false, IfOk, is_none};
+ghost use Rattle.std.specs.Prelude.{◌≡◌, ◌||◌, false, IfOk, is_none};
 ghost use Rattle.std.specs.List.{list_all};
 ghost use Rattle.cm_state.specs.Looks.{folders_in};
 ghost use Rattle.cmis_spec.specs.Repository.{parent_in};
 ghost use Rattle.cmis_spec.specs.Removal.{among};
-ghost use Rattle.wr_delete_tree.specs.DeleteTree.{fails, is_checked_out_at, is_deleted_by, is_filled_at, is_folder_at, is_to_go, lacks_at, may_not_go, treated, visit, visits};
+ghost use Rattle.wr_remove.specs.Delete.{is_filled_at};
+ghost use Rattle.wr_delete_tree.specs.DeleteTree.{fails, is_checked_out_at, is_deleted_by, is_folder_at, is_kept_at, is_to_go, may_not_go, treated, visit, visits};
 
-use crate::treated::{removed, taken_out};
-use cm_acl::level::is_at_least;
+use crate::treated::{removed, taken_out, whole};
 use cm_base::access::Level;
 use cm_base::number::{Moment, Oid};
 use cm_base::text::Text;
 use cm_map::map::Map;
 use cm_removal::gone::Gone;
-use cm_see::level::level_by_list;
 use cm_state::state::State;
 use cm_types::definition::BaseType;
 use delete_tree_parts::writes::{DeleteTree, UnfileObjects};
 use std::alloc::{AllocError, Global};
+use wr_filing::filing::lacks_at;
+use wr_remove::delete::is_filled_at;
+use wr_rules::retention::judge_all_kept;
 
 /// A call on a tree: who makes it, when, and the numbers of the tree.
 #[derive(Clone, Copy)]
@@ -35,12 +37,6 @@ pub struct Progress {
     pub ended: bool,
 }
 
-fn lacks_at(state: &State, user: &Text, need: Level, n: Oid) -> bool
-    ensures { result ≡ lacks_at state.now user.now need n }
-{
-    !is_at_least(need, level_by_list(state, user, n))
-}
-
 fn is_folder_at(state: &State, n: Oid) -> bool
     ensures { result ≡ is_folder_at state.now n }
 {
@@ -55,16 +51,6 @@ fn is_checked_out_at(state: &State, n: Oid) -> bool
 {
     match state.series(n) {
         Some(series) => series.working.is_some(),
-        None => false,
-    }
-}
-
-// Whether something is filed in the folder.
-fn is_filled_at(state: &State, n: Oid) -> bool
-    ensures { result ≡ is_filled_at state.now n }
-{
-    match state.parts().entries(n) {
-        Some(entries) => entries.len() > 0,
         None => false,
     }
 }
@@ -106,26 +92,59 @@ fn is_to_go(state: &State, call: &DeleteTree, tree: &Gone, n: Oid) -> bool
     is_folder_at(state, n) || is_deleted_by(call.unfile_objects, is_within(state, tree, n))
 }
 
-fn may_not_go(state: &State, user: &Text, n: Oid) -> bool
-    ensures { result ≡ may_not_go state.now user.now n }
+// Whether one of the documents is under a hold, or under retention at the moment. It looks at those of the series alone.
+fn is_kept_at(alloc: Global, state: &State, moment: Moment, n: Oid) -> Result<bool, AllocError>
+    ensures { IfOk result (λ kept. kept ≡ is_kept_at state.now moment n) }
 {
-    lacks_at(state, user, Level::All, n) || (is_checked_out_at(state, n) || is_filled_at(state, n))
+    let numbers = whole(alloc, state, n)?;
+    Ok(judge_all_kept(state, moment, numbers.as_slice()).is_err())
 }
 
-fn fails(state: &State, user: &Text, call: &DeleteTree, tree: &Gone, n: Oid) -> bool
-    ensures { result ≡ fails state.now user.now call.now tree.now n }
+// Whether something is filed there, or one of the documents is kept.
+fn is_filled_or_kept(
+    alloc: Global,
+    state: &State,
+    moment: Moment,
+    n: Oid,
+) -> Result<bool, AllocError>
+    ensures { IfOk result (λ may_not. may_not ≡ (is_filled_at state.now n || is_kept_at state.now moment n)) }
 {
-    if is_to_go(state, call, tree, n) {
-        may_not_go(state, user, n)
+    if is_filled_at(state, n) {
+        return Ok(true);
+    }
+    is_kept_at(alloc, state, moment, n)
+}
+
+fn may_not_go(
+    alloc: Global,
+    state: &State,
+    user: &Text,
+    moment: Moment,
+    n: Oid,
+) -> Result<bool, AllocError>
+    ensures { IfOk result (λ may_not. may_not ≡ may_not_go state.now user.now moment n) }
+{
+    if lacks_at(state, user, Level::All, n) || is_checked_out_at(state, n) {
+        return Ok(true);
+    }
+    is_filled_or_kept(alloc, state, moment, n)
+}
+
+fn fails(alloc: Global, state: &State, view: View<'_>, n: Oid) -> Result<bool, AllocError>
+    ensures { IfOk result (λ b. b
+        ≡ fails state.now view.entry.user.now view.entry.moment view.entry.call.now view.entry.tree.now n) }
+{
+    if is_to_go(state, view.call, view.tree, n) {
+        may_not_go(alloc, state, view.user, view.moment, n)
     } else {
-        lacks_at(state, user, Level::Write, n)
+        Ok(lacks_at(state, view.user, Level::Write, n))
     }
 }
 
 // What stands in the tree, where that does not fail: deleted, or taken out.
 fn treated(alloc: Global, state: &State, view: View<'_>, n: Oid) -> Result<State, AllocError>
     requires filed { is_none (parent_in state.now.filed n) ≡ false }
-    requires able { fails state.now view.user.now view.call.now view.tree.now n ≡ false }
+    requires able { fails state.now view.user.now view.moment view.call.now view.tree.now n ≡ false }
     ensures { IfOk result (λ s. s
         ≡ treated state.now view.entry.moment view.entry.call.now view.entry.tree.now n) }
 {
@@ -144,7 +163,8 @@ fn tried(alloc: Global, state: State, view: View<'_>, n: Oid) -> Result<Progress
         ≡ visit view.entry.user.now view.entry.moment view.entry.call.now view.entry.tree.now
         (record { state = state; ended = false }) n) }
 {
-    if fails(&state, view.user, view.call, view.tree, n) {
+    let failed = fails(alloc, &state, view, n)?;
+    if failed {
         return Ok(Progress {
             state,
             ended: !view.call.continue_on_failure,

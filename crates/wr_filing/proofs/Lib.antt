@@ -1,7 +1,7 @@
 mod Adding
 mod Deep
-mod Entry
-mod Folders
+pub mod Entry
+pub mod Folders
 mod Moving
 mod Outs
 mod Removing

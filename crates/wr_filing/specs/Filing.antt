@@ -4,6 +4,7 @@ use Rattle.std.specs.List.{list_any}
 use Rattle.cm_base.specs.declared.number.Oid.{Oid}
 use Rattle.cm_base.specs.declared.number.Moment.{Moment}
 use Rattle.cm_base.specs.declared.object.Object.{Object}
+use Rattle.cm_base.specs.declared.access.Level.{Level}
 use Rattle.cm_base.specs.declared.access.Level.TheVariants as levels
 use Rattle.cm_base.specs.declared.log.ChangeKind.TheVariants as changes
 use Rattle.cm_types.specs.declared.definition.BaseType.TheVariants as bases
@@ -28,13 +29,13 @@ may_be_filed r x = is_filed_kind r x && unwrap_or (option_map (λ t. t.fileable)
 abbrev pub folder_named : Repository → List ℕ → List ℕ → Oid
 folder_named r u id = unwrap_or (option_map (λ f. f.id) (read_named r u id)) root
 
--- the caller may not write in the folder of this number
-abbrev pub lacks_there : Repository → List ℕ → Oid → Bool
-lacks_there r u f = not (is_at_least levels.Write (level_by_list r u f))
+-- by the list of a folder, an item or a series, the caller has less than this level there
+abbrev pub lacks_at : Repository → List ℕ → Level → Oid → Bool
+lacks_at r u need n = not (is_at_least need (level_by_list r u n))
 
 -- he may not write in one of the folders in which the entry is filed
 abbrev pub lacks_anywhere : Repository → List ℕ → Oid → Bool
-lacks_anywhere r u n = list_any (λ p. same p.child n && lacks_there r u p.folder) r.filed
+lacks_anywhere r u n = list_any (λ p. same p.child n && lacks_at r u levels.Write p.folder) r.filed
 
 -- the entry is filed in some folder
 abbrev pub is_filed_anywhere : Repository → Oid → Bool

@@ -1,9 +1,10 @@
 //! What the calls on filing share.
 ghost use Rattle.std.specs.Prelude.{◌≡◌, ◌+◌, ◌<◌, ◌^◌, ◌||◌, ◌&&◌, IfOk, false, unwrap_or, option_map};
 ghost use Rattle.cmis_spec.specs.Repository.{type_of};
-ghost use Rattle.wr_filing.specs.Filing.{is_filed_kind, may_be_filed, changed_by};
+ghost use Rattle.wr_filing.specs.Filing.{is_filed_kind, may_be_filed, lacks_at, changed_by};
 ghost use Rattle.wr_filing.specs.AddToFolder.{lacks_either};
 
+use cm_acl::level::is_at_least;
 use cm_base::access::Level;
 use cm_base::items::Items;
 use cm_base::log::ChangeKind;
@@ -11,7 +12,7 @@ use cm_base::number::{Moment, Oid};
 use cm_base::object::Object;
 use cm_base::text::Text;
 use cm_draft::draft::Draft;
-use cm_see::level::lacks;
+use cm_see::level::{lacks, level_by_list};
 use cm_state::state::State;
 use cm_types::definition::BaseType;
 use std::alloc::{AllocError, Global};
@@ -39,6 +40,13 @@ pub(crate) fn may_be_filed(state: &State, x: &Object) -> bool
     ensures { result ≡ may_be_filed state.now x.now }
 {
     is_filed_kind(state, x) && is_fileable(state, x) && !is_working_copy(state, x)
+}
+
+/// By the access list of a folder, an item or a series, the caller has less than this level there. Takes no memory.
+pub fn lacks_at(state: &State, user: &Text, need: Level, n: Oid) -> bool
+    ensures { result ≡ lacks_at state.now user.now need n }
+{
+    !is_at_least(need, level_by_list(state, user, n))
 }
 
 /// The caller may not write in the object or in the folder. Takes no memory.

@@ -4,7 +4,7 @@
 ghost use Rattle.std.specs.Prelude.{◌≡◌};
 
 pub mod add_to_folder;
-mod filing;
+pub mod filing;
 pub mod move_object;
 pub mod remove_from_folder;
 mod shift;

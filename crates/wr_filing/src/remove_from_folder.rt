@@ -10,14 +10,13 @@ ghost use Rattle.cm_base.specs.declared.access.Level.TheVariants as levels;
 ghost use Rattle.cmis_spec.specs.Well.{IsWellFormed};
 ghost use Rattle.cm_show.specs.Addressed.{addressed};
 ghost use Rattle.wr_rules.specs.Found.{FindsWith};
-ghost use Rattle.wr_filing.specs.Filing.{folder_named, lacks_there, lacks_anywhere, unfiled, out_of, changed_by};
+ghost use Rattle.wr_filing.specs.Filing.{folder_named, lacks_at, lacks_anywhere, unfiled, out_of, changed_by};
 ghost use Rattle.wr_filing.specs.RemoveFromFolder.{cost_remove_from_folder, judge_removal, judge_unfiling, judge_by_folder, refusal_remove_from_folder, unfiled_by, removed_by, after_remove_from_folder, acknowledgement_remove_from_folder};
 
-use crate::filing::{changed_by, lacks_either, may_be_filed};
+use crate::filing::{changed_by, lacks_at, lacks_either, may_be_filed};
 use call_parts::changes::RemoveFromFolder;
 use call_parts::replies::ObjectReply;
 use call_parts::weight::weight_of_remove;
-use cm_acl::level::is_at_least;
 use cm_base::access::Level;
 use cm_base::cause::Cause;
 use cm_base::fail::Fail;
@@ -26,7 +25,7 @@ use cm_base::object::Object;
 use cm_base::text::Text;
 use cm_draft::draft::Draft;
 use cm_map::map::Map;
-use cm_see::level::{lacks, level_by_list};
+use cm_see::level::lacks;
 use cm_see::read::read_named;
 use cm_show::address::addressed;
 use cm_state::look::entry_of;
@@ -36,20 +35,13 @@ use std::alloc::{AllocError, Global};
 use wr_rules::made::with_changed;
 use wr_rules::storage::judge_storage;
 
-// The caller may not write in the folder of this number.
-fn lacks_there(state: &State, user: &Text, folder: Oid) -> bool
-    ensures { result ≡ lacks_there state.now user.now folder }
-{
-    !is_at_least(Level::Write, level_by_list(state, user, folder))
-}
-
 fn lacks_among(state: &State, user: &Text, folders: &Map<u64, Oid>) -> bool
-    ensures { result ≡ list_any (λ e. lacks_there state.now user.now e.1) folders.now }
+    ensures { result ≡ list_any (λ e. lacks_at state.now user.now levels.Write e.1) folders.now }
 {
     let mut found = false;
     for entry in folders.iter() {
         let at: &(u64, Oid) = entry;
-        found = lacks_there(state, user, at.1) || found;
+        found = lacks_at(state, user, Level::Write, at.1) || found;
     }
     found
 }

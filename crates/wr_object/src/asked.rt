@@ -18,7 +18,7 @@ use std::alloc::Global;
 use wr_rules::entries::{has_entries, has_unknown_permission};
 
 /// The values of the new object, or the first fault of the given properties.
-pub(crate) fn judge_values(alloc: Global, defs: &PropDefs, given: &Givens) -> Result<Values, Fail>
+pub fn judge_values(alloc: Global, defs: &PropDefs, given: &Givens) -> Result<Values, Fail>
     ensures { Leaves result
         (judge_properties calls.Create defs.now [] given.now)
         (kept_values calls.Create defs.now [] given.now) }
@@ -45,7 +45,7 @@ fn bars_entries(kind: &TypeDef, remove: &[AceRequest], add: &[AceRequest]) -> bo
 }
 
 /// The type lets no policies be applied and some are given, or no list be changed and entries are given.
-pub(crate) fn bars_changes(
+pub fn bars_changes(
     kind: &TypeDef,
     policies: &[Text],
     remove: &[AceRequest],
@@ -58,7 +58,7 @@ pub(crate) fn bars_changes(
 }
 
 /// One of the permissions of these entries is none of the three.
-pub(crate) fn has_unknown(remove: &[AceRequest], add: &[AceRequest]) -> bool
+pub fn has_unknown(remove: &[AceRequest], add: &[AceRequest]) -> bool
     ensures { result ≡ (has_unknown_permission remove.now || has_unknown_permission add.now) }
 {
     has_unknown_permission(remove) || has_unknown_permission(add)

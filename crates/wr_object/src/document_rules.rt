@@ -32,7 +32,7 @@ use wr_rules::kinds::{bars_child, has_other_secondary};
 use wr_rules::policies::has_other_policy;
 
 /// The folder that is addressed, if one is. Takes no memory.
-pub(crate) fn folder_of<'a>(
+pub fn folder_of<'a>(
     state: &'a State,
     user: &Text,
     place: &Option<Place>,
@@ -49,7 +49,8 @@ pub(crate) fn folder_of<'a>(
     }
 }
 
-fn may_not_make(state: &State, user: &Text, folder: Option<&Object>) -> bool
+/// Whether the caller may make no document there. Takes no memory.
+pub fn may_not_make(state: &State, user: &Text, folder: Option<&Object>) -> bool
     ensures { result ≡ may_not_make state.now user.now (option_copied folder.entry) }
 {
     match folder {
@@ -58,7 +59,8 @@ fn may_not_make(state: &State, user: &Text, folder: Option<&Object>) -> bool
     }
 }
 
-fn is_no_folder(state: &State, folder: Option<&Object>) -> bool
+/// Whether what is addressed is no folder. Takes no memory.
+pub fn is_no_folder(state: &State, folder: Option<&Object>) -> bool
     ensures { result ≡ is_no_folder state.now (option_copied folder.entry) }
 {
     match folder {
@@ -83,7 +85,8 @@ fn is_document_type(kind: &TypeDef) -> bool
     }
 }
 
-fn is_wrong_type(
+/// Whether the type is no type of documents, or one of the secondary types is none.
+pub fn is_wrong_type(
     alloc: Global,
     types: &Types,
     kind: &TypeDef,
@@ -138,7 +141,7 @@ fn default_state(kind: &TypeDef) -> VersioningState
 }
 
 /// The state in which the document is to be made: the given one, or else major for what is versionable.
-pub(crate) fn state_of(kind: &TypeDef, call: &CreateDocument) -> VersioningState
+pub fn state_of(kind: &TypeDef, call: &CreateDocument) -> VersioningState
     ensures { result ≡ state_of kind.now call.now }
 {
     match call.state {
@@ -193,7 +196,7 @@ fn is_uncontrollable(kind: &TypeDef, call: &CreateDocument) -> bool
 }
 
 /// The folder takes a document of the type, and the type lets what is asked be done to it. Takes no memory.
-pub(crate) fn judge_place(
+pub fn judge_place(
     state: &State,
     call: &CreateDocument,
     folder: Option<&Object>,
@@ -216,7 +219,8 @@ pub(crate) fn judge_place(
     Ok(())
 }
 
-fn is_name_taken(state: &State, folder: Option<&Object>, name: &Text) -> bool
+/// Whether another child of the folder has the name. Takes no memory.
+pub fn is_name_taken(state: &State, folder: Option<&Object>, name: &Text) -> bool
     ensures { result ≡ is_name_taken state.now (option_copied folder.entry) name.now }
 {
     match folder {

@@ -3,12 +3,12 @@
 
 ghost use Rattle.std.specs.Prelude.{◌≡◌};
 
-mod asked;
+pub mod asked;
 pub mod create_document;
 pub mod create_folder;
-mod document_rules;
+pub mod document_rules;
 mod folder_rules;
 mod making;
-mod making_document;
+pub mod making_document;
 pub mod new_document;
 pub mod wanted;

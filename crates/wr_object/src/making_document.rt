@@ -25,7 +25,7 @@ use std::alloc::{AllocError, Global};
 use wr_rules::content::content_of_stream;
 
 /// The name that the document has of its own: a working copy has one, a version takes that of its series.
-pub(crate) fn own_name(state: VersioningState, name: Text) -> Option<Text>
+pub fn own_name(state: VersioningState, name: Text) -> Option<Text>
     ensures { result ≡ own_name state name }
 {
     match state {
@@ -96,7 +96,7 @@ fn with_working(alloc: Global, number: Oid, owner: &Text, name: Text) -> Result<
 }
 
 /// The series of the document with this number.
-pub(crate) fn new_series(
+pub fn new_series(
     alloc: Global,
     number: Oid,
     user: &Text,
@@ -113,7 +113,7 @@ pub(crate) fn new_series(
 }
 
 /// The content of the document that is made next, if a stream is given.
-pub(crate) fn new_content(
+pub fn new_content(
     alloc: Global,
     state: &State,
     name: &Text,
@@ -250,7 +250,7 @@ fn created(
 }
 
 /// The document with its series, its access list and its policies, its content, and its place, one step further, with its event.
-pub(crate) fn document_in(
+pub fn document_in(
     alloc: Global,
     state: &State,
     new: NewDocument,

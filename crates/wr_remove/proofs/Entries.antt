@@ -8,6 +8,7 @@ use Rattle.cm_base.specs.declared.filing.Filed.{Filed}
 use Rattle.cmis_spec.specs.Repository.{Repository, same}
 use Rattle.cmis_laws.proofs.Lists.{by_test}
 use Rattle.cm_state.specs.Looks.{entries_in}
+use Rattle.wr_remove.specs.Delete.{is_filled_at}
 
 positive : (k : ℕ) → nat_lt 0 (suc k) ≡ true
 positive k = grind arith
@@ -17,5 +18,5 @@ any_length q [] = refl
 any_length q (x ∷ xs) = by_test (q x) (λ e. rw e (positive (length (filter q xs)))) (λ e. rw e (any_length q xs))
 
 -- a folder has an entry where there is a pair of it
-pub entries_any : {K : Type 0} (r : Repository) (n : Oid) (es : List (K × Oid)) → map (λ e. e.1) es ≡ entries_in r n → nat_lt 0 (length es) ≡ list_any (λ p. same p.folder n) r.filed
+pub entries_any : {K : Type 0} (r : Repository) (n : Oid) (es : List (K × Oid)) → map (λ e. e.1) es ≡ entries_in r n → nat_lt 0 (length es) ≡ is_filled_at r n
 entries_any r n es at = ap (nat_lt 0) (sym (length-map es (λ e. e.1)) ∙ (ap length at ∙ length-map (filter (λ (p : Filed). same p.folder n) r.filed) (λ p. p.child))) ∙ any_length (λ (p : Filed). same p.folder n) r.filed

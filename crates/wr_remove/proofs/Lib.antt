@@ -1,3 +1,4 @@
 pub mod Cancelled
 pub mod Deleted
 mod Entries
+pub mod Free

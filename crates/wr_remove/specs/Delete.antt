@@ -1,6 +1,6 @@
 -- deleteObject (CMIS 1.1, section 2.2.4.16): when it is refused, and what it makes of the repository. Its reply is empty.
 use Rattle.std.specs.Prelude.{ℕ, Bool, ◌&&◌, not, if◌then◌else◌, List, [], ◌∷◌, unwrap_or, option_map}
-use Rattle.std.specs.List.{list_any}
+use Rattle.std.specs.List.{list_any, filter_map}
 use Rattle.cm_base.specs.declared.number.Oid.{Oid}
 use Rattle.cm_base.specs.declared.number.Moment.{Moment}
 use Rattle.cm_base.specs.declared.object.Object.{Object}
@@ -11,12 +11,13 @@ use Rattle.cm_types.specs.declared.definition.BaseType.TheVariants as bases
 use Rattle.call_parts.specs.declared.versions.Delete.{Delete}
 use Rattle.call_parts.specs.Versions.{weight_of_delete}
 use Rattle.cm_show.specs.Addressed.{addressed}
-use Rattle.cmis_spec.specs.Repository.{Repository, same, root, is_a, series_of}
+use Rattle.cmis_spec.specs.Repository.{Repository, same, root, object_at, is_a, series_of}
 use Rattle.cmis_spec.specs.Access.{lacks}
 use Rattle.cmis_spec.specs.Well.{members}
 use Rattle.cmis_spec.specs.Changes.{stepped}
 use Rattle.cmis_spec.specs.Documents.{is_working_copy}
 use Rattle.cmis_spec.specs.Removal.{deleted}
+use Rattle.cmis_spec.specs.Retention.{judge_kept}
 use Rattle.wr_rules.specs.Rules.{judge_storage}
 use Rattle.wr_rules.specs.Documents.{is_checked_out}
 
@@ -24,12 +25,15 @@ abbrev pub cost_delete : Delete → ℕ
 cost_delete call = weight_of_delete call
 
 -- the series is checked out, and x is not its working copy
-abbrev pub is_held : Repository → Object → Bool
-is_held r x = is_checked_out r x && not (is_working_copy r x)
+abbrev pub is_checked_out_version : Repository → Object → Bool
+is_checked_out_version r x = is_checked_out r x && not (is_working_copy r x)
 
--- something is filed in the folder, series without versions counted
+-- something is filed in the folder of this number, series without versions counted
+abbrev pub is_filled_at : Repository → Oid → Bool
+is_filled_at r n = list_any (λ p. same p.folder n) r.filed
+
 abbrev pub is_filled : Repository → Object → Bool
-is_filled r x = is_a r bases.Folder x && list_any (λ p. same p.folder x.id) r.filed
+is_filled r x = is_a r bases.Folder x && is_filled_at r x.id
 
 abbrev pub is_applied : Repository → Object → Bool
 is_applied r x = list_any (λ a. same a.policy x.id) r.applied
@@ -38,16 +42,9 @@ is_applied r x = list_any (λ a. same a.policy x.id) r.applied
 abbrev pub judge_removal : Repository → Object → Judged (Unit {0})
 judge_removal r x = do
   refuse causes.RootFixed (same x.id root)
-  refuse causes.CheckedOut (is_held r x)
+  refuse causes.CheckedOut (is_checked_out_version r x)
   refuse causes.NotEmpty (is_filled r x)
   refuse causes.PolicyInUse (is_applied r x)
-
-abbrev pub refusal_delete : Repository → List ℕ → ℕ → Delete → Judged (Unit {0})
-refusal_delete r u cost call = do
-  judge_storage r cost
-  x ← find_or causes.NotFound (addressed r u call.place)
-  refuse causes.Denied (lacks r u levels.All x)
-  judge_removal r x
 
 -- the whole series of a document, or x alone; a working copy goes alone
 abbrev pub doomed : Repository → Delete → Object → List Oid
@@ -55,6 +52,15 @@ doomed r call x =
     if call.all_versions && not (is_working_copy r x)
     then unwrap_or (option_map members (series_of r x)) (x.id ∷ [])
     else x.id ∷ []
+
+-- no document that would go is under a hold, or under retention at the moment
+abbrev pub refusal_delete : Repository → List ℕ → Moment → ℕ → Delete → Judged (Unit {0})
+refusal_delete r u m cost call = do
+  judge_storage r cost
+  x ← find_or causes.NotFound (addressed r u call.place)
+  refuse causes.Denied (lacks r u levels.All x)
+  judge_removal r x
+  judge_kept r m (filter_map (object_at r) (doomed r call x))
 
 abbrev pub after_delete_of : Repository → Moment → ℕ → Delete → Object → Repository
 after_delete_of r m cost call x = stepped (deleted r m (doomed r call x)) cost

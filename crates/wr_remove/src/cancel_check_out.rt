@@ -6,7 +6,8 @@ ghost use Rattle.cm_show.specs.Addressed.{addressed};
 ghost use Rattle.wr_rules.specs.Found.{Finds};
 ghost use Rattle.wr_remove.specs.CancelCheckOut.{cost_cancel, refusal_cancel, after_cancel};
 
-use crate::without::{only, without};
+use crate::members::only;
+use crate::without::without;
 use call_parts::versions::CancelCheckOut;
 use call_parts::weight::weight_of_cancel;
 use cm_base::access::Level;

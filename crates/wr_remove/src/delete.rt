@@ -1,14 +1,16 @@
 //! deleteObject (CMIS 1.1, section 2.2.4.16).
 ghost use Rattle.std.specs.Prelude.{◌≡◌, [], ◌∷◌, IfOk, unwrap_or, option_map};
-ghost use Rattle.std.specs.List.{list_any};
+ghost use Rattle.std.specs.List.{filter_map};
 ghost use Rattle.cm_base.specs.Judged.{Leaves};
-ghost use Rattle.cmis_spec.specs.Repository.{same, series_of};
+ghost use Rattle.cmis_spec.specs.Repository.{object_at, series_of};
+ghost use Rattle.cmis_spec.specs.Retention.{judge_kept};
 ghost use Rattle.cmis_spec.specs.Well.{IsWellFormed, members};
 ghost use Rattle.cm_show.specs.Addressed.{addressed};
-ghost use Rattle.wr_rules.specs.Found.{Finds};
-ghost use Rattle.wr_remove.specs.Delete.{cost_delete, is_held, is_filled, is_applied, judge_removal, refusal_delete, doomed, after_delete};
+ghost use Rattle.wr_rules.specs.Found.{FindsWith};
+ghost use Rattle.wr_remove.specs.Delete.{cost_delete, is_checked_out_version, is_filled_at, is_filled, is_applied, judge_removal, refusal_delete, doomed, after_delete};
 
-use crate::without::{members, only, without};
+use crate::members::{members, only};
+use crate::without::without;
 use call_parts::versions::Delete;
 use call_parts::weight::weight_of_delete;
 use cm_base::access::Level;
@@ -23,18 +25,20 @@ use cm_state::open::ROOT;
 use cm_state::state::State;
 use cm_types::definition::BaseType;
 use std::alloc::{AllocError, Global};
+use wr_rules::retention::judge_all_kept;
 use wr_rules::storage::judge_storage;
 use wr_rules::versions::{is_checked_out, is_working_copy};
 
 // Whether the series of the document is checked out, and the document is not its working copy.
-fn is_held(state: &State, x: &Object) -> bool
-    ensures { result ≡ is_held state.now x.now }
+fn is_checked_out_version(state: &State, x: &Object) -> bool
+    ensures { result ≡ is_checked_out_version state.now x.now }
 {
     is_checked_out(state, x) && !is_working_copy(state, x)
 }
 
-fn has_entries(state: &State, n: Oid) -> bool
-    ensures { result ≡ list_any (λ p. same p.folder n) state.now.filed }
+/// Whether something is filed in the folder of this number. It takes no memory, and does not depend on how much is filed there.
+pub fn is_filled_at(state: &State, n: Oid) -> bool
+    ensures { result ≡ is_filled_at state.now n }
 {
     match state.parts().entries(n) {
         Some(entries) => entries.len() > 0,
@@ -46,7 +50,7 @@ fn has_entries(state: &State, n: Oid) -> bool
 fn is_filled(state: &State, x: &Object) -> bool
     ensures { result ≡ is_filled state.now x.now }
 {
-    state.is_a(BaseType::Folder, x) && has_entries(state, x.id)
+    state.is_a(BaseType::Folder, x) && is_filled_at(state, x.id)
 }
 
 // Whether the policy is applied to an object.
@@ -67,7 +71,7 @@ fn judge_removal(state: &State, x: &Object) -> Result<(), Cause>
     if x.id == ROOT {
         return Err(Cause::RootFixed);
     }
-    if is_held(state, x) {
+    if is_checked_out_version(state, x) {
         return Err(Cause::CheckedOut);
     }
     if is_filled(state, x) {
@@ -77,25 +81,6 @@ fn judge_removal(state: &State, x: &Object) -> Result<(), Cause>
         return Err(Cause::PolicyInUse);
     }
     Ok(())
-}
-
-// The object that is addressed, or the cause of the refusal.
-#[tactic(auto, using(cm_types::proofs::Exits::fails_then, cm_types::proofs::Exits::fails_bind))]
-fn judge<'a>(state: &'a State, user: &Text, cost: u64, call: &Delete) -> Result<&'a Object, Cause>
-    ensures { Finds (λ x. x.now) result
-        (refusal_delete state.now user.now cost call.now)
-        (addressed state.now user.now call.now.place) }
-{
-    judge_storage(state, cost)?;
-    let x = match addressed(state, user, &call.place) {
-        Some(x) => x,
-        None => return Err(Cause::NotFound),
-    };
-    if lacks(state, user, Level::All, x) {
-        return Err(Cause::Denied);
-    }
-    judge_removal(state, x)?;
-    Ok(x)
 }
 
 // The documents of the series of x, or x alone where it is in none.
@@ -119,6 +104,48 @@ fn doomed(alloc: Global, state: &State, call: &Delete, x: &Object) -> Result<Oid
     }
 }
 
+// What the call deletes, or the cause that keeps a document of it.
+fn judge_doomed(
+    alloc: Global,
+    state: &State,
+    moment: Moment,
+    call: &Delete,
+    x: &Object,
+) -> Result<Oids, Fail>
+    ensures { Leaves result
+        (judge_kept state.now moment (filter_map (object_at state.now) (doomed state.now call.now x.now)))
+        (doomed state.now call.now x.now) }
+{
+    let numbers = doomed(alloc, state, call, x)?;
+    judge_all_kept(state, moment, numbers.as_slice())?;
+    Ok(numbers)
+}
+
+// The object that is addressed and what the call deletes, or the cause of the refusal.
+#[tactic(auto, using(cm_types::proofs::Exits::fails_then, cm_types::proofs::Exits::fails_bind))]
+fn judge<'a>(
+    alloc: Global,
+    state: &'a State,
+    user: &Text,
+    moment: Moment,
+    cost: u64,
+    call: &Delete,
+) -> Result<(&'a Object, Oids), Fail>
+    ensures { FindsWith (λ x. x.now) result
+        (refusal_delete state.now user.now moment cost call.now)
+        (addressed state.now user.now call.now.place)
+        (doomed state.now call.now) }
+{
+    judge_storage(state, cost)?;
+    let x = addressed(state, user, &call.place).ok_or(Cause::NotFound)?;
+    if lacks(state, user, Level::All, x) {
+        return Err(Fail::Refused(Cause::Denied));
+    }
+    judge_removal(state, x)?;
+    let numbers = judge_doomed(alloc, state, moment, call, x)?;
+    Ok((x, numbers))
+}
+
 // The state without them, at this cost, or the first cause that refuses the call.
 fn removed(
     alloc: Global,
@@ -129,17 +156,17 @@ fn removed(
     call: &Delete,
 ) -> Result<State, Fail>
     ensures { Leaves result
-        (refusal_delete state.now user.now cost call.now)
+        (refusal_delete state.now user.now moment cost call.now)
         (after_delete state.now user.now moment cost call.now) }
 {
     let _well = state.step();
-    let x = judge(state, user, cost, call)?;
-    let numbers = doomed(alloc, state, call, x)?;
+    let (x, numbers) = judge(alloc, state, user, moment, cost, call)?;
     let made = without(alloc, state, moment, cost, numbers.as_slice())?;
     Ok(made)
 }
 
-/// Deletes an object: a document with its whole series where the call says so, or anything else alone. The cost is the weight of the call.
+/// Deletes an object: a document with its whole series where the call says so, or anything else alone. No document goes that is under a
+/// hold, or under retention at the moment of the call (CMIS 1.1, section 2.1.16). The cost is the weight of the call.
 ///
 /// The answer is the first cause that refuses the call, or the repository without what is deleted, and without the relationships that end there.
 pub fn delete(
@@ -150,7 +177,7 @@ pub fn delete(
     call: &Delete,
 ) -> Result<State, Fail>
     ensures written { Leaves result
-        (refusal_delete state.now user.now (cost_delete call.now) call.now)
+        (refusal_delete state.now user.now moment (cost_delete call.now) call.now)
         (after_delete state.now user.now moment (cost_delete call.now) call.now) }
     ensures well { IfOk result (λ s. IsWellFormed s) }
 {

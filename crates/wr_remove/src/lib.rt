@@ -5,4 +5,5 @@ ghost use Rattle.std.specs.Prelude.{◌≡◌};
 
 pub mod cancel_check_out;
 pub mod delete;
+pub mod members;
 mod without;

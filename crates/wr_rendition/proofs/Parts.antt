@@ -11,5 +11,4 @@ use Rattle.cm_state.specs.Told.{entry_by}
 pub beside_parts : (s : Inside) (new : Lists) (next : ℕ) → new.objects ≡ s.lists.objects → new.series ≡ s.lists.series → IsParts s → IsParts (record s { lists = new; next = next })
 beside_parts s new next objects series is = record {
   told = is.told ∙ (λ i. map (entry_by (arc_value s.types) (sym series i) (sym objects i)) (pairs_of s.filing));
-  no_groups = is.no_groups;
 }

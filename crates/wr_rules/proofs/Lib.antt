@@ -5,5 +5,6 @@ pub mod Distinct
 pub mod Found
 pub mod Known
 pub mod Named
+pub mod Numbers
 pub mod Room
 pub mod TextCosts

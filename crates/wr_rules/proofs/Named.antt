@@ -14,7 +14,7 @@ use Rattle.wr_rules.specs.Rules.{read_all}
 use Rattle.wr_rules.specs.Named.{is_below_scalar, is_other_policy}
 
 -- a test of what is found, over what is asked
-any_found : {A B : Type 0} (f : A → Option B) (p : B → Bool) (xs : List A) → list_any (λ x. unwrap_or (option_map p (f x)) false) xs ≡ list_any p (filter_map f xs)
+pub any_found : {A B : Type 0} (f : A → Option B) (p : B → Bool) (xs : List A) → list_any (λ x. unwrap_or (option_map p (f x)) false) xs ≡ list_any p (filter_map f xs)
 any_found f p [] = refl
 any_found f p (x ∷ xs) = elim (f x) as (λ o. (unwrap_or (option_map p o) false || list_any (λ x. unwrap_or (option_map p (f x)) false) xs) ≡ list_any p (cons_option o (filter_map f xs))) [
   | None ↦ any_found f p xs

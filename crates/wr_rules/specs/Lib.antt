@@ -2,4 +2,5 @@ pub mod Documents
 pub mod Firsts
 pub mod Found
 pub mod Named
+pub mod Retained
 pub mod Rules

@@ -13,6 +13,7 @@ pub mod kinds;
 pub mod made;
 pub mod policies;
 pub mod properties;
+pub mod retention;
 pub mod storage;
 pub mod token;
 pub mod versions;

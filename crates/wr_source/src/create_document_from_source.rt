@@ -11,8 +11,7 @@ ghost use Rattle.wr_object.specs.DocumentParts.{number_of};
 ghost use Rattle.wr_source.specs.Templates.{template_of};
 ghost use Rattle.wr_source.specs.CreateDocumentFromSource.{cost_of_source, cost_create_document_from_source, judge_template, judge_found, refusal_of_source, refusal_create_document_from_source, allowed_in, new_document, new_parts, parts_made, after_create_document_from_source, acknowledgement_create_document_from_source};
 
-use crate::making::{document_in, new_content, new_series, own_name};
-use crate::rules::{folder_of, judge_kinds, judge_name, judge_place, judge_type, state_of};
+use crate::rules::{judge_kinds, judge_name, judge_type};
 use crate::taking::with_source;
 use crate::template::{Template, template_of};
 use call_parts::replies::ObjectReply;
@@ -32,6 +31,8 @@ use cm_types::given::Givens;
 use source_parts::weight::weight_of_create_document_from_source;
 use source_parts::writes::CreateDocumentFromSource;
 use std::alloc::{AllocError, Global};
+use wr_object::document_rules::{folder_of, judge_place, state_of};
+use wr_object::making_document::{document_in, new_content, new_series, own_name};
 use wr_object::new_document::{Allowed, NewDocument};
 use wr_rules::beside::kept_beside;
 use wr_rules::entries::new_aces;

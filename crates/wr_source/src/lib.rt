@@ -4,7 +4,6 @@
 ghost use Rattle.std.specs.Prelude.{◌≡◌};
 
 pub mod create_document_from_source;
-mod making;
 mod rules;
 mod taking;
 pub mod template;

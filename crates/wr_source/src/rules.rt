@@ -1,75 +1,27 @@
 //! The rules of createDocumentFromSource, part by part.
-ghost use Rattle.std.specs.Prelude.{◌≡◌, ◌&&◌, ◌||◌, not, false, IfOk, is_some, nat_lt, length, if◌then◌else◌, unwrap_or, option_map, option_and_then};
+ghost use Rattle.std.specs.Prelude.{◌≡◌, ◌||◌, not};
 ghost use Rattle.std.specs.Option.{option_copied};
 ghost use Rattle.cm_base.specs.Judged.{Meets};
-ghost use Rattle.cm_base.specs.declared.series.VersioningState.TheVariants as states;
 ghost use Rattle.cm_types.specs.declared.definition.BaseType.TheVariants as bases;
-ghost use Rattle.cm_types.specs.Types.{same_base};
-ghost use Rattle.cm_show.specs.Addressed.{addressed};
 ghost use Rattle.cmis_spec.specs.Repository.{is_a};
-ghost use Rattle.wr_rules.specs.Rules.{has_other_policy, has_other_secondary, bars_child, has_entries, has_unknown_permission};
-ghost use Rattle.wr_object.specs.CreateDocument.{folder_at, state_of, is_unversioned, has_other_state, is_uncontrollable, may_not_make, is_no_folder, is_name_taken};
-ghost use Rattle.wr_object.specs.DocumentParts.{judge_place};
+ghost use Rattle.wr_rules.specs.Rules.{has_other_policy};
+ghost use Rattle.wr_object.specs.CreateDocument.{is_no_folder};
 ghost use Rattle.wr_source.specs.CreateDocumentFromSource.{judge_kinds, judge_type, judge_name};
 
 use crate::template::Template;
-use call_parts::place::Place;
 use call_parts::versions::CreateDocument;
-use call_parts::writes::AceRequest;
-use cm_base::access::Level;
 use cm_base::cause::Cause;
 use cm_base::fail::Fail;
 use cm_base::name::name_ok;
-use cm_base::number::Oid;
 use cm_base::object::Object;
-use cm_base::series::VersioningState;
 use cm_base::text::Text;
-use cm_see::level::lacks;
-use cm_show::address::addressed;
 use cm_state::state::State;
-use cm_type_list::types::Types;
 use cm_types::definition::{BaseType, TypeDef};
-use std::alloc::{AllocError, Global};
+use std::alloc::Global;
+use wr_object::asked::has_unknown;
+use wr_object::document_rules::{is_name_taken, is_no_folder, is_wrong_type, may_not_make};
 use wr_rules::content::judge_content;
-use wr_rules::entries::{has_entries, has_unknown_permission};
-use wr_rules::kinds::{bars_child, has_other_secondary};
 use wr_rules::policies::has_other_policy;
-
-/// The folder that is addressed, if one is. Takes no memory.
-pub(crate) fn folder_of<'a>(
-    state: &'a State,
-    user: &Text,
-    place: &Option<Place>,
-) -> Result<Option<&'a Object>, Fail>
-    ensures judged { Meets (λ f. option_copied f) result (folder_at state.now user.now place.now) }
-    ensures found { IfOk result (λ f. option_copied f ≡ option_and_then (addressed state.now user.now) place.now) }
-{
-    match place {
-        Some(place) => match addressed(state, user, place) {
-            Some(folder) => Ok(Some(folder)),
-            None => Err(Fail::Refused(Cause::NotFound)),
-        },
-        None => Ok(None),
-    }
-}
-
-fn may_not_make(state: &State, user: &Text, folder: Option<&Object>) -> bool
-    ensures { result ≡ may_not_make state.now user.now (option_copied folder.entry) }
-{
-    match folder {
-        Some(folder) => lacks(state, user, Level::Write, folder),
-        None => user.is_str("anonymous"),
-    }
-}
-
-fn is_no_folder(state: &State, folder: Option<&Object>) -> bool
-    ensures { result ≡ is_no_folder state.now (option_copied folder.entry) }
-{
-    match folder {
-        Some(folder) => !state.is_a(BaseType::Folder, folder),
-        None => false,
-    }
-}
 
 // The folder is none, or the source is no document.
 fn names_other(state: &State, x: &Object, folder: Option<&Object>) -> bool
@@ -112,30 +64,6 @@ pub(crate) fn judge_kinds(
     Ok(())
 }
 
-fn is_document_type(kind: &TypeDef) -> bool
-    ensures { result ≡ same_base bases.Document kind.now.base }
-{
-    match kind.base {
-        BaseType::Document => true,
-        _ => false,
-    }
-}
-
-fn is_wrong_type(
-    alloc: Global,
-    types: &Types,
-    kind: &TypeDef,
-    secondary: &[Text],
-) -> Result<bool, AllocError>
-    ensures { IfOk result (λ b. b ≡
-        (not (same_base bases.Document kind.now.base) || has_other_secondary types.now secondary.now)) }
-{
-    if !is_document_type(kind) {
-        return Ok(true);
-    }
-    has_other_secondary(alloc, types, secondary)
-}
-
 /// A document of the types may be made.
 pub(crate) fn judge_type(
     alloc: Global,
@@ -153,124 +81,6 @@ pub(crate) fn judge_type(
         return Err(Fail::Refused(Cause::NotCreatable));
     }
     Ok(())
-}
-
-fn default_state(kind: &TypeDef) -> VersioningState
-    ensures { result ≡ (if kind.now.versionable then states.Major else states.None) }
-{
-    if kind.versionable {
-        VersioningState::Major
-    } else {
-        VersioningState::None
-    }
-}
-
-/// The state in which the document is to be made: the given one, or else major for what is versionable.
-pub(crate) fn state_of(kind: &TypeDef, call: &CreateDocument) -> VersioningState
-    ensures { result ≡ state_of kind.now call.now }
-{
-    match call.state {
-        Some(state) => state,
-        None => default_state(kind),
-    }
-}
-
-fn is_unversioned(state: VersioningState) -> bool
-    ensures { result ≡ is_unversioned state }
-{
-    match state {
-        VersioningState::None => true,
-        VersioningState::CheckedOut => false,
-        VersioningState::Minor => false,
-        VersioningState::Major => false,
-    }
-}
-
-fn has_other_state(kind: &TypeDef, call: &CreateDocument) -> bool
-    ensures { result ≡ has_other_state kind.now call.now }
-{
-    let plain = is_unversioned(state_of(kind, call));
-    if kind.versionable { plain } else { !plain }
-}
-
-fn bars_filing(folder: Option<&Object>, kind: &TypeDef) -> bool
-    ensures { result ≡ (is_some (option_copied folder.entry) && not kind.now.fileable) }
-{
-    folder.is_some() && !kind.fileable
-}
-
-fn bars_kind(state: &State, folder: Option<&Object>, kind: &Text) -> bool
-    ensures { result ≡
-        unwrap_or (option_map (λ f. bars_child state.now f kind.now) (option_copied folder.entry)) false }
-{
-    match folder {
-        Some(folder) => bars_child(state, folder, kind),
-        None => false,
-    }
-}
-
-fn bars_policies(kind: &TypeDef, policies: &[Text]) -> bool
-    ensures { result ≡ (not kind.now.controllable_policy && nat_lt 0 (length policies.now)) }
-{
-    !kind.controllable_policy && policies.len() > 0
-}
-
-fn asks_entries(remove: &[AceRequest], add: &[AceRequest]) -> bool
-    ensures { result ≡ (has_entries remove.now || has_entries add.now) }
-{
-    has_entries(remove) || has_entries(add)
-}
-
-fn bars_entries(kind: &TypeDef, remove: &[AceRequest], add: &[AceRequest]) -> bool
-    ensures { result ≡ (not kind.now.controllable_acl && (has_entries remove.now || has_entries add.now)) }
-{
-    !kind.controllable_acl && asks_entries(remove, add)
-}
-
-fn is_uncontrollable(kind: &TypeDef, call: &CreateDocument) -> bool
-    ensures { result ≡ is_uncontrollable kind.now call.now }
-{
-    bars_policies(kind, call.policies.as_slice())
-        || bars_entries(kind, call.remove.as_slice(), call.add.as_slice())
-}
-
-/// The folder takes a document of the type, and the type lets what is asked be done to it. Takes no memory.
-pub(crate) fn judge_place(
-    state: &State,
-    call: &CreateDocument,
-    folder: Option<&Object>,
-    kind: &TypeDef,
-) -> Result<(), Cause>
-    ensures { result ≡ judge_place state.now call.now (option_copied folder.entry) kind.now }
-{
-    if bars_filing(folder, kind) {
-        return Err(Cause::NotFileable);
-    }
-    if has_other_state(kind, call) {
-        return Err(Cause::VersionState);
-    }
-    if bars_kind(state, folder, &kind.id) {
-        return Err(Cause::ChildType);
-    }
-    if is_uncontrollable(kind, call) {
-        return Err(Cause::NotControllable);
-    }
-    Ok(())
-}
-
-fn has_unknown(remove: &[AceRequest], add: &[AceRequest]) -> bool
-    ensures { result ≡ (has_unknown_permission remove.now || has_unknown_permission add.now) }
-{
-    has_unknown_permission(remove) || has_unknown_permission(add)
-}
-
-fn is_name_taken(state: &State, folder: Option<&Object>, name: &Text) -> bool
-    ensures { result ≡ is_name_taken state.now (option_copied folder.entry) name.now }
-{
-    match folder {
-        Some(folder) => state.is_taken(folder.id, Oid(state.next_number()), name),
-        None => false,
-    }
 }
 
 /// The entries that are asked for, the content and the name are right, and no other child of the folder has the name. Takes no memory.

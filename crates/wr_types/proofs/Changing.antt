@@ -9,7 +9,7 @@ use Rattle.cm_types.specs.declared.definition.TypeDef.{TypeDef}
 use Rattle.cm_types.specs.declared.definition.BaseType.TheVariants as bases
 use Rattle.cm_types.specs.declared.request.TypeRequest.{TypeRequest}
 use Rattle.cm_types.specs.Types.{type_in, is_of_base}
-use Rattle.cm_types.specs.Changes.{breaks_change_rule, changed_type, placed_type, judge_change_of, judge_changed_type}
+use Rattle.cm_types.specs.Changes.{breaks_change_rule, changed_type, placed_type, judge_change_of, judge_changed_type, judge_with_change}
 use Rattle.cmis_spec.specs.Repository.{Repository, is_a}
 use Rattle.cmis_spec.specs.Changes.{stepped}
 use Rattle.cmis_spec.specs.Well.{IsWellFormed}
@@ -23,8 +23,9 @@ use Rattle.type_laws.proofs.Placing.{found_placed}
 use Rattle.wr_rules.specs.Rules.{judge_storage}
 use Rattle.wr_rules.proofs.Room.{room_of, fits_of}
 use Rattle.wr_types.specs.Retyped.{may_not_type, retyped, no_type}
-use Rattle.wr_types.specs.UpdateType.{judge_update, refusal_update_type, updated_type}
+use Rattle.wr_types.specs.UpdateType.{refusal_update_type, updated_type}
 use Rattle.wr_types.proofs.Lines.{ok_same, line_passed, line_found, line_bound}
+use Rattle.wr_types.proofs.Staying.{FoldersStay}
 
 -- what the list of types judges
 record MayChange (types : List TypeDef) (q : TypeRequest) (others : List TypeDef) : Type 0 where
@@ -34,8 +35,7 @@ record MayChange (types : List TypeDef) (q : TypeRequest) (others : List TypeDef
   rule : breaks_change_rule types old q ≡ false
   are : placed_type (changed_type old q) types ≡ others
 
-may_change : (types : List TypeDef) (q : TypeRequest) (others : List TypeDef) → judge_update types q ≡ Ok others → MayChange types q others
-unfolding judge_update
+may_change : (types : List TypeDef) (q : TypeRequest) (others : List TypeDef) → judge_with_change types q ≡ Ok others → MayChange types q others
 may_change types q others h =
     let made = line_bound (judge_changed_type types q) (λ t. Ok (placed_type t types)) others h in
     let found = line_found causes.TypeNotFound (type_in types q.id) (λ t. judge_change_of types t q) made.0 made.1 in
@@ -53,17 +53,17 @@ updated_is : (types : List TypeDef) (q : TypeRequest) (others : List TypeDef) (m
 updated_is types q others m = ap (λ o. changed_type (unwrap_or o no_type) q) m.there
 
 -- the types that are made
-pub types_are : (types : List TypeDef) (q : TypeRequest) (others : List TypeDef) → judge_update types q ≡ Ok others → others ≡ placed_type (updated_type types q) types
+pub types_are : (types : List TypeDef) (q : TypeRequest) (others : List TypeDef) → judge_with_change types q ≡ Ok others → others ≡ placed_type (updated_type types q) types
 types_are types q others h = let m = may_change types q others h in sym (ap (λ t. placed_type t types) (updated_is types q others m) ∙ m.are)
 
 -- ---- a call that is not refused
 
-judged : (r : Repository) (u : List ℕ) (cost : ℕ) (call : UpdateType) → refusal_update_type r u cost call ≡ Ok tt → (others : List TypeDef) × (judge_update r.types call.definition ≡ Ok others)
+judged : (r : Repository) (u : List ℕ) (cost : ℕ) (call : UpdateType) → refusal_update_type r u cost call ≡ Ok tt → (others : List TypeDef) × (judge_with_change r.types call.definition ≡ Ok others)
 judged r u cost call h =
     let paid = then_ok (judge_storage r cost) _ h in
     let named = refuse_ok causes.TypeNotFound (is_none (type_in r.types call.definition.id)) _ paid.1 in
     let allowed = refuse_ok causes.Denied (may_not_type r u) _ named.1 in
-    let made = line_bound (judge_update r.types call.definition) (λ _. Ok tt) tt allowed.1 in
+    let made = line_bound (judge_with_change r.types call.definition) (λ _. Ok tt) tt allowed.1 in
     (made.0, made.1)
 
 has_room : (r : Repository) (u : List ℕ) (cost : ℕ) (call : UpdateType) → refusal_update_type r u cost call ≡ Ok tt → HasRoom r cost
@@ -73,13 +73,12 @@ pub fits : (r : Repository) (u : List ℕ) (cost : ℕ) (call : UpdateType) → 
 fits r u cost call h = fits_of r cost (has_room r u cost call h)
 
 -- the same objects are folders
-pub folders_stay : (r : Repository) (u : List ℕ) (cost : ℕ) (call : UpdateType) → IsWellFormed r → refusal_update_type r u cost call ≡ Ok tt
-    → All (λ x. is_of_base (placed_type (updated_type r.types call.definition) r.types) bases.Folder x.kind ≡ is_a r bases.Folder x) r.objects
+pub folders_stay : (r : Repository) (u : List ℕ) (cost : ℕ) (call : UpdateType) → IsWellFormed r → refusal_update_type r u cost call ≡ Ok tt → FoldersStay r (placed_type (updated_type r.types call.definition) r.types)
 folders_stay r u cost call w h =
     let j = judged r u cost call h in
     let m = may_change r.types call.definition j.0 j.1 in
     let others = placed_type (changed_type m.old call.definition) r.types in
-    subst (λ t. All (λ (x : Object). is_of_base (placed_type t r.types) bases.Folder x.kind ≡ is_a r bases.Folder x) r.objects) (sym (updated_is r.types call.definition j.0 m))
+    subst (λ t. FoldersStay r (placed_type t r.types)) (sym (updated_is r.types call.definition j.0 m))
     (All-weaker (IsRetyped r others) (λ x. is_of_base others bases.Folder x.kind ≡ is_a r bases.Folder x) (λ x t. t.base bases.Folder) r.objects
     (changed_retypes r call.definition m.old w m.there m.may m.rule))
 

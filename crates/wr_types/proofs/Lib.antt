@@ -1,5 +1,6 @@
 mod Changing
 mod Lines
 mod Making
+mod Numbers
 mod Removing
-mod Walks
+mod Staying

@@ -25,6 +25,7 @@ use Rattle.wr_rules.proofs.Room.{room_of, fits_of}
 use Rattle.wr_types.specs.Retyped.{may_not_type, retyped, no_type}
 use Rattle.wr_types.specs.CreateType.{refusal_create_type, new_type}
 use Rattle.wr_types.proofs.Lines.{ok_same, line_passed, line_found, line_bound}
+use Rattle.wr_types.proofs.Staying.{FoldersStay}
 
 -- what the list of types judges
 record MayMake (types : List TypeDef) (q : TypeRequest) (others : List TypeDef) : Type 0 where
@@ -74,13 +75,12 @@ pub fits : (r : Repository) (u : List ℕ) (cost : ℕ) (call : CreateType) → 
 fits r u cost call h = fits_of r cost (has_room r u cost call h)
 
 -- the same objects are folders
-pub folders_stay : (r : Repository) (u : List ℕ) (cost : ℕ) (call : CreateType) → IsWellFormed r → refusal_create_type r u cost call ≡ Ok tt
-    → All (λ x. is_of_base (placed_type (new_type r.types call.definition) r.types) bases.Folder x.kind ≡ is_a r bases.Folder x) r.objects
+pub folders_stay : (r : Repository) (u : List ℕ) (cost : ℕ) (call : CreateType) → IsWellFormed r → refusal_create_type r u cost call ≡ Ok tt → FoldersStay r (placed_type (new_type r.types call.definition) r.types)
 folders_stay r u cost call w h =
     let j = judged r u cost call h in
     let m = may_make r.types call.definition j.0 j.1 in
     let others = placed_type (made_type m.parent call.definition) r.types in
-    subst (λ t. All (λ (x : Object). is_of_base (placed_type t r.types) bases.Folder x.kind ≡ is_a r bases.Folder x) r.objects) (sym (new_is r.types call.definition j.0 m))
+    subst (λ t. FoldersStay r (placed_type t r.types)) (sym (new_is r.types call.definition j.0 m))
     (All-weaker (IsRetyped r others) (λ x. is_of_base others bases.Folder x.kind ≡ is_a r bases.Folder x) (λ x t. t.base bases.Folder) r.objects
     (created_retypes r m.parent call.definition w m.untaken m.there m.rule))
 

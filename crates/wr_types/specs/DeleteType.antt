@@ -8,8 +8,7 @@ use Rattle.cm_types.specs.Types.{type_in}
 use Rattle.cm_types.specs.Changes.{without_type, judge_without_type}
 use Rattle.type_change_parts.specs.declared.writes.DeleteType.{DeleteType}
 use Rattle.type_change_parts.specs.Weight.{weight_of_delete_type}
-use Rattle.type_laws.specs.Used.{is_of}
-use Rattle.cmis_spec.specs.Repository.{Repository}
+use Rattle.cmis_spec.specs.Repository.{Repository, is_of_type}
 use Rattle.wr_rules.specs.Rules.{judge_storage}
 use Rattle.wr_types.specs.Retyped.{may_not_type, retyped}
 
@@ -26,7 +25,7 @@ refusal_delete_type r u cost call = do
   refuse causes.TypeNotFound (is_none (type_in r.types call.type_id))
   refuse causes.Denied (may_not_type r u)
   types ← judge_without_type r.types call.type_id
-  refuse causes.TypeInUse (list_any (is_of call.type_id) r.objects)
+  refuse causes.TypeInUse (list_any (is_of_type call.type_id) r.objects)
 
 -- ---- the repository after it
 

@@ -2,4 +2,3 @@ pub mod CreateType
 pub mod DeleteType
 pub mod Retyped
 pub mod UpdateType
-pub mod Walks

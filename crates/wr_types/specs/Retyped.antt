@@ -1,10 +1,9 @@
 -- What the writes on types have in common (CMIS 1.1, sections 2.2.2.6 to 2.2.2.8).
-use Rattle.std.specs.Prelude.{◌≡◌, ℕ, Bool, not, List, All}
+use Rattle.std.specs.Prelude.{ℕ, Bool, not, List}
 use Rattle.cm_types.specs.declared.definition.TypeDef.{TypeDef}
 use Rattle.cm_types.specs.declared.definition.BaseType.TheVariants as bases
-use Rattle.cm_types.specs.Types.{is_of_base}
 use Rattle.cm_types.specs.BaseTypes.{base_row}
-use Rattle.cmis_spec.specs.Repository.{Repository, is_a}
+use Rattle.cmis_spec.specs.Repository.{Repository}
 use Rattle.cmis_spec.specs.Access.{is_administrator}
 use Rattle.cmis_spec.specs.Changes.{stepped, with_types}
 
@@ -15,10 +14,6 @@ may_not_type r u = not (is_administrator r.users u)
 -- other types, one step further; no event tells of them
 abbrev pub retyped : Repository → List TypeDef → ℕ → Repository
 retyped r types cost = with_types (stepped r cost) types
-
--- the same objects are folders by these types
-abbrev pub FoldersStay : Repository → List TypeDef → Type 0
-FoldersStay r types = All (λ x. is_of_base types bases.Folder x.kind ≡ is_a r bases.Folder x) r.objects
 
 -- what stands for a type that is not there, where the call is refused
 unfoldable pub no_type : TypeDef

@@ -19,17 +19,14 @@ cost_update_type call = weight_of_update_type call
 
 -- ---- the refusal
 
--- the list of types with the changed one, or its cause: a type that allows no update, a rule that is broken
-unfoldable pub judge_update : List TypeDef → TypeRequest → Judged (List TypeDef)
-judge_update types q = judge_with_change types q
-
--- a type that is not there comes before the caller's rights; then the causes of the list of types
+-- a type that is not there comes before the caller's rights; then the causes of the list of types: a type that allows no update, a rule
+-- that is broken
 abbrev pub refusal_update_type : Repository → List ℕ → ℕ → UpdateType → Judged (Unit {0})
 refusal_update_type r u cost call = do
   judge_storage r cost
   refuse causes.TypeNotFound (is_none (type_in r.types call.definition.id))
   refuse causes.Denied (may_not_type r u)
-  types ← judge_update r.types call.definition
+  types ← judge_with_change r.types call.definition
   Ok tt
 
 -- ---- the repository after it

@@ -33,7 +33,7 @@ fn typed(alloc: Global, state: &State, user: &Text, call: &DeleteType) -> Result
         return Err(Fail::Refused(Cause::Denied));
     }
     let types = state.types().without(alloc, &call.type_id)?;
-    if is_used(state, &call.type_id) {
+    if is_used(alloc, state, &call.type_id)? {
         return Err(Fail::Refused(Cause::TypeInUse));
     }
     Ok(types)
@@ -59,7 +59,7 @@ fn without(
 }
 
 /// Removes a type that has no subtype, and of which no object is, also as a secondary type. The caller is the administrator; no event
-/// tells of the removal. The cost is the weight of the call. It goes through all objects once.
+/// tells of the removal. The cost is the weight of the call. It looks at the objects of the type alone.
 ///
 /// The answer is the first cause that refuses the call, or the repository after it.
 pub fn delete_type(

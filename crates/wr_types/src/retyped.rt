@@ -1,9 +1,11 @@
 //! What the writes on types have in common.
-ghost use Rattle.std.specs.Prelude.{◌≡◌, ◌+◌, ◌<◌, ◌^◌, Some, IfOk, is_some, true};
+ghost use Rattle.std.specs.Prelude.{◌≡◌, ◌+◌, ◌<◌, ◌^◌, All, Some, IfOk, is_some, true};
 ghost use Rattle.cm_types.specs.declared.definition.TypeDef.{TypeDef};
-ghost use Rattle.cm_types.specs.Types.{type_in};
+ghost use Rattle.cm_types.specs.declared.definition.BaseType.TheVariants as bases;
+ghost use Rattle.cm_types.specs.Types.{is_of_base, type_in};
+ghost use Rattle.cmis_spec.specs.Repository.{is_a};
 ghost use Rattle.cmis_spec.specs.Well.{IsWellFormed};
-ghost use Rattle.wr_types.specs.Retyped.{FoldersStay, may_not_type, retyped};
+ghost use Rattle.wr_types.specs.Retyped.{may_not_type, retyped};
 
 use cm_base::copies::Copies;
 use cm_base::text::Text;
@@ -28,7 +30,7 @@ pub(crate) fn retyped(
     types: Types,
     cost: u64,
 ) -> Result<State, AllocError>
-    requires folders { FoldersStay state.now types }
+    requires folders { All (λ x. is_of_base types bases.Folder x.kind ≡ is_a state.now bases.Folder x) state.now.objects }
     requires step { state.now.step + 1 < 2 ^ 64 }
     requires cost { state.now.cost + cost < 2 ^ 64 }
     requires well { IsWellFormed (retyped state.now types cost) }

@@ -1,10 +1,10 @@
 //! updateType (CMIS 1.1, section 2.2.2.7).
 ghost use Rattle.std.specs.Prelude.{◌≡◌, Ok, IfOk};
-ghost use Rattle.cm_base.specs.Judged.{Leaves, Meets, Writes};
+ghost use Rattle.cm_base.specs.Judged.{Leaves, Writes};
 ghost use Rattle.cm_types.specs.Changes.{placed_type};
 ghost use Rattle.cm_base.specs.declared.number.Moment.{Moment};
 ghost use Rattle.cmis_spec.specs.Well.{IsWellFormed};
-ghost use Rattle.wr_types.specs.UpdateType.{cost_update_type, judge_update, refusal_update_type, updated_type, after_update_type, acknowledgement_update_type};
+ghost use Rattle.wr_types.specs.UpdateType.{cost_update_type, refusal_update_type, updated_type, after_update_type, acknowledgement_update_type};
 
 use crate::retyped::{may_not_type, retyped, with_reply};
 use cm_base::cause::Cause;
@@ -13,20 +13,11 @@ use cm_base::number::Moment;
 use cm_base::text::Text;
 use cm_state::state::State;
 use cm_type_list::types::Types;
-use cm_types::request::TypeRequest;
 use std::alloc::{AllocError, Global};
 use type_change_parts::weight::weight_of_update_type;
 use type_change_parts::writes::UpdateType;
 use type_parts::replies::TypeReply;
 use wr_rules::storage::judge_storage;
-
-// The types with the changed one, or the cause of the list of types.
-#[tactic(auto, unfolding(crate::specs::UpdateType::judge_update))]
-fn updated(alloc: Global, types: &Types, request: &TypeRequest) -> Result<Types, Fail>
-    ensures { Meets (λ t. t) result (judge_update types.now request.now) }
-{
-    types.with_change(alloc, request)
-}
 
 // The types with the changed one, or the cause of the refusal.
 #[tactic(auto, using(cm_types::proofs::Exits::fails_then, cm_types::proofs::Exits::fails_bind, crate::proofs::Changing::types_are))]
@@ -41,7 +32,7 @@ fn typed(alloc: Global, state: &State, user: &Text, call: &UpdateType) -> Result
     if may_not_type(state, user) {
         return Err(Fail::Refused(Cause::Denied));
     }
-    let types = updated(alloc, state.types(), &call.definition)?;
+    let types = state.types().with_change(alloc, &call.definition)?;
     Ok(types)
 }
 

@@ -3,6 +3,6 @@ use Rattle.action_laws.proofs.contents.contents_refused.Goals as goal
 
 pub returns : goal.returns
 returns c = record {
-  set_content = λ r u cost call b. laws.set_content r u cost call b;
-  delete_content = λ r u cost call b k. laws.delete_content r u cost call b k;
+  set_content = λ r u m cost call b. laws.set_content r u m cost call b;
+  delete_content = λ r u m cost call b k. laws.delete_content r u m cost call b k;
 }

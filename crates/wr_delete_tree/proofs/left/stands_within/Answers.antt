@@ -3,7 +3,7 @@ use Rattle.std.specs.Prelude.{[], unwrap_or}
 use Rattle.std.specs.List.{list_any}
 use Rattle.std.specs.Option.{option_copied}
 use Rattle.cmis_spec.specs.Removal.{among}
-use Rattle.wr_delete_tree.proofs.Values.{any_values}
+use Rattle.wr_filing.proofs.Folders.{any_values}
 use Rattle.wr_delete_tree.proofs.left.stands_within.Goals as goal
 
 pub returns-in-Some : goal.returns-in-Some

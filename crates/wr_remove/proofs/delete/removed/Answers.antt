@@ -13,11 +13,11 @@ without-requires c =
     let cost = c.args.cost in
     let call = c.args.call.now in
     let ok = c.in_ok-x.ensures.0 in
-    let fits = delete_fits r u cost call ok in
+    let fits = delete_fits r u m cost call ok in
     record {
       step = fits.0;
       cost = fits.1;
-      well = subst IsWellFormed (sym (ap (λ ns. stepped (deleted r m ns) cost) (c.as_slice.ensures ∙ c.in_ok-numbers.ensures) ∙ delete_is r u m cost call c.in_ok-x.x.now c.in_ok-x.ensures.1))
+      well = subst IsWellFormed (sym (ap (λ ns. stepped (deleted r m ns) cost) (c.as_slice.ensures ∙ c.in_ok-x.ensures.2) ∙ delete_is r u m cost call c.in_ok-x.x.now c.in_ok-x.ensures.1))
           (keeps_delete r u m cost call c.step-well.ensures.well ok);
     }
 
@@ -28,4 +28,4 @@ returns c =
     let m = c.args.moment in
     let cost = c.args.cost in
     let call = c.args.call.now in
-    (c.in_ok-x.ensures.0, c.in_ok-made.ensures ∙ (ap (λ ns. stepped (deleted r m ns) cost) (c.as_slice.ensures ∙ c.in_ok-numbers.ensures) ∙ delete_is r u m cost call c.in_ok-x.x.now c.in_ok-x.ensures.1))
+    (c.in_ok-x.ensures.0, c.in_ok-made.ensures ∙ (ap (λ ns. stepped (deleted r m ns) cost) (c.as_slice.ensures ∙ c.in_ok-x.ensures.2) ∙ delete_is r u m cost call c.in_ok-x.x.now c.in_ok-x.ensures.1))

@@ -1,7 +1,8 @@
 use Rattle.std.proofs.Common.{◌+◌, ◌<◌, ◌^◌, sym, subst, ◌∙◌}
 use Rattle.cmis_spec.specs.Well.{IsWellFormed}
 use Rattle.wr_types.specs.DeleteType.{cost_delete_type}
-use Rattle.wr_types.specs.Retyped.{FoldersStay, retyped}
+use Rattle.wr_types.specs.Retyped.{retyped}
+use Rattle.wr_types.proofs.Staying.{FoldersStay}
 use Rattle.wr_types.proofs.Removing.{fits, folders_stay, well_after}
 use Rattle.wr_types.proofs.delete_type.without.Goals as goal
 

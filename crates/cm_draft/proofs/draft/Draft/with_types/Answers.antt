@@ -7,7 +7,7 @@ use Rattle.cm_draft.proofs.Changed.{retyped_parts}
 use Rattle.cm_draft.proofs.draft.Draft.with_types.Goals as goal
 
 pub invariant_of-result : goal.invariant_of-result
-invariant_of-result c = retyped_parts c.parts.inside (record c.parts.inside { types = c.in_ok-types.types }) c.args.types c.in_ok-types.ensures.ok refl refl refl
+invariant_of-result c = retyped_parts c.parts.inside (record c.parts.inside { types = c.in_ok-types.types }) c.args.types c.in_ok-types.ensures.ok refl refl
     (subst (λ r. All (λ x. is_of_base c.args.types bases.Folder x.kind ≡ is_of_base r.types bases.Folder x.kind) r.objects) (sym (c.parts.view_is ∙ c.self.view_is)) c.requires.folders) c.parts.invariant
 
 pub returns : goal.returns

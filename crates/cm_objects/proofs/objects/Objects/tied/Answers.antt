@@ -4,7 +4,8 @@ use Rattle.cmis_spec.specs.Removal.{ends_of, is_id_of}
 use Rattle.cm_lists.specs.Keyed.{Rises}
 use Rattle.cm_index.specs.declared.index_key.IndexKey.TheVariants as keys
 use Rattle.cm_objects.specs.Indexed.{is_keyed}
-use Rattle.cm_objects.proofs.Indexing.{tied_members}
+use Rattle.cm_objects.proofs.Ends.{names_end}
+use Rattle.cm_objects.proofs.Indexing.{members_of}
 use Rattle.cm_objects.proofs.Rising.{rising_same, rises_by_cmp, rises_filter}
 use Rattle.cm_objects.proofs.objects.Objects.tied.Goals as goal
 
@@ -14,4 +15,4 @@ returns c =
     let ids = c.in_ok-ids.ids in
     rising_same ids (map (λ x. x.id) (filter (λ x. list_any (is_id_of n) (ends_of x)) c.args.self.now)) (rises_by_cmp ids c.in_ok-ids.ensures.rising)
     (rises_filter (λ x. list_any (is_id_of n) (ends_of x)) c.args.self.now (subst (Rises (λ x. x.id.0)) c.self.view_is c.len-rising.ensures.rising))
-    (λ m. c.in_ok-ids.ensures.has m ∙ c.self.invariant (keys.End n, m) ∙ ap (λ l. is_keyed l (keys.End n, m)) c.self.view_is ∙ tied_members n m c.args.self.now)
+    (λ m. c.in_ok-ids.ensures.has m ∙ c.self.invariant (keys.End n, m) ∙ ap (λ l. is_keyed l (keys.End n, m)) c.self.view_is ∙ members_of (keys.End n) (λ x. list_any (is_id_of n) (ends_of x)) m (names_end n) c.args.self.now)

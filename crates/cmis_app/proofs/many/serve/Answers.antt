@@ -1,0 +1,14 @@
+use Rattle.std.proofs.Common.{rules, ◌≡◌, sym, ap, subst, ℕ}
+use Rattle.cm_types.specs.BaseTypes.{base_types}
+use Rattle.cmis_spec.specs.Repository.{Repository, opening}
+use Rattle.cm_face.specs.Served.{repository}
+use Rattle.desk_serve.specs.Sessions.{Closed}
+use Rattle.cmis_app.proofs.many.serve.Goals as goal
+
+pub returns-in-Ok-clause-served : goal.returns-in-Ok-clause-served
+returns-in-Ok-clause-served g c = record {
+  root = c.moment_of_word-root.result;
+  begins = search rules;
+  closed = subst (λ (o : Repository). Closed (record { kind = repository; source = g.H.Link.Source.told; sink = g.H.Link.Sink.told; users = c.args.asked.users; links = g.H.Host.left c.args.host.now }) o c.in-Ok.closing.last c.in-Ok.closing.ended)
+      c.in_ok-opening.ensures c.in-Ok.ensures.closed;
+}

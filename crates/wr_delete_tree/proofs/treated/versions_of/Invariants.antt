@@ -1,5 +1,0 @@
-use Rattle.std.proofs.Common.{◌≡◌, map, take}
-use Rattle.wr_delete_tree.proofs.treated.versions_of.Given as goal
-
-abbrev pub invariant-loop-version : goal.invariant-loop-version
-invariant-loop-version l = l.all ≡ map (λ v. v.object) (take l.version-index l.versions)
