@@ -1,4 +1,3 @@
 pub mod Children
 pub mod Includes
-pub mod Lists
 pub mod Objects

@@ -5,5 +5,4 @@ ghost use Rattle.std.specs.Prelude.{◌≡◌};
 
 pub mod children;
 pub mod includes;
-pub mod lists;
 pub mod objects;

@@ -1,4 +1,3 @@
 pub mod Alike
 mod Applied
-pub mod Listed
-pub mod Related
+mod Listed

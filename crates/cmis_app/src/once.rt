@@ -6,7 +6,6 @@ ghost use Rattle.cmis_spec.specs.Well.{HasGroups};
 ghost use Rattle.desk_model.specs.Clocks.{moment_of};
 ghost use Rattle.cmis_words.specs.Programs.{words_of};
 ghost use Rattle.cmis_words.specs.Bounds.{IsMoment};
-ghost use Rattle.cmis_app.specs.Once.{RunsOnce};
 ghost use Rattle.cmis_app.specs.Runs.{status_of, OnlyWhereFailed, always, Refused, Unbegun, Served, Piped, Ran};
 
 use crate::lent::Lent;
@@ -15,9 +14,7 @@ use cm_base::user::{Groups, Users};
 use cm_face::face::Face;
 use cm_opening::open::open;
 use cm_state::state::State;
-use cmis_load::load;
 use cmis_words::laws::words_are_bounded;
-use cmis_words::load::read_load;
 use cmis_words::words::{Pipe, Words, WordsStop, read_words};
 use desk_model::moment_of_word;
 use http_reply::send;
@@ -194,9 +191,8 @@ fn run_link<L: Link, C: Clock>(alloc: Global, words: &[String], link: &mut L, cl
 
 /// Runs the program with these words, and answers its status.
 ///
-/// 0: the session ended well, or the load's line was written. 2: the words are not valid. 3, 4: the input, the output failed.
-/// 7: memory was wanted. 8: the bytes of a request have a fault.
-#[tactic(auto, using(crate::proofs::Failed::load_failed))]
+/// 0: the session ended well. 2: the words are not valid. 3, 4: the input, the output failed. 7: memory was wanted.
+/// 8: the bytes of a request have a fault.
 pub fn run_once<I: Source, O: Sink, C: Clock>(
     alloc: Global,
     words: &[String],
@@ -204,16 +200,11 @@ pub fn run_once<I: Source, O: Sink, C: Clock>(
     output: &mut O,
     clock: &mut C,
 ) -> u8
-    ensures ran { RunsOnce (map string_bytes words.now) (C.words clock.old)
+    ensures ran { Ran (words_of (map string_bytes words.now)) (C.words clock.old)
         (I.told input.old) (O.told output.old) (I.told input.new) (O.told output.new) result }
     ensures failed { OnlyWhereFailed (I.told input.old) (O.told output.old)
         (I.told input.new) (O.told output.new) result }
 {
-    match read_load(words) {
-        Some(n) => load(alloc, n, output),
-        None => {
-            let mut link = Lent { input, output };
-            run_link(alloc, words, &mut link, clock)
-        }
-    }
+    let mut link = Lent { input, output };
+    run_link(alloc, words, &mut link, clock)
 }

@@ -3,4 +3,3 @@ pub mod GroupLists
 pub mod Options
 pub mod Programs
 pub mod Serving
-pub mod Loading

@@ -5,7 +5,6 @@ ghost use Rattle.std.specs.Prelude.{◌≡◌};
 
 pub mod groups;
 pub mod laws;
-pub mod load;
 mod options;
 pub mod serve;
 pub mod words;

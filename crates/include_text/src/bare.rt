@@ -1,11 +1,10 @@
 //! Whether nothing is asked for beside the properties. Nothing here takes memory.
 ghost use Rattle.std.specs.Prelude.{◌≡◌};
-ghost use Rattle.include_text.specs.Texts.{are_bare_children, is_bare, is_bare_object, is_this, no_order, no_relationships, no_renditions};
+ghost use Rattle.include_text.specs.Texts.{are_bare_children, is_bare, is_bare_object, is_this, no_relationships, no_renditions};
 
 use include_parts::readings::{
     IncludeRelationships, Includes, ReturnVersion, ShowChildren, ShowObject,
 };
-use order_parts::readings::SortSpecification;
 use rendition_parts::filter::RenditionFilter;
 
 fn no_relationships(asked: IncludeRelationships) -> bool
@@ -57,19 +56,9 @@ pub(crate) fn is_bare_object(q: &ShowObject) -> bool
     is_this(q.version) && is_bare(&q.includes)
 }
 
-// Whether no order is asked for.
-fn no_order(order: &[SortSpecification]) -> bool
-    ensures { result ≡ no_order order.now }
-{
-    match order {
-        [] => true,
-        [_, ..] => false,
-    }
-}
-
-/// Whether children are shown with their properties alone, without their names, and in the order of their numbers.
+/// Whether children are shown with their properties alone, and without their names.
 pub(crate) fn are_bare_children(q: &ShowChildren) -> bool
     ensures { result ≡ are_bare_children q.now }
 {
-    no_order(q.order.as_slice()) && !q.segments && is_bare(&q.includes)
+    !q.segments && is_bare(&q.includes)
 }

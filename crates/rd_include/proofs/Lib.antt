@@ -1,3 +1,4 @@
+mod Listed
 mod Majors
-pub mod Pages
+mod Pages
 mod Versions

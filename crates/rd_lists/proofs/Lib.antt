@@ -1,4 +1,4 @@
 pub mod Among
 mod Filing
 pub mod Rising
-pub mod Seen
+mod Seen

@@ -1,2 +1,1 @@
 pub mod ReadChildren
-pub mod ReadObject

@@ -1,6 +1,8 @@
-//! Pages of lists; and the answers about objects and children that are shown with their properties alone, as definitions.
+//! Readings along the folder tree.
 #![tactic(auto)]
 
 ghost use Rattle.std.specs.Prelude.{◌≡◌};
 
+pub mod children;
+pub mod law;
 pub mod page;

@@ -1,5 +1,4 @@
 mod Above
 mod Alike
-mod Beside
 mod Found
 mod Pages

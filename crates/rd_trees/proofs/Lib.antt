@@ -1,4 +1,5 @@
 mod Copies
+mod Pages
 mod Placing
 mod Trees
 mod Walks

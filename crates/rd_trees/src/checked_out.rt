@@ -3,27 +3,29 @@ ghost use Rattle.std.specs.Prelude.{◌≡◌, ◌++◌, ◌&&◌, IfOk, OnOk, S
 ghost use Rattle.std.specs.Option.{option_copied};
 ghost use Rattle.map_keys.specs.Parts.{pointee};
 ghost use Rattle.cm_base.specs.Judged.{Meets};
+ghost use Rattle.cm_show.specs.Shown.{shown_object};
 ghost use Rattle.cmis_spec.specs.Access.{reads};
-ghost use Rattle.rd_trees.specs.ReadCheckedOut.{answer_checked_out, answer_checked_out_at, answer_checked_out_in, answer_ordered_copies, copies, is_copy, is_filed_at, page_reply};
+ghost use Rattle.rd_trees.specs.ReadCheckedOut.{answer_checked_out, answer_checked_out_at, answer_checked_out_in, copies, is_copy, is_filed_at, page_reply};
 ghost use Rattle.rd_trees.specs.Walks.{object_if};
 
 use call_parts::place::Place;
+use call_parts::replies::ShownObjects;
 use cm_base::cause::Cause;
 use cm_base::fail::Fail;
+use cm_base::items::Items;
 use cm_base::number::Oid;
 use cm_base::object::Object;
 use cm_base::text::Text;
-use cm_include::included::View;
 use cm_see::read::reads;
 use cm_show::address::addressed;
+use cm_show::shown::shown_object;
 use cm_state::look::entry_of;
 use cm_state::state::State;
 use cm_types::definition::BaseType;
-use include_parts::readings::ShowCheckedOut;
-use include_parts::replies::IncludedPageReply;
-use rd_include::listed::included_page;
-use rd_order::ordered::ordered;
+use rd_nav::page::{has_more, page};
 use std::alloc::{AllocError, Global};
+use tree_parts::readings::ReadCheckedOut;
+use tree_parts::replies::PageReply;
 
 fn is_filed_at(state: &State, folder: Option<Oid>, x: &Object) -> bool
     ensures { result ≡ is_filed_at state.now folder x.now }
@@ -80,41 +82,53 @@ fn copies<'a>(
     Ok(all)
 }
 
+fn shown_copies(
+    alloc: Global,
+    state: &State,
+    user: &Text,
+    q: &ReadCheckedOut,
+    copies: &[&Object],
+) -> Result<ShownObjects, AllocError>
+    ensures { IfOk result (λ all. all
+        ≡ map (shown_object state.now user.now q.now.filter q.now.succinct) (map pointee copies.now)) }
+{
+    let mut all = Items::new(alloc);
+    for x in copies {
+        all.push(shown_object(alloc, state, user, &q.filter, q.succinct, x)?)?;
+    }
+    Ok(all)
+}
+
 // The objects of the page are shown, and all are counted.
 fn page_reply(
     alloc: Global,
     state: &State,
     user: &Text,
-    q: &ShowCheckedOut,
+    q: &ReadCheckedOut,
     copies: &[&Object],
-) -> Result<IncludedPageReply, AllocError>
+) -> Result<PageReply, AllocError>
     ensures { IfOk result (λ reply. reply ≡ page_reply state.now user.now q.now (map pointee copies.now)) }
 {
-    let asked = &q.checked_out;
-    let view = View {
-        state,
-        user,
-        filter: &asked.filter,
-        succinct: asked.succinct,
-        includes: &q.includes,
-    };
-    let reply = included_page(alloc, view, asked.skip_count, asked.max_items, copies)?;
-    Ok(reply)
+    let shown = page(q.skip_count, q.max_items, copies);
+    let objects = shown_copies(alloc, state, user, q, shown)?;
+    Ok(PageReply {
+        objects,
+        has_more_items: has_more(q.skip_count, q.max_items, copies),
+        num_items: copies.len() as u64,
+    })
 }
 
-// The working copies are put in order before the page is cut.
-#[tactic(auto, using(cm_types::proofs::Exits::fails_bind))]
-fn ordered_copies(
+fn copies_reply(
     alloc: Global,
     state: &State,
     user: &Text,
-    q: &ShowCheckedOut,
+    q: &ReadCheckedOut,
     folder: Option<Oid>,
-) -> Result<IncludedPageReply, Fail>
-    ensures { Meets (λ y. y) result (answer_ordered_copies state.now user.now q.now folder) }
+) -> Result<PageReply, AllocError>
+    ensures { IfOk result (λ reply. reply
+        ≡ page_reply state.now user.now q.now (copies state.now user.now folder)) }
 {
-    let read = copies(alloc, state, user, folder)?;
-    let copies = ordered(alloc, state, user, read, &q.order)?;
+    let copies = copies(alloc, state, user, folder)?;
     let reply = page_reply(alloc, state, user, q, &copies)?;
     Ok(reply)
 }
@@ -123,24 +137,25 @@ fn checked_out_in(
     alloc: Global,
     state: &State,
     user: &Text,
-    q: &ShowCheckedOut,
+    q: &ReadCheckedOut,
     x: &Object,
-) -> Result<IncludedPageReply, Fail>
+) -> Result<PageReply, Fail>
     ensures { Meets (λ y. y) result (answer_checked_out_in state.now user.now q.now x.now) }
 {
     if !state.is_a(BaseType::Folder, x) {
         return Err(Fail::Refused(Cause::WrongKind));
     }
-    ordered_copies(alloc, state, user, q, Some(x.id))
+    let reply = copies_reply(alloc, state, user, q, Some(x.id))?;
+    Ok(reply)
 }
 
 fn checked_out_at(
     alloc: Global,
     state: &State,
     user: &Text,
-    q: &ShowCheckedOut,
+    q: &ReadCheckedOut,
     place: &Place,
-) -> Result<IncludedPageReply, Fail>
+) -> Result<PageReply, Fail>
     ensures { Meets (λ y. y) result (answer_checked_out_at state.now user.now q.now (Some place.now)) }
 {
     match addressed(state, user, place) {
@@ -149,20 +164,22 @@ fn checked_out_at(
     }
 }
 
-/// A page of the working copies that the caller reads, in the order that is asked for or else in that of their numbers, with what is
-/// asked for beside their properties, and how many he reads in all: those whose series is filed in the folder that is addressed, or
-/// those of the whole repository. A folder that he doesn't read is not found; what is no folder is of the wrong kind; an order by what
-/// no property is, or by one that is not orderable, is refused last. It goes through the objects of the repository once.
+/// A page of the working copies that the caller reads, in the order of their numbers, and how many he reads in all: those whose series
+/// is filed in the folder that is addressed, or those of the whole repository. A folder that he doesn't read is not found; what is no
+/// folder is of the wrong kind. It goes through the objects of the repository once.
 pub fn checked_out(
     alloc: Global,
     state: &State,
     user: &Text,
-    q: &ShowCheckedOut,
-) -> Result<IncludedPageReply, Fail>
+    q: &ReadCheckedOut,
+) -> Result<PageReply, Fail>
     ensures { Meets (λ y. y) result (answer_checked_out state.now user.now q.now) }
 {
-    match &q.checked_out.place {
+    match &q.place {
         Some(place) => checked_out_at(alloc, state, user, q, place),
-        None => ordered_copies(alloc, state, user, q, None),
+        None => {
+            let reply = copies_reply(alloc, state, user, q, None)?;
+            Ok(reply)
+        }
     }
 }

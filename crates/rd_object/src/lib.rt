@@ -1,0 +1,7 @@
+//! Readings of objects.
+#![tactic(auto)]
+
+ghost use Rattle.std.specs.Prelude.{◌≡◌};
+
+pub mod law;
+pub mod object;

@@ -1,3 +1,0 @@
-pub mod Alike
-mod Listed
-mod Sorting
