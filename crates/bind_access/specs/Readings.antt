@@ -1,36 +1,19 @@
--- The arguments of parent, parents, policies and acl, judged in their order (CMIS 1.1, section 5.4.2).
-use Rattle.std.specs.Prelude.{List, [], ◌∷◌, false, Ok}
-use Rattle.cm_base.specs.declared.argument.Argument.{Argument}
+-- The arguments of parent, policies and acl, judged in their order (CMIS 1.1, section 5.4.2).
+use Rattle.std.specs.Prelude.{false, Ok}
 use Rattle.cm_base.specs.declared.argument.Argument.TheVariants as args
-use Rattle.cm_base.specs.Judged.{Judged, ◌>>=◌, ◌>>◌}
+use Rattle.cm_base.specs.Judged.{Judged, ◌>>=◌}
 use Rattle.call_parts.specs.declared.readings.ReadAcl.{ReadAcl}
 use Rattle.call_parts.specs.declared.readings.ReadParent.{ReadParent}
-use Rattle.call_parts.specs.declared.readings.ReadParents.{ReadParents}
 use Rattle.call_parts.specs.declared.readings.ReadPolicies.{ReadPolicies}
 use Rattle.form_args.specs.Single.{flag_of}
-use Rattle.form_args.specs.Filter.{filter_of}
 use Rattle.bind_parts.specs.declared.asking.Asking.{Asking}
-use Rattle.bind_parts.specs.Parts.{place_of, unserved}
+use Rattle.bind_parts.specs.Parts.{place_of}
 
 -- a folder is shown with all its properties and nothing else
 abbrev pub parent_of : Asking → Judged ReadParent
 parent_of asking = do
   succinct ← flag_of asking.form.pairs args.Succinct false
   Ok (record { place = place_of asking; succinct = succinct })
-
--- the arguments that are not served yet: the list goes when they are
-abbrev pub unserved_of_parents : List Argument
-unserved_of_parents = args.IncludeAllowableActions ∷ args.IncludeRelationships ∷ args.RenditionFilter ∷ args.IncludePolicyIds ∷ args.IncludeAcl ∷ []
-
--- includePathSegment, which means something in other readings of lists, is judged alone
-abbrev pub parents_of : Asking → Judged ReadParents
-parents_of asking = do
-  unserved unserved_of_parents asking.form.pairs
-  succinct ← flag_of asking.form.pairs args.Succinct false
-  filter ← filter_of asking.form.pairs
-  path_segments ← flag_of asking.form.pairs args.IncludePathSegment false
-  segments ← flag_of asking.form.pairs args.IncludeRelativePathSegment false
-  Ok (record { place = place_of asking; filter = filter; segments = segments; succinct = succinct })
 
 -- policies are shown with all their properties and nothing else
 abbrev pub policies_of : Asking → Judged ReadPolicies

@@ -1,3 +1,4 @@
 pub mod Children
 pub mod Includes
+pub mod Lists
 pub mod Objects

@@ -1,42 +1,34 @@
 //! The arguments of children, and of an object without a selector.
 ghost use Rattle.std.specs.Prelude.{◌≡◌};
 ghost use Rattle.cm_base.specs.Judged.{Meets};
-ghost use Rattle.bind_parts.specs.Parts.{unserved};
-ghost use Rattle.bind_include.specs.Children.{show_children_of, show_default_of, unserved_of_order};
+ghost use Rattle.bind_include.specs.Children.{show_children_of, show_default_of};
 
 use crate::includes::{includes_of, version_of};
+use bind_order::order::order_of;
 use bind_parts::asking::Asking;
-use bind_parts::parts::{place_of, text_of, unserved};
+use bind_parts::parts::{place_of, text_of};
 use call_parts::readings::ReadChildren;
 use cm_base::argument::Argument;
 use cm_base::fail::Fail;
 use form_args::choice::flag;
 use form_args::filter::property_filter;
 use form_args::number::number;
-use form_args::pairs::Pairs;
 use include_parts::readings::{ShowChildren, ShowDefault};
 use std::alloc::Global;
 
-// NotServed where an order is given, which is not served yet.
-fn unserved_of_order(alloc: Global, pairs: &Pairs) -> Result<(), Fail>
-    ensures { Meets (λ u. u) result (unserved unserved_of_order pairs.now) }
-{
-    unserved(alloc, &[Argument::OrderBy], pairs)
-}
-
 /// The question of the selector children, or the first cause of its arguments. includeRelativePathSegment is judged, since it is an
 /// argument of other lists too, and means nothing here.
-#[tactic(auto, using(cm_types::proofs::Exits::fails_bind, cm_types::proofs::Exits::fails_then))]
+#[tactic(auto, using(cm_types::proofs::Exits::fails_bind))]
 pub fn show_children_of(alloc: Global, asking: &Asking) -> Result<ShowChildren, Fail>
     ensures { Meets (λ c. c) result (show_children_of asking.now) }
 {
     let pairs = &asking.form.pairs;
-    unserved_of_order(alloc, pairs)?;
     let succinct = flag(pairs, Argument::Succinct, false)?;
     let includes = includes_of(alloc, pairs)?;
     let filter = property_filter(alloc, pairs)?;
     let max_items = number(pairs, Argument::MaxItems, 100)?;
     let skip_count = number(pairs, Argument::SkipCount, 0)?;
+    let order = order_of(alloc, pairs)?;
     let segments = flag(pairs, Argument::IncludePathSegment, false)?;
     let _judged = flag(pairs, Argument::IncludeRelativePathSegment, false)?;
     let place = place_of(alloc, asking)?;
@@ -48,6 +40,7 @@ pub fn show_children_of(alloc: Global, asking: &Asking) -> Result<ShowChildren, 
             skip_count,
             succinct,
         },
+        order,
         segments,
         includes,
     })

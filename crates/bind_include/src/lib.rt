@@ -5,4 +5,5 @@ ghost use Rattle.std.specs.Prelude.{◌≡◌};
 
 pub mod children;
 pub mod includes;
+pub mod lists;
 pub mod objects;

@@ -6,13 +6,13 @@ use Rattle.delete_tree_parts.specs.declared.replies.DeleteTreeReply.{DeleteTreeR
 use Rattle.cm_call.specs.declared.reply.Reply.{Reply}
 use Rattle.cm_call.specs.declared.reply.Reply.TheVariants as replies
 use Rattle.object_json.specs.Objects.{shown_data}
-use Rattle.include_json.specs.Pages.{reply_data as included_data, children_data}
+use Rattle.include_json.specs.Pages.{reply_data as included_data, children_data, objects_data as included_objects_data, page_data, parents_data}
 use Rattle.type_replies.specs.Infos.{infos_data}
 use Rattle.type_replies.specs.Types.{definition_data, types_data, type_tree_data}
-use Rattle.object_json.specs.Lists.{objects_data, parents_data}
+use Rattle.object_json.specs.Lists.{objects_data}
 use Rattle.object_json.specs.Access.{acl_data}
 use Rattle.query_replies.specs.Rows.{query_data}
-use Rattle.tree_replies.specs.Trees.{tree_data, page_data}
+use Rattle.tree_replies.specs.Trees.{tree_data}
 use Rattle.log_replies.specs.Changes.{changes_data}
 use Rattle.delete_tree_replies.specs.Left.{left_data}
 use Rattle.bulk_replies.specs.Updated.{updated_objects_data}
@@ -45,6 +45,7 @@ shown_reply (replies.TypeTree reply) step = shown_json 200 (compact_text (type_t
 shown_reply (replies.Info reply) step = shown_json 200 (compact_text (infos_data reply)) step
 shown_reply (replies.Children reply) step = shown_json 200 (compact_text (children_data reply)) step
 shown_reply (replies.Objects reply) step = shown_json 200 (compact_text (objects_data reply)) step
+shown_reply (replies.IncludedObjects reply) step = shown_json 200 (compact_text (included_objects_data reply)) step
 shown_reply (replies.Parents reply) step = shown_json 200 (compact_text (parents_data reply)) step
 shown_reply (replies.Acl reply) step = shown_json 200 (compact_text (acl_data reply)) step
 shown_reply (replies.Query reply) step = shown_json 200 (compact_text (query_data reply)) step

@@ -3,14 +3,14 @@ ghost use Rattle.std.specs.Prelude.{◌≡◌, [], codes, Some, IfOk};
 ghost use Rattle.json_text.specs.Shown.{data_of};
 ghost use Rattle.serde_json.specs.Written.{compact_text};
 ghost use Rattle.object_json.specs.Objects.{shown_data};
-ghost use Rattle.include_json.specs.Pages.{reply_data as included_data, children_data};
+ghost use Rattle.include_json.specs.Pages.{reply_data as included_data, children_data, objects_data as included_objects_data, page_data, parents_data};
 ghost use Rattle.type_replies.specs.Infos.{infos_data};
 ghost use Rattle.type_replies.specs.Types.{definition_data, types_data, type_tree_data};
 ghost use Rattle.bind_json.specs.Replies.{status_of, shown_json, shown_left, shown_nothing, shown_reply};
-ghost use Rattle.object_json.specs.Lists.{objects_data, parents_data};
+ghost use Rattle.object_json.specs.Lists.{objects_data};
 ghost use Rattle.object_json.specs.Access.{acl_data};
 ghost use Rattle.query_replies.specs.Rows.{query_data};
-ghost use Rattle.tree_replies.specs.Trees.{tree_data, page_data};
+ghost use Rattle.tree_replies.specs.Trees.{tree_data};
 ghost use Rattle.log_replies.specs.Changes.{changes_data};
 ghost use Rattle.delete_tree_replies.specs.Left.{left_data};
 ghost use Rattle.bulk_replies.specs.Updated.{updated_objects_data};
@@ -22,28 +22,32 @@ use action_replies::actions::actions_json;
 use bulk_parts::replies::UpdatedObjects;
 use bulk_replies::updated::updated_objects_json;
 use bytes::Bytes;
-use call_parts::replies::{AclReply, ContentReply, ObjectsReply, ParentsReply, ShownObject};
+use call_parts::replies::{AclReply, ContentReply, ObjectsReply, ShownObject};
 use cm_base::media::MediaType;
 use cm_base::shown::Shown;
 use cm_base::text::Text;
 use cm_call::reply::Reply;
 use delete_tree_parts::replies::DeleteTreeReply;
 use delete_tree_replies::left::left_json;
-use include_json::pages::{children_json, reply_json as included_json};
-use include_parts::replies::{IncludedChildrenReply, IncludedReply};
+use include_json::pages::{
+    children_json, objects_json as included_objects_json, page_json, parents_json,
+    reply_json as included_json,
+};
+use include_parts::replies::{
+    IncludedChildrenReply, IncludedObjectsReply, IncludedPageReply, IncludedParentsReply,
+    IncludedReply, IncludedTreeReply,
+};
 use json_text::tree::Json;
 use log_parts::replies::ChangesReply;
 use log_replies::changes::changes_json;
 use object_json::access::acl_json;
-use object_json::lists::{objects_json, parents_json};
+use object_json::lists::objects_json;
 use object_json::objects::object_json;
 use query_parts::replies::QueryReply;
 use query_replies::rows::query_json;
 use rendition_parts::replies::RenditionsReply;
 use rendition_replies::renditions::reply_json;
 use std::alloc::{AllocError, Global};
-use tree_parts::replies::{PageReply, TreeReply};
-use tree_replies::page::page_json;
 use tree_replies::tree::tree_json;
 use type_parts::replies::{InfoReply, TypeReply, TypeTreeReply, TypesReply};
 use type_replies::info::info_reply_json;
@@ -121,7 +125,14 @@ fn objects_text(alloc: Global, reply: &ObjectsReply) -> Result<Bytes, AllocError
     text_of_json(alloc, &json)
 }
 
-fn parents_text(alloc: Global, reply: &ParentsReply) -> Result<Bytes, AllocError>
+fn included_objects_text(alloc: Global, reply: &IncludedObjectsReply) -> Result<Bytes, AllocError>
+    ensures { IfOk result (λ b. b ≡ compact_text (included_objects_data reply.now)) }
+{
+    let json = included_objects_json(alloc, reply)?;
+    text_of_json(alloc, &json)
+}
+
+fn parents_text(alloc: Global, reply: &IncludedParentsReply) -> Result<Bytes, AllocError>
     ensures { IfOk result (λ b. b ≡ compact_text (parents_data reply.now)) }
 {
     let json = parents_json(alloc, reply)?;
@@ -142,14 +153,14 @@ fn query_text(alloc: Global, reply: &QueryReply) -> Result<Bytes, AllocError>
     text_of_json(alloc, &json)
 }
 
-fn tree_text(alloc: Global, reply: &TreeReply) -> Result<Bytes, AllocError>
+fn tree_text(alloc: Global, reply: &IncludedTreeReply) -> Result<Bytes, AllocError>
     ensures { IfOk result (λ b. b ≡ compact_text (tree_data reply.now)) }
 {
     let json = tree_json(alloc, reply)?;
     text_of_json(alloc, &json)
 }
 
-fn page_text(alloc: Global, reply: &PageReply) -> Result<Bytes, AllocError>
+fn page_text(alloc: Global, reply: &IncludedPageReply) -> Result<Bytes, AllocError>
     ensures { IfOk result (λ b. b ≡ compact_text (page_data reply.now)) }
 {
     let json = page_json(alloc, reply)?;
@@ -283,6 +294,10 @@ pub fn text_of(alloc: Global, reply: Reply, number: u64) -> Result<Shown, AllocE
         }
         Reply::Objects(reply) => {
             let text = objects_text(alloc, &reply)?;
+            shown_json(alloc, 200, text, number)
+        }
+        Reply::IncludedObjects(reply) => {
+            let text = included_objects_text(alloc, &reply)?;
             shown_json(alloc, 200, text, number)
         }
         Reply::Parents(reply) => {

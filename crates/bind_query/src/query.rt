@@ -1,11 +1,10 @@
 //! The arguments of a query, by the selector of a GET and by the action of a POST.
 ghost use Rattle.std.specs.Prelude.{◌≡◌, option_copied, IfOk};
 ghost use Rattle.cm_base.specs.Judged.{Meets};
-ghost use Rattle.bind_parts.specs.Parts.{unserved};
-ghost use Rattle.bind_query.specs.Query.{query_of, statement_given, statement_of, unserved_of_query};
+ghost use Rattle.bind_query.specs.Query.{query_of, statement_given, statement_of};
 
+use bind_include::includes::includes_of;
 use bind_parts::asking::Asking;
-use bind_parts::parts::unserved;
 use cm_base::argument::Argument;
 use cm_base::cause::Cause;
 use cm_base::copies::Copies;
@@ -16,25 +15,6 @@ use form_args::number::number;
 use form_args::pairs::Pairs;
 use query_parts::readings::ReadQuery;
 use std::alloc::Global;
-
-// NotServed where an argument of a query is given that is not served yet.
-fn unserved_of_query(alloc: Global, pairs: &Pairs) -> Result<(), Fail>
-    ensures { Meets (λ u. u) result (unserved unserved_of_query pairs.now) }
-{
-    unserved(
-        alloc,
-        &[
-            Argument::IncludeAllowableActions,
-            Argument::IncludeRelationships,
-            Argument::RenditionFilter,
-            Argument::IncludePolicyIds,
-            Argument::IncludeAcl,
-            Argument::IncludePathSegment,
-            Argument::IncludeRelativePathSegment,
-        ],
-        pairs,
-    )
-}
 
 fn statement_given(pairs: &Pairs) -> Option<&Text>
     ensures { option_copied result ≡ statement_given pairs.now }
@@ -57,16 +37,19 @@ fn statement_of(alloc: Global, pairs: &Pairs) -> Result<Text, Fail>
     }
 }
 
-/// The question of the selector or action query, or the first cause of its arguments (CMIS 1.1, sections 5.4.2.12 and 5.4.3.1).
-#[tactic(auto, using(cm_types::proofs::Exits::fails_bind, cm_types::proofs::Exits::fails_then))]
+/// The question of the selector or action query, or the first cause of its arguments (CMIS 1.1, sections 5.4.2.12 and 5.4.3.1). Path
+/// segments are judged, since they are arguments of lists too, and mean nothing here.
+#[tactic(auto, using(cm_types::proofs::Exits::fails_bind))]
 pub fn query_of(alloc: Global, asking: &Asking) -> Result<ReadQuery, Fail>
     ensures { Meets (λ c. c) result (query_of asking.now) }
 {
     let pairs = &asking.form.pairs;
-    unserved_of_query(alloc, pairs)?;
     let succinct = flag(pairs, Argument::Succinct, false)?;
+    let includes = includes_of(alloc, pairs)?;
     let max_items = number(pairs, Argument::MaxItems, 100)?;
     let skip_count = number(pairs, Argument::SkipCount, 0)?;
+    let _judged = flag(pairs, Argument::IncludePathSegment, false)?;
+    let _relative = flag(pairs, Argument::IncludeRelativePathSegment, false)?;
     let statement = statement_of(alloc, pairs)?;
     let all_versions = flag(pairs, Argument::SearchAllVersions, false)?;
     Ok(ReadQuery {
@@ -75,5 +58,6 @@ pub fn query_of(alloc: Global, asking: &Asking) -> Result<ReadQuery, Fail>
         max_items,
         skip_count,
         succinct,
+        includes,
     })
 }

@@ -21,6 +21,7 @@ use Rattle.include_parts.specs.declared.readings.ReturnVersion.TheVariants as ve
 use Rattle.http_grammar.specs.Request.{Request, FieldParts}
 use Rattle.http_grammar.specs.Fields.{values_named}
 use Rattle.form_args.specs.Properties.{most_properties, most_values}
+use Rattle.ql_lex.specs.Words.{keyword_of}
 use Rattle.bind_read.specs.declared.asked.Asked.TheVariants as asks
 use Rattle.http_header.specs.Token.{is_token_byte}
 use Rattle.form_parts.specs.Reading.{lines_of, inside, outside}
@@ -87,6 +88,7 @@ row_check_in = refl
 row_children : call_of_request (got (codes "HTTP://host/%63mis//main/root/a%20b/?cmisselector=children&succinct=true&maxItems=2") ((codes "cmis-step", codes "7") ∷ []))
     ≡ Ok (asks.Question (questions.Children (record {
       children = record { place = places.Path (codes "a b" ∷ []); filter = filters.All; max_items = 2; skip_count = 0; succinct = true };
+      order = [];
       segments = false;
       includes = nothing_more;
     })))
@@ -152,6 +154,7 @@ row_no_selector : call_of_request (got (codes "/cmis/main/root/a?streamId=3&maxI
     ≡ Ok (asks.Question (questions.Default (record {
       children = record {
         children = record { place = places.Path (codes "a" ∷ []); filter = filters.All; max_items = 2; skip_count = 0; succinct = false };
+        order = [];
         segments = false;
         includes = nothing_more;
       };
@@ -192,9 +195,20 @@ row_principal : call_of_request (posted (codes "/cmis/main/root") (codes "cmisac
 unfolding split is_utf8 chars percent_decode encode raw_pairs utf8_lossy utf8_valid_len values_named most_properties most_values digits
 row_principal = refl
 
-row_unserved : call_of_request (got (codes "/cmis/main/root?cmisselector=children&orderBy=cmis:name") []) ≡ Err (causes.NotServed (codes "form"))
-unfolding split is_utf8 chars percent_decode encode raw_pairs utf8_lossy utf8_valid_len values_named
-row_unserved = refl
+-- blanks stand between a name and its direction alone
+row_order : call_of_request (got (codes "/cmis/main/root?cmisselector=children&includePathSegment=x&orderBy=cmis:name,%20a") []) ≡ Err (causes.BadArgument args.OrderBy)
+unfolding split is_utf8 chars percent_decode encode raw_pairs utf8_lossy utf8_valid_len values_named keyword_of
+row_order = refl
+
+row_ordered : call_of_request (got (codes "/cmis/main/root?cmisselector=children&orderBy=cmis:creationDate%20%20Desc,cmis:name") [])
+    ≡ Ok (asks.Question (questions.Children (record {
+      children = record { place = places.Path []; filter = filters.All; max_items = 100; skip_count = 0; succinct = false };
+      order = record { query_name = codes "cmis:creationDate"; descending = true } ∷ record { query_name = codes "cmis:name"; descending = false } ∷ [];
+      segments = false;
+      includes = nothing_more;
+    })))
+unfolding split is_utf8 chars percent_decode encode raw_pairs utf8_lossy utf8_valid_len values_named keyword_of
+row_ordered = refl
 
 -- properties has no such argument, and what a call does not know is ignored
 row_unknown : call_of_request (got (codes "/cmis/main/root?cmisselector=properties&includeACL=false&depth=x") [])

@@ -18,11 +18,12 @@ use Rattle.bind_read.specs.Words.{service_of}
 use Rattle.bind_tree.specs.CreateFolder.{create_folder_of}
 use Rattle.bind_include.specs.Objects.{show_object_of, show_properties_of}
 use Rattle.bind_include.specs.Children.{show_children_of, show_default_of}
+use Rattle.bind_include.specs.Lists.{show_parents_of, show_versions_of}
 use Rattle.bind_document.specs.Writes.{create_document_of, check_out_of, check_in_of, delete_of, cancel_check_out_of}
-use Rattle.bind_document.specs.Readings.{content_of, versions_of}
+use Rattle.bind_document.specs.Readings.{content_of}
 use Rattle.bind_types.specs.Types.{type_definition_of, type_children_of, type_descendants_of, info_of}
 use Rattle.bind_content.specs.Writes.{set_content_of, append_content_of, delete_content_of}
-use Rattle.bind_access.specs.Readings.{parent_of, parents_of, policies_of, acl_of}
+use Rattle.bind_access.specs.Readings.{parent_of, policies_of, acl_of}
 use Rattle.bind_change.specs.Filing.{move_of, add_to_folder_of, remove_from_folder_of}
 use Rattle.bind_query.specs.Query.{query_of as query_asked}
 use Rattle.bind_change.specs.Update.{update_of}
@@ -57,9 +58,9 @@ bound services.Info asking = info_of asking >>= λ question. Ok (asks.Question (
 bound services.SetContent asking = set_content_of asking >>= λ call. Ok (asks.Write (writes.SetContent call))
 bound services.AppendContent asking = append_content_of asking >>= λ call. Ok (asks.Write (writes.AppendContent call))
 bound services.DeleteContent asking = delete_content_of asking >>= λ call. Ok (asks.Write (writes.DeleteContent call))
-bound services.Versions asking = versions_of asking >>= λ question. Ok (asks.Question (questions.Versions question))
+bound services.Versions asking = show_versions_of asking >>= λ question. Ok (asks.Question (questions.Versions question))
 bound services.Parent asking = parent_of asking >>= λ question. Ok (asks.Question (questions.Parent question))
-bound services.Parents asking = parents_of asking >>= λ question. Ok (asks.Question (questions.Parents question))
+bound services.Parents asking = show_parents_of asking >>= λ question. Ok (asks.Question (questions.Parents question))
 bound services.Move asking = move_of asking >>= λ call. Ok (asks.Write (writes.Move call))
 bound services.AddToFolder asking = add_to_folder_of asking >>= λ call. Ok (asks.Write (writes.AddToFolder call))
 bound services.RemoveFromFolder asking = remove_from_folder_of asking >>= λ call. Ok (asks.Write (writes.RemoveFromFolder call))

@@ -6,7 +6,7 @@ ghost use Rattle.bind_read.specs.Calls.{bound, call_of_request};
 use crate::asked::Asked;
 use crate::form::{form_of, method_of};
 use crate::words::{Service, service_of};
-use bind_access::readings::{acl_of, parent_of, parents_of, policies_of};
+use bind_access::readings::{acl_of, parent_of, policies_of};
 use bind_acl::writes::apply_acl_of;
 use bind_actions::readings::actions_of;
 use bind_bulk::writes::bulk_update_of;
@@ -17,9 +17,10 @@ use bind_create::writes::{create_item_of, create_policy_of, create_relationship_
 use bind_delete_tree::writes::delete_tree_of;
 use bind_document::create_document::create_document_of;
 use bind_document::delete::delete_of;
-use bind_document::readings::{content_of, versions_of};
+use bind_document::readings::content_of;
 use bind_document::versioning::{cancel_check_out_of, check_in_of, check_out_of};
 use bind_include::children::{show_children_of, show_default_of};
+use bind_include::lists::{show_parents_of, show_versions_of};
 use bind_include::objects::{show_object_of, show_properties_of};
 use bind_log::readings::changes_of;
 use bind_parts::asking::{Asking, host_of, with_query};
@@ -107,7 +108,7 @@ fn bound(alloc: Global, service: Service, asking: &Asking) -> Result<Asked, Fail
             Ok(Asked::Write(Write::DeleteContent(call)))
         }
         Service::Versions => {
-            let question = versions_of(alloc, asking)?;
+            let question = show_versions_of(alloc, asking)?;
             Ok(Asked::Question(Question::Versions(question)))
         }
         Service::Parent => {
@@ -115,7 +116,7 @@ fn bound(alloc: Global, service: Service, asking: &Asking) -> Result<Asked, Fail
             Ok(Asked::Question(Question::Parent(question)))
         }
         Service::Parents => {
-            let question = parents_of(alloc, asking)?;
+            let question = show_parents_of(alloc, asking)?;
             Ok(Asked::Question(Question::Parents(question)))
         }
         Service::Move => {

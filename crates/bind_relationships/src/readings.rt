@@ -1,11 +1,11 @@
 //! The arguments of relationships.
 ghost use Rattle.std.specs.Prelude.{◌≡◌};
 ghost use Rattle.cm_base.specs.Judged.{Meets};
-ghost use Rattle.bind_parts.specs.Parts.{unserved};
-ghost use Rattle.bind_relationships.specs.Readings.{direction_named, direction_of, relationships_of, unserved_of_relationships};
+ghost use Rattle.bind_relationships.specs.Readings.{direction_named, direction_of, relationships_of};
 
+use bind_include::includes::includes_of;
 use bind_parts::asking::Asking;
-use bind_parts::parts::{place_of, text_of, unserved};
+use bind_parts::parts::{place_of, text_of};
 use cm_base::argument::Argument;
 use cm_base::cause::Cause;
 use cm_base::fail::Fail;
@@ -13,25 +13,9 @@ use form_args::choice::flag;
 use form_args::filter::property_filter;
 use form_args::number::number;
 use form_args::pairs::Pairs;
+use include_parts::readings::ShowRelationships;
 use relationship_parts::readings::{Direction, ReadRelationships};
 use std::alloc::Global;
-
-// NotServed where an argument of relationships is given that is not served yet.
-fn unserved_of_relationships(alloc: Global, pairs: &Pairs) -> Result<(), Fail>
-    ensures { Meets (λ u. u) result (unserved unserved_of_relationships pairs.now) }
-{
-    unserved(
-        alloc,
-        &[
-            Argument::IncludeAllowableActions,
-            Argument::IncludeRelationships,
-            Argument::RenditionFilter,
-            Argument::IncludePolicyIds,
-            Argument::IncludeAcl,
-        ],
-        pairs,
-    )
-}
 
 fn direction_named(word: &str) -> Option<Direction>
     ensures { result ≡ direction_named word.now }
@@ -61,13 +45,13 @@ fn direction_of(pairs: &Pairs) -> Result<Direction, Cause>
 
 /// The question of the selector relationships, or the first cause of its arguments. includePathSegment and includeRelativePathSegment
 /// are judged, since they are arguments of other lists too, and mean nothing here.
-#[tactic(auto, using(cm_types::proofs::Exits::fails_bind, cm_types::proofs::Exits::fails_then))]
-pub fn relationships_of(alloc: Global, asking: &Asking) -> Result<ReadRelationships, Fail>
+#[tactic(auto, using(cm_types::proofs::Exits::fails_bind))]
+pub fn relationships_of(alloc: Global, asking: &Asking) -> Result<ShowRelationships, Fail>
     ensures { Meets (λ c. c) result (relationships_of asking.now) }
 {
     let pairs = &asking.form.pairs;
-    unserved_of_relationships(alloc, pairs)?;
     let succinct = flag(pairs, Argument::Succinct, false)?;
+    let includes = includes_of(alloc, pairs)?;
     let filter = property_filter(alloc, pairs)?;
     let max_items = number(pairs, Argument::MaxItems, 100)?;
     let skip_count = number(pairs, Argument::SkipCount, 0)?;
@@ -77,14 +61,17 @@ pub fn relationships_of(alloc: Global, asking: &Asking) -> Result<ReadRelationsh
     let with_subtypes = flag(pairs, Argument::IncludeSubRelationshipTypes, false)?;
     let kind = text_of(alloc, pairs, Argument::TypeId)?;
     let place = place_of(alloc, asking)?;
-    Ok(ReadRelationships {
-        place,
-        direction,
-        kind,
-        with_subtypes,
-        filter,
-        max_items,
-        skip_count,
-        succinct,
+    Ok(ShowRelationships {
+        relationships: ReadRelationships {
+            place,
+            direction,
+            kind,
+            with_subtypes,
+            filter,
+            max_items,
+            skip_count,
+            succinct,
+        },
+        includes,
     })
 }

@@ -1,3 +1,1 @@
-pub mod Children
 pub mod CreateFolder
-pub mod Objects

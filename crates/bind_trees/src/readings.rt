@@ -1,11 +1,12 @@
 //! The arguments of descendants, folderTree and checkedout.
 ghost use Rattle.std.specs.Prelude.{◌≡◌, IfOk};
 ghost use Rattle.cm_base.specs.Judged.{Meets};
-ghost use Rattle.bind_parts.specs.Parts.{unserved};
-ghost use Rattle.bind_trees.specs.Readings.{checked_out_of, descendants_of, folder_of, folder_tree_of, tree_depth, tree_of, unserved_of_checked_out, unserved_of_trees};
+ghost use Rattle.bind_trees.specs.Readings.{checked_out_of, descendants_of, folder_of, folder_tree_of, tree_depth, tree_of};
 
+use bind_include::includes::includes_of;
+use bind_order::order::order_of;
 use bind_parts::asking::Asking;
-use bind_parts::parts::{place_of, unserved};
+use bind_parts::parts::place_of;
 use bind_types::options::depth_of_word;
 use call_parts::place::Place;
 use cm_base::argument::Argument;
@@ -15,45 +16,11 @@ use form_args::choice::flag;
 use form_args::filter::property_filter;
 use form_args::number::number;
 use form_args::pairs::Pairs;
+use include_parts::readings::{ShowCheckedOut, ShowTree};
 use request_target::target::Target;
 use std::alloc::{AllocError, Global};
 use tree_parts::readings::{ReadCheckedOut, ReadTree};
 use type_parts::readings::Depth;
-
-// NotServed where an argument of the trees is given that is not served yet.
-fn unserved_of_trees(alloc: Global, pairs: &Pairs) -> Result<(), Fail>
-    ensures { Meets (λ u. u) result (unserved unserved_of_trees pairs.now) }
-{
-    unserved(
-        alloc,
-        &[
-            Argument::IncludeAllowableActions,
-            Argument::IncludeRelationships,
-            Argument::RenditionFilter,
-            Argument::IncludePolicyIds,
-            Argument::IncludeAcl,
-        ],
-        pairs,
-    )
-}
-
-// NotServed where an argument of checkedout is given that is not served yet.
-fn unserved_of_checked_out(alloc: Global, pairs: &Pairs) -> Result<(), Fail>
-    ensures { Meets (λ u. u) result (unserved unserved_of_checked_out pairs.now) }
-{
-    unserved(
-        alloc,
-        &[
-            Argument::IncludeAllowableActions,
-            Argument::IncludeRelationships,
-            Argument::RenditionFilter,
-            Argument::IncludePolicyIds,
-            Argument::IncludeAcl,
-            Argument::OrderBy,
-        ],
-        pairs,
-    )
-}
 
 fn tree_depth(pairs: &Pairs) -> Result<Depth, Cause>
     ensures { result ≡ tree_depth pairs.now }
@@ -68,37 +35,40 @@ fn tree_depth(pairs: &Pairs) -> Result<Depth, Cause>
 }
 
 // includeRelativePathSegment is judged, since it is an argument of other lists too, and means nothing here.
-#[tactic(auto, using(cm_types::proofs::Exits::fails_bind, cm_types::proofs::Exits::fails_then))]
-fn tree_of(alloc: Global, folders_only: bool, asking: &Asking) -> Result<ReadTree, Fail>
+#[tactic(auto, using(cm_types::proofs::Exits::fails_bind))]
+fn tree_of(alloc: Global, folders_only: bool, asking: &Asking) -> Result<ShowTree, Fail>
     ensures { Meets (λ c. c) result (tree_of folders_only asking.now) }
 {
     let pairs = &asking.form.pairs;
-    unserved_of_trees(alloc, pairs)?;
     let succinct = flag(pairs, Argument::Succinct, false)?;
+    let includes = includes_of(alloc, pairs)?;
     let filter = property_filter(alloc, pairs)?;
     let depth = tree_depth(pairs)?;
     let segments = flag(pairs, Argument::IncludePathSegment, false)?;
     let _judged = flag(pairs, Argument::IncludeRelativePathSegment, false)?;
     let place = place_of(alloc, asking)?;
-    Ok(ReadTree {
-        place,
-        filter,
-        depth,
-        segments,
-        succinct,
-        folders_only,
+    Ok(ShowTree {
+        tree: ReadTree {
+            place,
+            filter,
+            depth,
+            segments,
+            succinct,
+            folders_only,
+        },
+        includes,
     })
 }
 
 /// The question of the selector descendants, or the first cause of its arguments.
-pub fn descendants_of(alloc: Global, asking: &Asking) -> Result<ReadTree, Fail>
+pub fn descendants_of(alloc: Global, asking: &Asking) -> Result<ShowTree, Fail>
     ensures { Meets (λ c. c) result (descendants_of asking.now) }
 {
     tree_of(alloc, false, asking)
 }
 
 /// The question of the selector folderTree, or the first cause of its arguments.
-pub fn folder_tree_of(alloc: Global, asking: &Asking) -> Result<ReadTree, Fail>
+pub fn folder_tree_of(alloc: Global, asking: &Asking) -> Result<ShowTree, Fail>
     ensures { Meets (λ c. c) result (folder_tree_of asking.now) }
 {
     tree_of(alloc, true, asking)
@@ -116,24 +86,29 @@ fn folder_of(alloc: Global, asking: &Asking) -> Result<Option<Place>, AllocError
 
 /// The question of the selector checkedout, or the first cause of its arguments. At the address of the repository it names no folder.
 /// includePathSegment and includeRelativePathSegment are judged, since they are arguments of other lists too, and mean nothing here.
-#[tactic(auto, using(cm_types::proofs::Exits::fails_bind, cm_types::proofs::Exits::fails_then))]
-pub fn checked_out_of(alloc: Global, asking: &Asking) -> Result<ReadCheckedOut, Fail>
+#[tactic(auto, using(cm_types::proofs::Exits::fails_bind))]
+pub fn checked_out_of(alloc: Global, asking: &Asking) -> Result<ShowCheckedOut, Fail>
     ensures { Meets (λ c. c) result (checked_out_of asking.now) }
 {
     let pairs = &asking.form.pairs;
-    unserved_of_checked_out(alloc, pairs)?;
     let succinct = flag(pairs, Argument::Succinct, false)?;
+    let includes = includes_of(alloc, pairs)?;
     let filter = property_filter(alloc, pairs)?;
     let max_items = number(pairs, Argument::MaxItems, 100)?;
     let skip_count = number(pairs, Argument::SkipCount, 0)?;
+    let order = order_of(alloc, pairs)?;
     let _judged = flag(pairs, Argument::IncludePathSegment, false)?;
     let _judged_too = flag(pairs, Argument::IncludeRelativePathSegment, false)?;
     let place = folder_of(alloc, asking)?;
-    Ok(ReadCheckedOut {
-        place,
-        filter,
-        max_items,
-        skip_count,
-        succinct,
+    Ok(ShowCheckedOut {
+        checked_out: ReadCheckedOut {
+            place,
+            filter,
+            max_items,
+            skip_count,
+            succinct,
+        },
+        order,
+        includes,
     })
 }

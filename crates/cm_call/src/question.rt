@@ -1,14 +1,13 @@
 //! Questions (CMIS 1.1, section 2.2).
 use action_parts::readings::ReadActions;
-use call_parts::readings::{
-    ReadAcl, ReadContent, ReadParent, ReadParents, ReadPolicies, ReadVersions,
+use call_parts::readings::{ReadAcl, ReadContent, ReadParent, ReadPolicies};
+use include_parts::readings::{
+    ShowCheckedOut, ShowChildren, ShowDefault, ShowObject, ShowParents, ShowProperties,
+    ShowRelationships, ShowTree, ShowVersions,
 };
-use include_parts::readings::{ShowChildren, ShowDefault, ShowObject, ShowProperties};
 use log_parts::readings::ReadChanges;
 use query_parts::readings::ReadQuery;
-use relationship_parts::readings::ReadRelationships;
 use rendition_parts::readings::ReadRenditions;
-use tree_parts::readings::{ReadCheckedOut, ReadTree};
 use type_parts::readings::{ReadInfo, ReadTypeChildren, ReadTypeDefinition, ReadTypeDescendants};
 
 /// A call that changes nothing.
@@ -23,16 +22,16 @@ pub enum Question {
     TypeChildren(ReadTypeChildren),
     TypeDescendants(ReadTypeDescendants),
     Info(ReadInfo),
-    Versions(ReadVersions),
+    Versions(ShowVersions),
     Parent(ReadParent),
-    Parents(ReadParents),
+    Parents(ShowParents),
     Policies(ReadPolicies),
     Acl(ReadAcl),
     Query(ReadQuery),
-    Tree(ReadTree),
-    CheckedOut(ReadCheckedOut),
+    Tree(ShowTree),
+    CheckedOut(ShowCheckedOut),
     Changes(ReadChanges),
     Renditions(ReadRenditions),
     Actions(ReadActions),
-    Relationships(ReadRelationships),
+    Relationships(ShowRelationships),
 }

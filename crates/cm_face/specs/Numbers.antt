@@ -37,6 +37,7 @@ reply_has_number (replies.Types reply) step = refl
 reply_has_number (replies.TypeTree reply) step = refl
 reply_has_number (replies.Info reply) step = refl
 reply_has_number (replies.Objects reply) step = refl
+reply_has_number (replies.IncludedObjects reply) step = refl
 reply_has_number (replies.Parents reply) step = refl
 reply_has_number (replies.Acl reply) step = refl
 reply_has_number (replies.Query reply) step = refl

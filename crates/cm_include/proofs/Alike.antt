@@ -18,11 +18,11 @@ use Rattle.rd_access.specs.ReadAcl.{acl_reply, shown_aces}
 use Rattle.cm_actions.specs.Allowed.{actions_of}
 use Rattle.rd_lists.proofs.Among.{all_shown_alike}
 use Rattle.cm_relationships.specs.Found.{relationships_of}
-use Rattle.rd_relationships.proofs.Alike.{relationships_alike}
 use Rattle.cm_show.specs.Shown.{shown_object}
 use Rattle.cm_actions.proofs.Alike.{actions_alike}
 use Rattle.cm_renditions.proofs.Alike.{renditions_alike}
-use Rattle.cm_include.specs.Included.{asks_for_some, if_asked, included_object, policy_ids, relationships_asked, renditions_asked, shown_relationships}
+use Rattle.cm_include.proofs.Related.{relationships_alike}
+use Rattle.cm_include.specs.Included.{asks_for_some, if_asked, included_object, policy_ids, relationships_asked, renditions_asked, shown_beside, shown_relationships}
 use Rattle.seen_laws.proofs.Lists.{map_same}
 use Rattle.seen_laws.proofs.Shown.{shown_alike}
 use Rattle.seen_laws.proofs.Worlds.{AreAlike, IsAlike}
@@ -50,22 +50,26 @@ module _ (r other : Repository) (u : List ℕ) (a : AreAlike r other u) (x : Obj
   renditions_asked_alike : (f : RenditionFilter) → renditions_asked r f x ≡ renditions_asked other f x
   renditions_asked_alike f = ap (if_asked (asks_for_some f)) (renditions_alike r other u f x h)
 
-  pub included_alike : (f : PropertyFilter) (succinct : Bool) (i : Includes) → included_object r u f succinct i x ≡ included_object other u f succinct i x
-  included_alike f succinct i =
-      let object = shown_alike r other u a x h f succinct in
+  pub beside_alike : (succinct : Bool) (i : Includes) → shown_beside r u succinct i x ≡ shown_beside other u succinct i x
+  beside_alike succinct i =
       let actions : if_asked i.actions (actions_of r u x) ≡ if_asked i.actions (actions_of other u x) = ap (if_asked i.actions) (actions_alike r other u a x h) in
       let relationships = relationships_asked_alike succinct i.relationships in
       let renditions = renditions_asked_alike i.renditions in
       let policies : if_asked i.policy_ids (policy_ids r u x) ≡ if_asked i.policy_ids (policy_ids other u x) = ap (if_asked i.policy_ids) policy_ids_alike in
       let acl : if_asked i.acl (acl_reply r x) ≡ if_asked i.acl (acl_reply other x) = ap (λ o. if_asked i.acl (record { aces = shown_aces o.aces })) h.alike in
       (λ k. record {
-        object = object k;
         actions = actions k;
         relationships = relationships k;
         renditions = renditions k;
         policy_ids = policies k;
         acl = acl k;
       })
+
+  pub included_alike : (f : PropertyFilter) (succinct : Bool) (i : Includes) → included_object r u f succinct i x ≡ included_object other u f succinct i x
+  included_alike f succinct i =
+      let object = shown_alike r other u a x h f succinct in
+      let beside = beside_alike succinct i in
+      (λ k. record { object = object k; beside = beside k })
 
 -- objects that are seen alike are shown alike
 pub all_included_alike : (r other : Repository) (u : List ℕ) (a : AreAlike r other u) (f : PropertyFilter) (succinct : Bool) (i : Includes) (xs : List Object) → All (IsAlike r other u) xs

@@ -1,3 +1,4 @@
 pub mod Alike
 mod Applied
-mod Listed
+pub mod Listed
+pub mod Related

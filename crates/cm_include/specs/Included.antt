@@ -13,6 +13,7 @@ use Rattle.include_parts.specs.declared.readings.IncludeRelationships.{IncludeRe
 use Rattle.include_parts.specs.declared.readings.IncludeRelationships.TheVariants as asks
 use Rattle.include_parts.specs.declared.readings.Includes.{Includes}
 use Rattle.include_parts.specs.declared.replies.IncludedObject.{IncludedObject}
+use Rattle.include_parts.specs.declared.replies.ShownBeside.{ShownBeside}
 use Rattle.cmis_spec.specs.Repository.{Repository}
 use Rattle.cmis_spec.specs.Access.{policies_of}
 use Rattle.cm_show.specs.Shown.{shown_object}
@@ -51,15 +52,18 @@ asks_for_some (filters.Listed items) = true
 abbrev pub renditions_asked : Repository → RenditionFilter → Object → Option (List ShownRendition)
 renditions_asked r f x = if_asked (asks_for_some f) (shown_renditions r f x)
 
-abbrev pub included_object : Repository → List ℕ → PropertyFilter → Bool → Includes → Object → IncludedObject
-included_object r u f succinct i x = record {
-  object = shown_object r u f succinct x;
+-- what is asked for beside the properties
+abbrev pub shown_beside : Repository → List ℕ → Bool → Includes → Object → ShownBeside
+shown_beside r u succinct i x = record {
   actions = if_asked i.actions (actions_of r u x);
   relationships = relationships_asked r u succinct i.relationships x;
   renditions = renditions_asked r i.renditions x;
   policy_ids = if_asked i.policy_ids (policy_ids r u x);
   acl = if_asked i.acl (acl_reply r x);
 }
+
+abbrev pub included_object : Repository → List ℕ → PropertyFilter → Bool → Includes → Object → IncludedObject
+included_object r u f succinct i x = record { object = shown_object r u f succinct x; beside = shown_beside r u succinct i x }
 
 -- the object in a view of the repository
 abbrev pub included_in : View → Object → IncludedObject

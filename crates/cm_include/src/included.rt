@@ -3,7 +3,7 @@ ghost use Rattle.std.specs.Prelude.{◌≡◌, IfOk, Some, map};
 ghost use Rattle.map_keys.specs.Parts.{pointee};
 ghost use Rattle.cm_show.specs.Shown.{shown_object};
 ghost use Rattle.cm_actions.specs.Allowed.{actions_of};
-ghost use Rattle.cm_include.specs.Included.{asks_for_some, if_asked, included_in, policy_ids, relationships_asked, renditions_asked, shown_relationships};
+ghost use Rattle.cm_include.specs.Included.{asks_for_some, if_asked, included_in, policy_ids, relationships_asked, renditions_asked, shown_beside, shown_relationships};
 ghost use Rattle.rd_access.specs.ReadAcl.{acl_reply};
 
 use crate::policies::policy_ids;
@@ -19,7 +19,7 @@ use cm_renditions::shown::shown_renditions;
 use cm_show::shown::shown_object;
 use cm_state::state::State;
 use include_parts::readings::{IncludeRelationships, Includes};
-use include_parts::replies::{IncludedObject, IncludedObjects};
+use include_parts::replies::{IncludedObject, IncludedObjects, ShownBeside};
 use rd_access::acl::acl_reply;
 use relationship_parts::readings::Direction;
 use rendition_parts::filter::RenditionFilter;
@@ -169,6 +169,38 @@ fn renditions_asked(
     Ok(Some(renditions))
 }
 
+/// What is asked for beside the properties of the object. The caller is to read it.
+pub fn shown_beside(
+    alloc: Global,
+    state: &State,
+    user: &Text,
+    succinct: bool,
+    includes: &Includes,
+    x: &Object,
+) -> Result<ShownBeside, AllocError>
+    ensures { IfOk result (λ b. b ≡ shown_beside state.now user.now succinct includes.now x.now) }
+{
+    let actions = actions_asked(alloc, state, user, includes.actions, x)?;
+    let relationships = relationships_asked(
+        alloc,
+        state,
+        user,
+        succinct,
+        includes.relationships,
+        x,
+    )?;
+    let renditions = renditions_asked(alloc, state, &includes.renditions, x)?;
+    let policy_ids = policy_ids_asked(alloc, state, user, includes.policy_ids, x)?;
+    let acl = acl_asked(alloc, state, includes.acl, x)?;
+    Ok(ShownBeside {
+        actions,
+        relationships,
+        renditions,
+        policy_ids,
+        acl,
+    })
+}
+
 /// The object as the caller sees it, with what is asked for beside its properties. The caller is to read it.
 pub fn included_object(
     alloc: Global,
@@ -178,26 +210,15 @@ pub fn included_object(
     ensures { IfOk result (λ o. o ≡ included_in view.entry x.now) }
 {
     let object = shown_object(alloc, view.state, view.user, view.filter, view.succinct, x)?;
-    let actions = actions_asked(alloc, view.state, view.user, view.includes.actions, x)?;
-    let relationships = relationships_asked(
+    let beside = shown_beside(
         alloc,
         view.state,
         view.user,
         view.succinct,
-        view.includes.relationships,
+        view.includes,
         x,
     )?;
-    let renditions = renditions_asked(alloc, view.state, &view.includes.renditions, x)?;
-    let policy_ids = policy_ids_asked(alloc, view.state, view.user, view.includes.policy_ids, x)?;
-    let acl = acl_asked(alloc, view.state, view.includes.acl, x)?;
-    Ok(IncludedObject {
-        object,
-        actions,
-        relationships,
-        renditions,
-        policy_ids,
-        acl,
-    })
+    Ok(IncludedObject { object, beside })
 }
 
 /// The objects as the caller sees them, in their order.

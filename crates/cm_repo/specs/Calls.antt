@@ -28,9 +28,9 @@ use Rattle.rd_types.specs.ReadTypes.{answer_type_definition, answer_type_childre
 use Rattle.wr_content.specs.SetContent.{cost_set_content, refusal_set_content, after_set_content, acknowledgement_set_content}
 use Rattle.wr_content.specs.AppendContent.{cost_append_content, refusal_append_content, after_append_content, acknowledgement_append_content}
 use Rattle.wr_content.specs.DeleteContent.{cost_delete_content, refusal_delete_content, after_delete_content, acknowledgement_delete_content}
-use Rattle.rd_lists.specs.ReadVersions.{answer_versions}
+use Rattle.rd_include.specs.ShowVersions.{answer_show_versions}
+use Rattle.rd_include.specs.ShowParents.{answer_show_parents}
 use Rattle.rd_lists.specs.ReadParent.{answer_parent}
-use Rattle.rd_lists.specs.ReadParents.{answer_parents}
 use Rattle.wr_filing.specs.MoveObject.{cost_move, refusal_move, after_move, acknowledgement_move}
 use Rattle.wr_filing.specs.AddToFolder.{cost_add_to_folder, refusal_add_to_folder, after_add_to_folder, acknowledgement_add_to_folder}
 use Rattle.wr_filing.specs.RemoveFromFolder.{cost_remove_from_folder, refusal_remove_from_folder, after_remove_from_folder, acknowledgement_remove_from_folder}
@@ -198,9 +198,9 @@ answer_of r u (questions.TypeDefinition q) = answer_type_definition r u q >>= λ
 answer_of r u (questions.TypeChildren q) = answer_type_children r u q >>= λ reply. Ok (replies.Types reply)
 answer_of r u (questions.TypeDescendants q) = answer_type_descendants r u q >>= λ reply. Ok (replies.TypeTree reply)
 answer_of r u (questions.Info q) = answer_info r u q >>= λ reply. Ok (replies.Info reply)
-answer_of r u (questions.Versions q) = answer_versions r u q >>= λ reply. Ok (replies.Objects reply)
+answer_of r u (questions.Versions q) = answer_show_versions r u q >>= λ reply. Ok (replies.IncludedObjects reply)
 answer_of r u (questions.Parent q) = answer_parent r u q >>= λ reply. Ok (replies.Object reply)
-answer_of r u (questions.Parents q) = answer_parents r u q >>= λ reply. Ok (replies.Parents reply)
+answer_of r u (questions.Parents q) = answer_show_parents r u q >>= λ reply. Ok (replies.Parents reply)
 answer_of r u (questions.Policies q) = answer_policies r u q >>= λ reply. Ok (replies.Objects reply)
 answer_of r u (questions.Acl q) = answer_acl r u q >>= λ reply. Ok (replies.Acl reply)
 answer_of r u (questions.Query q) = answer_query r u q >>= λ reply. Ok (replies.Query reply)

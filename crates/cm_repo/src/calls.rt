@@ -24,9 +24,9 @@ use rd_access::policies::policies;
 use rd_actions::actions::allowable_actions;
 use rd_include::children::show_children;
 use rd_include::object::{included, show_object, show_properties};
+use rd_include::parents::show_parents;
+use rd_include::versions::show_versions;
 use rd_lists::parent::parent;
-use rd_lists::parents::parents;
-use rd_lists::versions::versions;
 use rd_log::changes::changes;
 use rd_query::query::query;
 use rd_relationships::relationships::relationships;
@@ -284,15 +284,15 @@ pub fn read(alloc: Global, state: &State, user: &Text, question: &Question) -> R
             Ok(Reply::Info(reply))
         }
         Question::Versions(q) => {
-            let reply = versions(alloc, state, user, q)?;
-            Ok(Reply::Objects(reply))
+            let reply = show_versions(alloc, state, user, q)?;
+            Ok(Reply::IncludedObjects(reply))
         }
         Question::Parent(q) => {
             let reply = parent(alloc, state, user, q)?;
             Ok(Reply::Object(reply))
         }
         Question::Parents(q) => {
-            let reply = parents(alloc, state, user, q)?;
+            let reply = show_parents(alloc, state, user, q)?;
             Ok(Reply::Parents(reply))
         }
         Question::Policies(q) => {

@@ -9,8 +9,11 @@ ghost use Rattle.cm_repo.specs.Calls.{answer_default, answer_of};
 
 use rd_access::law::{acl_of_seen, policies_of_seen};
 use rd_actions::law::actions_of_seen;
-use rd_include::law::{children_of_seen, included_of_seen, object_of_seen, properties_of_seen};
-use rd_lists::law::{parent_of_seen, parents_of_seen, versions_of_seen};
+use rd_include::law::{
+    children_of_seen, included_of_seen, object_of_seen, parents_of_seen, properties_of_seen,
+    versions_of_seen,
+};
+use rd_lists::law::parent_of_seen;
 use rd_log::law::changes_of_seen;
 use rd_query::law::query_of_seen;
 use rd_relationships::law::relationships_of_seen;

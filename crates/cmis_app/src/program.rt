@@ -3,9 +3,9 @@ ghost use Rattle.std.specs.Prelude.{◌≡◌, ◌⊎◌, map, string_bytes, len
 ghost use Rattle.cmis_spec.specs.Well.{HasGroups};
 ghost use Rattle.desk_model.specs.Histories.{state_of};
 ghost use Rattle.cm_face.specs.Faces.{shown_step};
-ghost use Rattle.cmis_words.specs.Programs.{words_of};
 ghost use Rattle.cmis_words.specs.Serving.{serve_of};
-ghost use Rattle.cmis_app.specs.Runs.{Ran as RunsOnce, OnlyWhereFailed};
+ghost use Rattle.cmis_app.specs.Once.{RunsOnce};
+ghost use Rattle.cmis_app.specs.Runs.{OnlyWhereFailed};
 ghost use Rattle.cmis_app.specs.Many.{ServedAll, Hosted, Summed, Unserved, summary, status_of_end, status_of_loss};
 
 use crate::line::summary;
@@ -131,7 +131,7 @@ where
     H::Link: Send,
     ensures once { serve_of (map string_bytes words.now) ≡ None → (result.closing ≡ None)
         × ((result.status ≡ 7) × (I.told input.new ≡ I.told input.old) × (O.told output.new ≡ O.told output.old)
-        ⊎ RunsOnce (words_of (map string_bytes words.now)) (C.words clock.old) (I.told input.old)
+        ⊎ RunsOnce (map string_bytes words.now) (C.words clock.old) (I.told input.old)
         (O.told output.old) (I.told input.new) (O.told output.new) result.status
         × OnlyWhereFailed (I.told input.old) (O.told output.old) (I.told input.new) (O.told output.new) result.status) }
     ensures served { IfSome (serve_of (map string_bytes words.now)) (λ asked. MatchOption result.closing

@@ -3,3 +3,5 @@ pub mod GroupLists
 pub mod Options
 pub mod Programs
 pub mod Serving
+pub mod Loading
+pub mod Scheduling

@@ -5,6 +5,8 @@ ghost use Rattle.std.specs.Prelude.{◌≡◌};
 
 pub mod groups;
 pub mod laws;
+pub mod load;
 mod options;
+pub mod schedule;
 pub mod serve;
 pub mod words;

@@ -22,7 +22,7 @@ pub struct Serve {
     pub links: Option<u64>,
 }
 
-fn within(least: u64, most: u64, number: Option<u64>) -> Option<u64>
+pub(crate) fn within(least: u64, most: u64, number: Option<u64>) -> Option<u64>
     ensures value { result ≡ within least most number }
     ensures bounds { IfSome result (λ n. (least ≤ n) × (n ≤ most)) }
 {

@@ -4,10 +4,10 @@ use Rattle.std.proofs.Common.{sym, ap, ◌∙◌}
 use Rattle.std.proofs.lemmas.List.Sums.{fold-append}
 use Rattle.serde_json.specs.Data.{Members}
 use Rattle.json_text.specs.Build.{with_field}
-use Rattle.include_parts.specs.declared.replies.IncludedObject.{IncludedObject}
+use Rattle.include_parts.specs.declared.replies.ShownBeside.{ShownBeside}
 use Rattle.include_json.specs.Included.{acl_fields, action_fields, fields_beside, policy_fields, relationship_fields, rendition_fields}
 
-pub put_beside : (ms : Members) (o : IncludedObject)
+pub put_beside : (ms : Members) (o : ShownBeside)
     → fold with_field (fold with_field (fold with_field (fold with_field (fold with_field ms (acl_fields o.acl)) (action_fields o.actions)) (policy_fields o.policy_ids)) (relationship_fields o.relationships)) (rendition_fields o.renditions)
     ≡ fold with_field ms (fields_beside o)
 put_beside ms o =

@@ -9,6 +9,7 @@ use Rattle.call_parts.specs.declared.replies.ShownObject.{ShownObject}
 use Rattle.rendition_parts.specs.declared.replies.ShownRendition.{ShownRendition}
 use Rattle.rendition_replies.specs.Renditions.{renditions_data}
 use Rattle.include_parts.specs.declared.replies.IncludedObject.{IncludedObject}
+use Rattle.include_parts.specs.declared.replies.ShownBeside.{ShownBeside}
 use Rattle.object_json.specs.Access.{acl_data}
 use Rattle.object_json.specs.Objects.{properties_of_object, shown_data}
 
@@ -41,9 +42,9 @@ rendition_fields (Some renditions) = (codes "renditions", renditions_data rendit
 -- ---- an object
 
 -- what is shown beside the properties
-abbrev pub fields_beside : IncludedObject → List (List ℕ × Data)
-fields_beside o = acl_fields o.acl ++ action_fields o.actions ++ policy_fields o.policy_ids ++ relationship_fields o.relationships ++ rendition_fields o.renditions
+abbrev pub fields_beside : ShownBeside → List (List ℕ × Data)
+fields_beside b = acl_fields b.acl ++ action_fields b.actions ++ policy_fields b.policy_ids ++ relationship_fields b.relationships ++ rendition_fields b.renditions
 
 -- its properties, and what is shown beside them
 unfoldable pub included_data : IncludedObject → Data
-included_data o = object_data (properties_of_object o.object.properties ∷ fields_beside o)
+included_data o = object_data (properties_of_object o.object.properties ∷ fields_beside o.beside)

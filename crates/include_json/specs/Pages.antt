@@ -5,6 +5,9 @@ use Rattle.json_text.specs.Build.{object_data, list_data}
 use Rattle.include_parts.specs.declared.replies.IncludedMember.{IncludedMember}
 use Rattle.include_parts.specs.declared.replies.IncludedReply.{IncludedReply}
 use Rattle.include_parts.specs.declared.replies.IncludedChildrenReply.{IncludedChildrenReply}
+use Rattle.include_parts.specs.declared.replies.IncludedParentsReply.{IncludedParentsReply}
+use Rattle.include_parts.specs.declared.replies.IncludedObjectsReply.{IncludedObjectsReply}
+use Rattle.include_parts.specs.declared.replies.IncludedPageReply.{IncludedPageReply}
 use Rattle.include_json.specs.Included.{included_data}
 
 -- one object
@@ -27,3 +30,19 @@ children_data r = object_data
     ∷ (codes "hasMoreItems", boolean r.has_more_items)
     ∷ (codes "numItems", number (unsigned r.num_items))
     ∷ [])
+
+-- a page of objects
+unfoldable pub page_data : IncludedPageReply → Data
+page_data r = object_data
+    ((codes "objects", list_data (map included_data r.objects))
+    ∷ (codes "hasMoreItems", boolean r.has_more_items)
+    ∷ (codes "numItems", number (unsigned r.num_items))
+    ∷ [])
+
+-- a list of objects
+abbrev pub objects_data : IncludedObjectsReply → Data
+objects_data r = list_data (map included_data r.objects)
+
+-- the folders of an object
+abbrev pub parents_data : IncludedParentsReply → Data
+parents_data r = list_data (map (member_data (codes "relativePathSegment")) r.parents)

@@ -11,7 +11,7 @@ use action_replies::actions::flags_json;
 use call_parts::replies::{AclReply, Properties, ShownObject, ShownObjects, ShownProperty};
 use cm_base::text::{Text, Texts};
 use cm_base::value::Slot;
-use include_parts::replies::IncludedObject;
+use include_parts::replies::{IncludedObject, ShownBeside};
 use json_text::tree::{Elements, Fields, Json};
 use json_text::values::value_json;
 use object_json::access::acl_json;
@@ -166,15 +166,19 @@ fn put_acl(alloc: Global, fields: &mut Fields, acl: &Option<AclReply>) -> Result
     }
 }
 
-// What is shown beside the properties.
-fn put_beside(alloc: Global, fields: &mut Fields, object: &IncludedObject) -> Result<(), AllocError>
-    ensures { OnOk result (fields_of fields.new ≡ fold with_field (fields_of fields.old) (fields_beside object.now)) }
+/// What is shown beside the properties, behind the fields that are there.
+pub fn put_beside(
+    alloc: Global,
+    fields: &mut Fields,
+    beside: &ShownBeside,
+) -> Result<(), AllocError>
+    ensures { OnOk result (fields_of fields.new ≡ fold with_field (fields_of fields.old) (fields_beside beside.now)) }
 {
-    put_acl(alloc, fields, &object.acl)?;
-    put_actions(alloc, fields, &object.actions)?;
-    put_policy_ids(alloc, fields, &object.policy_ids)?;
-    put_relationships(alloc, fields, &object.relationships)?;
-    put_renditions(alloc, fields, &object.renditions)?;
+    put_acl(alloc, fields, &beside.acl)?;
+    put_actions(alloc, fields, &beside.actions)?;
+    put_policy_ids(alloc, fields, &beside.policy_ids)?;
+    put_relationships(alloc, fields, &beside.relationships)?;
+    put_renditions(alloc, fields, &beside.renditions)?;
     Ok(())
 }
 
@@ -185,6 +189,6 @@ pub fn included_json(alloc: Global, object: &IncludedObject) -> Result<Json, All
 {
     let mut fields = Fields::new(alloc);
     put_properties(alloc, &mut fields, &object.object.properties)?;
-    put_beside(alloc, &mut fields, object)?;
+    put_beside(alloc, &mut fields, &object.beside)?;
     Ok(Json::object(fields))
 }

@@ -1,6 +1,8 @@
 //! What a reading shows of objects where it is asked for, and the arguments of these readings (CMIS 1.1, section 2.2.1.2).
 use call_parts::readings::{ReadChildren, ReadObject, ReadParents, ReadProperties, ReadVersions};
 use cm_base::text::Text;
+use order_parts::readings::SortSpecifications;
+use relationship_parts::readings::ReadRelationships;
 use rendition_parts::filter::RenditionFilter;
 use tree_parts::readings::{ReadCheckedOut, ReadTree};
 
@@ -57,6 +59,8 @@ pub struct ShowProperties {
 #[derive(Drop)]
 pub struct ShowChildren {
     pub children: ReadChildren,
+    /// In which order they stand, before the page is cut.
+    pub order: SortSpecifications,
     /// Whether each child is shown with the name that it has in the folder.
     pub segments: bool,
     pub includes: Includes,
@@ -95,5 +99,14 @@ pub struct ShowTree {
 #[derive(Drop)]
 pub struct ShowCheckedOut {
     pub checked_out: ReadCheckedOut,
+    /// In which order they stand, before the page is cut.
+    pub order: SortSpecifications,
+    pub includes: Includes,
+}
+
+/// A page of the relationships of an object, with what is shown beside their properties (section 2.2.8.1).
+#[derive(Drop)]
+pub struct ShowRelationships {
+    pub relationships: ReadRelationships,
     pub includes: Includes,
 }

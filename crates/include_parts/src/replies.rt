@@ -5,16 +5,22 @@ use cm_base::items::Items;
 use cm_base::text::{Text, Texts};
 use rendition_parts::replies::ShownRenditions;
 
-/// An object as a reply shows it: its properties, and of the rest what is asked for.
+/// What a reply shows of an object beside its properties: each as far as it is asked for.
 #[derive(Drop)]
-pub struct IncludedObject {
-    pub object: ShownObject,
+pub struct ShownBeside {
     pub actions: Option<AllowableActions>,
     /// Each with its properties alone.
     pub relationships: Option<ShownObjects>,
     pub renditions: Option<ShownRenditions>,
     pub policy_ids: Option<Texts>,
     pub acl: Option<AclReply>,
+}
+
+/// An object as a reply shows it: its properties, and what is asked for beside them.
+#[derive(Drop)]
+pub struct IncludedObject {
+    pub object: ShownObject,
+    pub beside: ShownBeside,
 }
 
 /// Objects in the order of the reply.

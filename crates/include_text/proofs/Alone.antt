@@ -9,6 +9,7 @@ use Rattle.cm_base.specs.Judged.{◌>>=◌, ◌>>◌, find_or, refuse}
 use Rattle.cm_types.specs.declared.definition.BaseType.TheVariants as bases
 use Rattle.call_parts.specs.declared.place.Place.{Place}
 use Rattle.call_parts.specs.declared.readings.PropertyFilter.{PropertyFilter}
+use Rattle.order_parts.specs.declared.readings.SortSpecification.{SortSpecification}
 use Rattle.rendition_parts.specs.declared.filter.RenditionFilter.{RenditionFilter}
 use Rattle.rendition_parts.specs.declared.filter.RenditionFilter.TheVariants as filters
 use Rattle.include_parts.specs.declared.readings.IncludeRelationships.{IncludeRelationships}
@@ -23,17 +24,18 @@ use Rattle.cmis_spec.specs.Access.{children_of}
 use Rattle.cm_show.specs.Addressed.{addressed}
 use Rattle.cm_show.specs.Shown.{shown_object}
 use Rattle.cm_include.specs.declared.included.View.{View}
-use Rattle.cm_include.specs.Included.{included_object}
+use Rattle.cm_include.specs.Included.{included_object, shown_beside}
 use Rattle.object_json.specs.Objects.{shown_data}
 use Rattle.object_json.specs.Pages.{child_data, children_data}
 use Rattle.include_json.specs.Included.{fields_beside, included_data}
 use Rattle.include_json.specs.Pages.{member_data, children_data as included_children_data}
-use Rattle.rd_object.specs.ReadObject.{answer_addressed}
+use Rattle.rd_nav.specs.ReadObject.{answer_addressed}
 use Rattle.rd_nav.specs.ReadChildren.{answer_children, children_reply, page}
 use Rattle.rd_include.specs.ShowObject.{answer_included, answer_included_in, answer_show_object, answer_version, included_reply, version_asked}
-use Rattle.rd_include.specs.ShowChildren.{answer_show_children, included_child, included_children}
+use Rattle.rd_order.specs.Ordered.{ordered}
+use Rattle.rd_include.specs.ShowChildren.{answer_ordered_children, answer_show_children, included_child, included_children}
 use Rattle.show_json.specs.Columns.{answer_text, object_answer_text}
-use Rattle.include_text.specs.Texts.{are_bare_children, included_children_text, included_text, is_bare, is_bare_object, is_this, no_relationships, no_renditions}
+use Rattle.include_text.specs.Texts.{are_bare_children, included_children_text, included_text, is_bare, is_bare_object, is_this, no_order, no_relationships, no_renditions}
 
 none_asked : (i : IncludeRelationships) → no_relationships i ≡ true → i ≡ asks.Nothing
 none_asked asks.Nothing h = refl
@@ -46,8 +48,8 @@ none_kept filters.None h = refl
 none_kept filters.All h = absurd (both_ways false refl h)
 none_kept (filters.Listed items) h = absurd (both_ways false refl h)
 
-nothing_beside : (r : Repository) (u : List ℕ) (f : PropertyFilter) (succinct : Bool) (i : Includes) (x : Object) → is_bare i ≡ true → fields_beside (included_object r u f succinct i x) ≡ []
-nothing_beside r u f succinct i x h =
+nothing_beside : (r : Repository) (u : List ℕ) (succinct : Bool) (i : Includes) (x : Object) → is_bare i ≡ true → fields_beside (shown_beside r u succinct i x) ≡ []
+nothing_beside r u succinct i x h =
     let actions = not i.actions in
     let relationships = no_relationships i.relationships in
     let renditions = no_renditions i.renditions in
@@ -60,7 +62,7 @@ nothing_beside r u f succinct i x h =
 
 pub bare_data : (r : Repository) (u : List ℕ) (f : PropertyFilter) (succinct : Bool) (i : Includes) (x : Object) → is_bare i ≡ true → included_data (included_object r u f succinct i x) ≡ shown_data (shown_object r u f succinct x)
 unfolding included_data
-bare_data r u f succinct i x h = rw (nothing_beside r u f succinct i x h) refl
+bare_data r u f succinct i x h = rw (nothing_beside r u succinct i x h) refl
 
 -- ---- objects
 
@@ -94,7 +96,11 @@ bare_included v place h = bare_found v.state.now v.user.now v.filter.now v.succi
 
 -- ---- children
 
-module _ (r : Repository) (u : List ℕ) (q : ShowChildren) (named : q.segments ≡ false) (bare : is_bare q.includes ≡ true) where
+none_ordered : (order : List SortSpecification) → no_order order ≡ true → order ≡ []
+none_ordered [] h = refl
+none_ordered (s ∷ specifications) h = absurd (both_ways false refl h)
+
+module _ (r : Repository) (u : List ℕ) (q : ShowChildren) (unordered : q.order ≡ []) (named : q.segments ≡ false) (bare : is_bare q.includes ≡ true) where
   bare_member : (x : Object) → member_data (codes "pathSegment") (included_child r u q x) ≡ child_data (shown_object r u q.children.filter q.children.succinct x)
   unfolding member_data
   bare_member x = rw (named, bare_data r u q.children.filter q.children.succinct q.includes x bare) refl
@@ -108,22 +114,26 @@ module _ (r : Repository) (u : List ℕ) (q : ShowChildren) (named : q.segments 
   bare_page xs = rw (bare_members (page q.children.skip_count q.children.max_items xs)) refl
 
   bare_in : (x : Object) → answer_text (refuse causes.WrongKind (not (is_a r bases.Folder x)) >> Ok (children_reply r u q.children (children_of r u x.id)))
-      ≡ included_children_text (refuse causes.WrongKind (not (is_a r bases.Folder x)) >> Ok (included_children r u q (children_of r u x.id)))
+      ≡ included_children_text (refuse causes.WrongKind (not (is_a r bases.Folder x)) >> answer_ordered_children r u q x.id)
   bare_in x = by (not (is_a r bases.Folder x))
     where
+      as_they_stand : answer_ordered_children r u q x.id ≡ Ok (included_children r u q (children_of r u x.id))
+      as_they_stand = ap (λ order. ordered r u order (children_of r u x.id) >>= λ xs. Ok (included_children r u q xs)) unordered
+
       by : (b : Bool) → answer_text (refuse causes.WrongKind b >> Ok (children_reply r u q.children (children_of r u x.id)))
-          ≡ included_children_text (refuse causes.WrongKind b >> Ok (included_children r u q (children_of r u x.id)))
+          ≡ included_children_text (refuse causes.WrongKind b >> answer_ordered_children r u q x.id)
       by true = refl
-      by false = ap (λ d. Ok (compact_text d)) (bare_page (children_of r u x.id))
+      by false = ap (λ d. Ok (compact_text d)) (bare_page (children_of r u x.id)) ∙ sym (ap included_children_text as_they_stand)
 
   bare_addressed : (o : Option Object)
       → answer_text (find_or causes.NotFound o >>= λ x. refuse causes.WrongKind (not (is_a r bases.Folder x)) >> Ok (children_reply r u q.children (children_of r u x.id)))
-      ≡ included_children_text (find_or causes.NotFound o >>= λ x. refuse causes.WrongKind (not (is_a r bases.Folder x)) >> Ok (included_children r u q (children_of r u x.id)))
+      ≡ included_children_text (find_or causes.NotFound o >>= λ x. refuse causes.WrongKind (not (is_a r bases.Folder x)) >> answer_ordered_children r u q x.id)
   bare_addressed None = refl
   bare_addressed (Some x) = bare_in x
 
 pub bare_children : (r : Repository) (u : List ℕ) (q : ShowChildren) → are_bare_children q ≡ true
     → answer_text (answer_children r u q.children) ≡ included_children_text (answer_show_children r u q)
 bare_children r u q h =
-    let a = and_parts (not q.segments) (is_bare q.includes) h in
-    bare_addressed r u q (not-true q.segments a.0) a.1 (addressed r u q.children.place)
+    let a = and_parts (no_order q.order && not q.segments) (is_bare q.includes) h in
+    let b = and_parts (no_order q.order) (not q.segments) a.0 in
+    bare_addressed r u q (none_ordered q.order b.0) (not-true q.segments b.1) a.1 (addressed r u q.children.place)

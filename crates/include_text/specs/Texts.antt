@@ -1,7 +1,8 @@
 -- The texts of what is answered about objects and children with what is shown beside their properties.
-use Rattle.std.specs.Prelude.{ℕ, Bool, true, false, ◌&&◌, not, List, Ok}
+use Rattle.std.specs.Prelude.{ℕ, Bool, true, false, ◌&&◌, not, List, [], ◌∷◌, Ok}
 use Rattle.serde_json.specs.Written.{compact_text}
 use Rattle.cm_base.specs.Judged.{Judged, ◌>>=◌}
+use Rattle.order_parts.specs.declared.readings.SortSpecification.{SortSpecification}
 use Rattle.rendition_parts.specs.declared.filter.RenditionFilter.{RenditionFilter}
 use Rattle.rendition_parts.specs.declared.filter.RenditionFilter.TheVariants as filters
 use Rattle.include_parts.specs.declared.readings.IncludeRelationships.{IncludeRelationships}
@@ -49,6 +50,11 @@ is_this versions.LatestMajor = false
 abbrev pub is_bare_object : ShowObject → Bool
 is_bare_object q = is_this q.version && is_bare q.includes
 
--- children with their properties alone, and without their names
+-- no order is asked for
+abbrev pub no_order : List SortSpecification → Bool
+no_order [] = true
+no_order (s ∷ specifications) = false
+
+-- children with their properties alone, without their names, and in the order of their numbers
 abbrev pub are_bare_children : ShowChildren → Bool
-are_bare_children q = not q.segments && is_bare q.includes
+are_bare_children q = no_order q.order && not q.segments && is_bare q.includes

@@ -1,10 +1,11 @@
 //! Whether nothing is asked for beside the properties. Nothing here takes memory.
 ghost use Rattle.std.specs.Prelude.{◌≡◌};
-ghost use Rattle.include_text.specs.Texts.{are_bare_children, is_bare, is_bare_object, is_this, no_relationships, no_renditions};
+ghost use Rattle.include_text.specs.Texts.{are_bare_children, is_bare, is_bare_object, is_this, no_order, no_relationships, no_renditions};
 
 use include_parts::readings::{
     IncludeRelationships, Includes, ReturnVersion, ShowChildren, ShowObject,
 };
+use order_parts::readings::SortSpecification;
 use rendition_parts::filter::RenditionFilter;
 
 fn no_relationships(asked: IncludeRelationships) -> bool
@@ -56,9 +57,19 @@ pub(crate) fn is_bare_object(q: &ShowObject) -> bool
     is_this(q.version) && is_bare(&q.includes)
 }
 
-/// Whether children are shown with their properties alone, and without their names.
+// Whether no order is asked for.
+fn no_order(order: &[SortSpecification]) -> bool
+    ensures { result ≡ no_order order.now }
+{
+    match order {
+        [] => true,
+        [_, ..] => false,
+    }
+}
+
+/// Whether children are shown with their properties alone, without their names, and in the order of their numbers.
 pub(crate) fn are_bare_children(q: &ShowChildren) -> bool
     ensures { result ≡ are_bare_children q.now }
 {
-    !q.segments && is_bare(&q.includes)
+    no_order(q.order.as_slice()) && !q.segments && is_bare(&q.includes)
 }

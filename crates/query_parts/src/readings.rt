@@ -1,5 +1,6 @@
 //! The arguments of a query (CMIS 1.1, section 2.2.6.1).
 use cm_base::text::Text;
+use include_parts::readings::Includes;
 
 /// The rows that a statement of the query language finds, a page of them.
 #[derive(Drop)]
@@ -13,4 +14,6 @@ pub struct ReadQuery {
     pub skip_count: u64,
     /// Whether a row shows the values alone.
     pub succinct: bool,
+    /// What a row shows of its object beside the columns.
+    pub includes: Includes,
 }

@@ -5,10 +5,10 @@ ghost use Rattle.query_replies.specs.Rows.{query_data, row_data};
 
 use crate::row::row_json;
 use json_text::tree::{Elements, Fields, Json};
-use query_parts::replies::{QueryReply, ShownRow};
+use query_parts::replies::{QueryReply, QueryRow};
 use std::alloc::{AllocError, Global};
 
-fn each_row(alloc: Global, rows: &[ShownRow]) -> Result<Elements, AllocError>
+fn each_row(alloc: Global, rows: &[QueryRow]) -> Result<Elements, AllocError>
     ensures { IfOk result (λ e. listed e ≡ map row_data rows.now) }
 {
     let mut elements = Elements::new(alloc);

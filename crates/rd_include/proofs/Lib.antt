@@ -1,4 +1,3 @@
-mod Listed
+mod Alike
 mod Majors
-mod Pages
-mod Versions
+pub mod Pages

@@ -1,2 +1,5 @@
+pub mod Listed
 pub mod ShowChildren
 pub mod ShowObject
+pub mod ShowParents
+pub mod ShowVersions

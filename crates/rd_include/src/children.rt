@@ -3,8 +3,7 @@ ghost use Rattle.std.specs.Prelude.{◌≡◌, IfOk, map};
 ghost use Rattle.map_keys.specs.Parts.{pointee};
 ghost use Rattle.cm_base.specs.Judged.{Meets};
 ghost use Rattle.cmis_spec.specs.Access.{children_of};
-ghost use Rattle.rd_lists.specs.ReadParents.{segment_of};
-ghost use Rattle.rd_include.specs.ShowChildren.{answer_show_children, answer_show_children_in, included_child, included_children};
+ghost use Rattle.rd_include.specs.ShowChildren.{answer_ordered_children, answer_show_children, answer_show_children_in, included_child, included_children};
 
 use cm_base::cause::Cause;
 use cm_base::fail::Fail;
@@ -15,29 +14,14 @@ use cm_base::text::Text;
 use cm_include::included::{View, included_object};
 use cm_see::child::children_of;
 use cm_show::address::addressed;
-use cm_state::look::entry_of;
 use cm_state::state::State;
 use cm_types::definition::BaseType;
 use include_parts::readings::ShowChildren;
 use include_parts::replies::{IncludedChildrenReply, IncludedMember, IncludedMembers};
+use rd_lists::folders::segment_of;
 use rd_nav::page::{has_more, page};
+use rd_order::ordered::ordered;
 use std::alloc::{AllocError, Global};
-
-/// The name that the object has in its folders, where it is asked for.
-pub(crate) fn segment(
-    alloc: Global,
-    state: &State,
-    asked: bool,
-    x: &Object,
-) -> Result<Option<Text>, AllocError>
-    ensures { IfOk result (λ s. s ≡ segment_of state.now asked x.now) }
-{
-    if !asked {
-        return Ok(None);
-    }
-    let name = state.entry_text(entry_of(x));
-    Ok(Some(Text::from_str(alloc, name)?))
-}
 
 fn included_child(
     alloc: Global,
@@ -56,7 +40,7 @@ fn included_child(
         includes: &q.includes,
     };
     let object = included_object(alloc, view, x)?;
-    let segment = segment(alloc, state, q.segments, x)?;
+    let segment = segment_of(alloc, state, q.segments, x)?;
     Ok(IncludedMember { object, segment })
 }
 
@@ -96,17 +80,19 @@ fn included_children(
     })
 }
 
+// The children of the folder are put in order before the page is cut.
+#[tactic(auto, using(cm_types::proofs::Exits::fails_bind))]
 fn children_in(
     alloc: Global,
     state: &State,
     user: &Text,
     q: &ShowChildren,
     folder: Oid,
-) -> Result<IncludedChildrenReply, AllocError>
-    ensures { IfOk result (λ reply. reply
-        ≡ included_children state.now user.now q.now (children_of state.now user.now folder)) }
+) -> Result<IncludedChildrenReply, Fail>
+    ensures { Meets (λ y. y) result (answer_ordered_children state.now user.now q.now folder) }
 {
-    let children = children_of(alloc, state, user, folder)?;
+    let read = children_of(alloc, state, user, folder)?;
+    let children = ordered(alloc, state, user, read, &q.order)?;
     let reply = included_children(alloc, state, user, q, &children)?;
     Ok(reply)
 }
@@ -123,12 +109,12 @@ fn children_of_folder(
     if !state.is_a(BaseType::Folder, x) {
         return Err(Fail::Refused(Cause::WrongKind));
     }
-    let reply = children_in(alloc, state, user, q, x.id)?;
-    Ok(reply)
+    children_in(alloc, state, user, q, x.id)
 }
 
-/// A page of the children that the caller reads, in the order of their numbers, with what is asked for beside their properties, and how
-/// many he reads in all. What is outside the page is counted and not shown. A folder that he doesn't read is not found.
+/// A page of the children that the caller reads, in the order that is asked for or else in that of their numbers, with what is asked
+/// for beside their properties, and how many he reads in all. What is outside the page is counted and not shown. A folder that he
+/// doesn't read is not found. An order by what no property is, or by one that is not orderable, is refused last.
 pub fn show_children(
     alloc: Global,
     state: &State,

@@ -5,5 +5,8 @@ ghost use Rattle.std.specs.Prelude.{◌≡◌};
 
 pub mod children;
 pub mod law;
+pub mod listed;
 pub mod object;
+pub mod parents;
 mod version;
+pub mod versions;

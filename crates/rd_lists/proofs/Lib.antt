@@ -1,4 +1,4 @@
 pub mod Among
 mod Filing
 pub mod Rising
-mod Seen
+pub mod Seen

@@ -1,33 +1,27 @@
 -- What is listed of an object that is seen alike in two repositories is the same.
-use Rattle.std.specs.Prelude.{◌≡◌, ℕ, Bool, true, false, if◌then◌else◌, List, [], ◌∷◌, ◌++◌, length, map, reverse, All, Option, Some, None, is_some, unwrap_or, option_map, option_and_then, Ok}
+use Rattle.std.specs.Prelude.{◌≡◌, ℕ, Bool, true, false, if◌then◌else◌, List, [], ◌∷◌, ◌++◌, map, reverse, All, Option, Some, None, is_some, unwrap_or, option_map, option_and_then}
 use Rattle.std.specs.List.{filter_map}
 use Rattle.std.specs.Option.{option_to_list}
 use Rattle.std.proofs.Common.{refl, sym, ap, subst, ◌∙◌}
 use Rattle.std.proofs.lemmas.List.{append-nil, reverse-append}
-use Rattle.std.proofs.lemmas.List.Elements.{All-nil, All-weaker}
+use Rattle.std.proofs.lemmas.List.Elements.{All-nil}
 use Rattle.core.specs.List.{cons_option}
 use Rattle.cm_base.specs.declared.number.Oid.{Oid}
 use Rattle.cm_base.specs.declared.object.Object.{Object}
 use Rattle.cm_base.specs.declared.series.Series.{Series}
 use Rattle.cm_base.specs.declared.series.WorkingCopy.{WorkingCopy}
-use Rattle.cm_base.specs.declared.cause.Cause.TheVariants as causes
-use Rattle.cm_base.specs.Judged.{◌>>◌, refuse}
 use Rattle.cm_types.specs.declared.definition.BaseType.TheVariants as bases
-use Rattle.call_parts.specs.declared.readings.ReadParents.{ReadParents}
 use Rattle.cmis_spec.specs.Repository.{Repository, same, root, is_a, series_of, owner_of, entry_of, is_filed, parent_in}
 use Rattle.cmis_spec.specs.Access.{read_at, parents_of}
 use Rattle.cmis_spec.specs.Seen.{SeenSeries, seen_series, is_read}
 use Rattle.cmis_laws.proofs.Lists.{by_test, none_some, same_eq}
-use Rattle.seen_laws.proofs.Lists.{map_same}
 use Rattle.seen_laws.proofs.Looks.{first_of, seen_name}
 use Rattle.seen_laws.proofs.Objects.{IsHere, here_read, sees_name}
 use Rattle.seen_laws.proofs.Paths.{sees_up}
-use Rattle.seen_laws.proofs.Shown.{shown_alike}
 use Rattle.seen_laws.proofs.Worlds.{AreAlike, AreFound, IsAlike, IsFound, read_at_alike}
-use Rattle.rd_lists.specs.Listed.{is_too_long}
+use Rattle.rd_lists.specs.Folders.{folders_of, segment_of}
 use Rattle.rd_lists.specs.ReadParent.{parent_of}
-use Rattle.rd_lists.specs.ReadParents.{folders_of, parents_reply, segment_of, shown_parent}
-use Rattle.rd_lists.specs.ReadVersions.{latest_first, versions_of}
+use Rattle.rd_lists.specs.Versions.{latest_first, versions_of}
 use Rattle.rd_lists.proofs.Among.{among_alike, numbered_alike, passing_here}
 
 -- ---- versions
@@ -123,9 +117,3 @@ module _ (r other : Repository) (u : List ℕ) (a : AreAlike r other u) (x : Obj
 
   pub segment_alike : (asked : Bool) → segment_of r asked x ≡ segment_of other asked x
   segment_alike asked = ap (λ name. if asked then Some name else None) (sees_name r u x a.well h.here.0 ∙ (ap seen_name h.alike ∙ sym (sees_name other u x a.other_well h.there.0)))
-
-  pub reply_alike : (q : ReadParents) (segment : Option (List ℕ)) (fs gs : List Object) → AreFound r other u fs gs → parents_reply r u q segment fs ≡ parents_reply other u q segment gs
-  reply_alike q segment fs gs found =
-      ap (λ shown. refuse (causes.TooMany (length fs)) (is_too_long (length fs)) >> Ok (record { parents = shown })) (map_same (shown_parent r u q segment) (shown_parent other u q segment) fs
-      (All-weaker (IsAlike r other u) (λ f. shown_parent r u q segment f ≡ shown_parent other u q segment f) (λ f k. ap (λ o. record { object = o; segment = segment }) (shown_alike r other u a f k q.filter q.succinct)) fs found.each))
-      ∙ ap (parents_reply other u q segment) found.same

@@ -1,4 +1,4 @@
+pub mod Folders
 pub mod Listed
 pub mod ReadParent
-pub mod ReadParents
-pub mod ReadVersions
+pub mod Versions

@@ -1,11 +1,11 @@
-//! Readings that answer all objects of a kind at once: the versions of a document, the parent of a folder, the folders of an object.
+//! Lists of objects that the caller reads: the versions of a document, the folders of an object, and the parent of a folder as an answer.
 #![tactic(auto)]
 
 ghost use Rattle.std.specs.Prelude.{◌≡◌};
 
+pub mod folders;
 pub mod law;
 pub mod listed;
 pub mod number;
 pub mod parent;
-pub mod parents;
 pub mod versions;

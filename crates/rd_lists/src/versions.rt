@@ -2,24 +2,16 @@
 ghost use Rattle.std.specs.Prelude.{◌≡◌, ◌++◌, IfOk, OnOk, map};
 ghost use Rattle.std.specs.List.{filter_map};
 ghost use Rattle.map_keys.specs.Parts.{pointee};
-ghost use Rattle.cm_base.specs.Judged.{Meets};
 ghost use Rattle.cmis_spec.specs.Access.{read_at};
 ghost use Rattle.cmis_spec.specs.Well.{copy_in};
-ghost use Rattle.rd_lists.specs.ReadVersions.{answer_versions, answer_versions_of, latest_first, versions_of};
+ghost use Rattle.rd_lists.specs.Versions.{latest_first, versions_of};
 
-use crate::listed::objects_reply;
 use crate::number::read_among;
-use call_parts::readings::ReadVersions;
-use call_parts::replies::ObjectsReply;
-use cm_base::cause::Cause;
-use cm_base::fail::Fail;
 use cm_base::number::Oid;
 use cm_base::object::Object;
 use cm_base::series::{DocumentVersion, Series};
 use cm_base::text::Text;
-use cm_show::address::addressed;
 use cm_state::state::State;
-use cm_types::definition::BaseType;
 use std::alloc::{AllocError, Global};
 
 fn numbers_of(alloc: Global, versions: &[DocumentVersion]) -> Result<Vec<Oid>, AllocError>
@@ -67,7 +59,9 @@ fn versions_in<'a>(
     Ok(all)
 }
 
-fn versions_of<'a>(
+/// The working copy of the document's series, where the caller reads it, and then the versions that he reads from the latest to the
+/// first. Any version names its series; what is no document has none.
+pub fn versions_of<'a>(
     alloc: Global,
     state: &'a State,
     user: &Text,
@@ -81,38 +75,5 @@ fn versions_of<'a>(
             Ok(all)
         }
         None => Ok(Vec::new(alloc)),
-    }
-}
-
-fn answer_versions_of(
-    alloc: Global,
-    state: &State,
-    user: &Text,
-    q: &ReadVersions,
-    x: &Object,
-) -> Result<ObjectsReply, Fail>
-    ensures { Meets (λ y. y) result (answer_versions_of state.now user.now q.now x.now) }
-{
-    if !state.is_a(BaseType::Document, x) {
-        return Err(Fail::Refused(Cause::WrongKind));
-    }
-    let versions = versions_of(alloc, state, user, x)?;
-    objects_reply(alloc, state, user, &q.filter, q.succinct, &versions)
-}
-
-/// The working copy of the document's series, where the caller reads it, and then the versions from the latest to the first. Any
-/// version names its series. What the caller doesn't read is not found; what is no document is of the wrong kind; more than 5000
-/// objects are too many.
-pub fn versions(
-    alloc: Global,
-    state: &State,
-    user: &Text,
-    q: &ReadVersions,
-) -> Result<ObjectsReply, Fail>
-    ensures { Meets (λ y. y) result (answer_versions state.now user.now q.now) }
-{
-    match addressed(state, user, &q.place) {
-        Some(x) => answer_versions_of(alloc, state, user, q, x),
-        None => Err(Fail::Refused(Cause::NotFound)),
     }
 }

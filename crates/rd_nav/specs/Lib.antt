@@ -1,1 +1,2 @@
 pub mod ReadChildren
+pub mod ReadObject

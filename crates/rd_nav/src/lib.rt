@@ -1,8 +1,6 @@
-//! Readings along the folder tree.
+//! Pages of lists; and the answers about objects and children that are shown with their properties alone, as definitions.
 #![tactic(auto)]
 
 ghost use Rattle.std.specs.Prelude.{◌≡◌};
 
-pub mod children;
-pub mod law;
 pub mod page;

@@ -1,4 +1,5 @@
 mod Above
 mod Alike
+mod Beside
 mod Found
 mod Pages

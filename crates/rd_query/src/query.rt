@@ -44,12 +44,19 @@ fn answer_bound(
     ensures { IfOk result (λ reply. reply ≡ answer_bound state.now user.now q.now bound.now) }
 {
     let rows = rows(alloc, state, user, bound, q.all_versions)?;
-    let reply = query_reply(alloc, q, bound.columns.as_slice(), rows.as_slice())?;
+    let reply = query_reply(
+        alloc,
+        state,
+        user,
+        q,
+        bound.columns.as_slice(),
+        rows.as_slice(),
+    )?;
     Ok(reply)
 }
 
-/// A page of the rows that the statement finds for the user, in its order, and how many it finds in all. A statement that is none, or
-/// that names or uses a type or a column wrongly, is refused with the first cause.
+/// A page of the rows that the statement finds for the user, in its order, each with what is asked for beside its columns, and how many
+/// it finds in all. A statement that is none, or that names or uses a type or a column wrongly, is refused with the first cause.
 pub fn query(alloc: Global, state: &State, user: &Text, q: &ReadQuery) -> Result<QueryReply, Fail>
     ensures { Meets (λ y. y) result (answer_query state.now user.now q.now) }
 {

@@ -3,17 +3,20 @@ ghost use Rattle.std.specs.Prelude.{◌≡◌, bytes_eq, find, map, IfOk};
 ghost use Rattle.std.specs.Option.{option_copied};
 ghost use Rattle.map_keys.specs.Parts.{pointee};
 ghost use Rattle.cm_types.specs.Properties.{value_in};
-ghost use Rattle.rd_query.specs.ReadQuery.{cell_of, query_reply, shown_row, slot_of};
+ghost use Rattle.rd_query.specs.ReadQuery.{cell_of, nothing_beside, query_reply, query_row, row_beside, shown_row, slot_of};
 
 use call_parts::replies::ShownProperty;
 use cm_base::copies::Copies;
 use cm_base::items::Items;
 use cm_base::text::Text;
 use cm_base::value::{Slot, Value, Values};
+use cm_include::included::shown_beside;
+use cm_state::state::State;
+use include_parts::replies::ShownBeside;
 use ql_bind::bound::ShownColumn;
 use ql_eval::row::Row;
 use query_parts::readings::ReadQuery;
-use query_parts::replies::{QueryReply, ShownCell, ShownCells, ShownRow, ShownRows};
+use query_parts::replies::{QueryReply, QueryRow, QueryRows, ShownCell, ShownCells, ShownRow};
 use rd_nav::page::{has_more, page};
 use std::alloc::{AllocError, Global};
 
@@ -95,17 +98,65 @@ fn shown_row(
     }
 }
 
-fn shown_rows(
+fn nothing_beside() -> ShownBeside
+    ensures { result ≡ nothing_beside }
+{
+    ShownBeside {
+        actions: None,
+        relationships: None,
+        renditions: None,
+        policy_ids: None,
+        acl: None,
+    }
+}
+
+// What is asked for beside the columns, of the row's object.
+fn row_beside(
     alloc: Global,
-    succinct: bool,
+    state: &State,
+    user: &Text,
+    q: &ReadQuery,
+    row: &Row,
+) -> Result<ShownBeside, AllocError>
+    ensures { IfOk result (λ b. b ≡ row_beside state.now user.now q.now row.now) }
+{
+    match state.object(row.id) {
+        Some(x) => shown_beside(alloc, state, user, q.succinct, &q.includes, x),
+        None => Ok(nothing_beside()),
+    }
+}
+
+fn query_row(
+    alloc: Global,
+    state: &State,
+    user: &Text,
+    q: &ReadQuery,
+    columns: &[ShownColumn],
+    row: &Row,
+) -> Result<QueryRow, AllocError>
+    ensures { IfOk result (λ s. s ≡ query_row state.now user.now q.now columns.now row.now) }
+{
+    let shown = shown_row(alloc, q.succinct, columns, row)?;
+    let beside = row_beside(alloc, state, user, q, row)?;
+    Ok(QueryRow {
+        columns: shown,
+        beside,
+    })
+}
+
+fn query_rows(
+    alloc: Global,
+    state: &State,
+    user: &Text,
+    q: &ReadQuery,
     columns: &[ShownColumn],
     rows: &[&Row],
-) -> Result<ShownRows, AllocError>
-    ensures { IfOk result (λ all. all ≡ map (shown_row succinct columns.now) (map pointee rows.now)) }
+) -> Result<QueryRows, AllocError>
+    ensures { IfOk result (λ all. all ≡ map (query_row state.now user.now q.now columns.now) (map pointee rows.now)) }
 {
     let mut all = Items::new(alloc);
     for row in rows {
-        all.push(shown_row(alloc, succinct, columns, row)?)?;
+        all.push(query_row(alloc, state, user, q, columns, row)?)?;
     }
     Ok(all)
 }
@@ -123,14 +174,16 @@ fn rows_of<'a>(alloc: Global, rows: &'a [Row]) -> Result<Vec<&'a Row>, AllocErro
 
 fn page_reply(
     alloc: Global,
+    state: &State,
+    user: &Text,
     q: &ReadQuery,
     columns: &[ShownColumn],
     rows: &[&Row],
 ) -> Result<QueryReply, AllocError>
-    ensures { IfOk result (λ reply. reply ≡ query_reply q.now columns.now (map pointee rows.now)) }
+    ensures { IfOk result (λ reply. reply ≡ query_reply state.now user.now q.now columns.now (map pointee rows.now)) }
 {
     let shown = page(q.skip_count, q.max_items, rows);
-    let all = shown_rows(alloc, q.succinct, columns, shown)?;
+    let all = query_rows(alloc, state, user, q, columns, shown)?;
     Ok(QueryReply {
         rows: all,
         has_more_items: has_more(q.skip_count, q.max_items, rows),
@@ -138,16 +191,18 @@ fn page_reply(
     })
 }
 
-/// The reply: the columns of each row of the page; what is outside the page is counted and not shown.
+/// The reply: of each row of the page the columns, and what is asked for beside them; what is outside the page is counted and not shown.
 pub(crate) fn query_reply(
     alloc: Global,
+    state: &State,
+    user: &Text,
     q: &ReadQuery,
     columns: &[ShownColumn],
     rows: &[Row],
 ) -> Result<QueryReply, AllocError>
-    ensures { IfOk result (λ reply. reply ≡ query_reply q.now columns.now rows.now) }
+    ensures { IfOk result (λ reply. reply ≡ query_reply state.now user.now q.now columns.now rows.now) }
 {
     let all = rows_of(alloc, rows)?;
-    let reply = page_reply(alloc, q, columns, &all)?;
+    let reply = page_reply(alloc, state, user, q, columns, &all)?;
     Ok(reply)
 }

@@ -3,7 +3,7 @@ ghost use Rattle.std.specs.Prelude.{ℕ, List};
 ghost use Rattle.cm_base.specs.declared.number.Oid.{Oid};
 ghost use Rattle.cm_relationships.specs.Found.{relationships_of};
 ghost use Rattle.relationship_parts.specs.declared.readings.Direction.{Direction};
-ghost use Rattle.relationship_parts.specs.declared.readings.ReadRelationships.{ReadRelationships};
+ghost use Rattle.include_parts.specs.declared.readings.ShowRelationships.{ShowRelationships};
 ghost use Rattle.cmis_spec.specs.Repository.{Repository};
 ghost use Rattle.cmis_spec.specs.Seen.{OfSeen};
 ghost use Rattle.cmis_spec.specs.Well.{IsWellFormed};
@@ -17,6 +17,6 @@ pub fn read_of_seen()
 
 /// In two repositories in which the caller sees the same, he is answered the same about the relationships of an object.
 pub fn relationships_of_seen()
-    ensures { (r : Repository) (u : List ℕ) (q : ReadRelationships) → IsWellFormed r
+    ensures { (r : Repository) (u : List ℕ) (q : ShowRelationships) → IsWellFormed r
         → OfSeen (λ s. answer_relationships s u q) r u (answer_relationships r u q) }
 {}

@@ -2,24 +2,22 @@
 ghost use Rattle.std.specs.Prelude.{◌≡◌, ◌++◌, filter, map, IfOk, OnOk};
 ghost use Rattle.map_keys.specs.Parts.{pointee};
 ghost use Rattle.cm_base.specs.Judged.{Meets};
-ghost use Rattle.cm_show.specs.Shown.{shown_object};
 ghost use Rattle.rd_relationships.specs.ReadRelationships.{answer_relationships, answer_relationships_of, asked_of, is_of_type, is_unknown, object_if, page_reply};
 
-use call_parts::replies::ShownObjects;
 use cm_base::cause::Cause;
 use cm_base::fail::Fail;
-use cm_base::items::Items;
 use cm_base::object::Object;
 use cm_base::text::Text;
+use cm_include::included::View;
 use cm_relationships::found::relationships_of;
 use cm_show::address::addressed;
-use cm_show::shown::shown_object;
 use cm_state::state::State;
 use cm_type_list::types::Types;
-use rd_nav::page::{has_more, page};
+use include_parts::readings::ShowRelationships;
+use include_parts::replies::IncludedPageReply;
+use rd_include::listed::included_page;
 use relationship_parts::readings::ReadRelationships;
 use std::alloc::{AllocError, Global};
-use tree_parts::replies::PageReply;
 
 fn is_unknown(types: &Types, kind: &Option<Text>) -> bool
     ensures { result ≡ is_unknown types.now kind.now }
@@ -92,53 +90,39 @@ fn asked_of<'a>(
     Ok(asked)
 }
 
-fn shown_all(
-    alloc: Global,
-    state: &State,
-    user: &Text,
-    q: &ReadRelationships,
-    objects: &[&Object],
-) -> Result<ShownObjects, AllocError>
-    ensures { IfOk result (λ all. all
-        ≡ map (shown_object state.now user.now q.now.filter q.now.succinct) (map pointee objects.now)) }
-{
-    let mut all = Items::new(alloc);
-    for x in objects {
-        all.push(shown_object(alloc, state, user, &q.filter, q.succinct, x)?)?;
-    }
-    Ok(all)
-}
-
 // The objects of the page are shown, and all are counted.
 fn page_reply(
     alloc: Global,
     state: &State,
     user: &Text,
-    q: &ReadRelationships,
+    q: &ShowRelationships,
     objects: &[&Object],
-) -> Result<PageReply, AllocError>
+) -> Result<IncludedPageReply, AllocError>
     ensures { IfOk result (λ reply. reply ≡ page_reply state.now user.now q.now (map pointee objects.now)) }
 {
-    let shown = page(q.skip_count, q.max_items, objects);
-    let all = shown_all(alloc, state, user, q, shown)?;
-    Ok(PageReply {
-        objects: all,
-        has_more_items: has_more(q.skip_count, q.max_items, objects),
-        num_items: objects.len() as u64,
-    })
+    let asked = &q.relationships;
+    let view = View {
+        state,
+        user,
+        filter: &asked.filter,
+        succinct: asked.succinct,
+        includes: &q.includes,
+    };
+    let reply = included_page(alloc, view, asked.skip_count, asked.max_items, objects)?;
+    Ok(reply)
 }
 
 fn asked_reply(
     alloc: Global,
     state: &State,
     user: &Text,
-    q: &ReadRelationships,
+    q: &ShowRelationships,
     x: &Object,
-) -> Result<PageReply, AllocError>
+) -> Result<IncludedPageReply, AllocError>
     ensures { IfOk result (λ reply. reply
-        ≡ page_reply state.now user.now q.now (asked_of state.now user.now q.now x.now)) }
+        ≡ page_reply state.now user.now q.now (asked_of state.now user.now q.now.relationships x.now)) }
 {
-    let all = asked_of(alloc, state, user, q, x)?;
+    let all = asked_of(alloc, state, user, &q.relationships, x)?;
     let reply = page_reply(alloc, state, user, q, &all)?;
     Ok(reply)
 }
@@ -147,12 +131,12 @@ fn relationships_at(
     alloc: Global,
     state: &State,
     user: &Text,
-    q: &ReadRelationships,
+    q: &ShowRelationships,
     x: &Object,
-) -> Result<PageReply, Fail>
+) -> Result<IncludedPageReply, Fail>
     ensures { Meets (λ y. y) result (answer_relationships_of state.now user.now q.now x.now) }
 {
-    if is_unknown(state.types(), &q.kind) {
+    if is_unknown(state.types(), &q.relationships.kind) {
         return Err(Fail::Refused(Cause::TypeNotFound));
     }
     let reply = asked_reply(alloc, state, user, q, x)?;
@@ -160,17 +144,17 @@ fn relationships_at(
 }
 
 /// A page of the relationships that the caller reads, at whose ends the object stands as the direction asks, of the type that is
-/// named, in the order of their numbers; and how many these are in all. What he doesn't read is not found, and a type that isn't there is
-/// not found. It visits what names the object as an end alone.
+/// named, in the order of their numbers, with what is asked for beside their properties; and how many these are in all. What he doesn't
+/// read is not found, and a type that isn't there is not found. It visits what names the object as an end alone.
 pub fn relationships(
     alloc: Global,
     state: &State,
     user: &Text,
-    q: &ReadRelationships,
-) -> Result<PageReply, Fail>
+    q: &ShowRelationships,
+) -> Result<IncludedPageReply, Fail>
     ensures { Meets (λ y. y) result (answer_relationships state.now user.now q.now) }
 {
-    match addressed(state, user, &q.place) {
+    match addressed(state, user, &q.relationships.place) {
         Some(x) => relationships_at(alloc, state, user, q, x),
         None => Err(Fail::Refused(Cause::NotFound)),
     }

@@ -12,7 +12,7 @@ use Rattle.cm_base.specs.Judged.{◌>>◌, refuse}
 use Rattle.cm_types.specs.declared.definition.BaseType.TheVariants as bases
 use Rattle.cm_types.specs.Types.{is_of_base}
 use Rattle.call_parts.specs.declared.place.Place.{Place}
-use Rattle.tree_parts.specs.declared.readings.ReadCheckedOut.{ReadCheckedOut}
+use Rattle.include_parts.specs.declared.readings.ShowCheckedOut.{ShowCheckedOut}
 use Rattle.cmis_spec.specs.Repository.{Repository, same, is_a, is_filed, object_at, series_of, owner_of, entry_of}
 use Rattle.cmis_spec.specs.Access.{reads, read_at, parents_of}
 use Rattle.cmis_spec.specs.Seen.{SeenObject, seen, seen_object, seen_series, is_read}
@@ -25,8 +25,9 @@ use Rattle.seen_laws.proofs.Lists.{any_numbered, filter_seen}
 use Rattle.seen_laws.proofs.Objects.{IsHere, here_read}
 use Rattle.seen_laws.proofs.Worlds.{AreAlike, AreFound, IsAlike}
 use Rattle.rd_lists.proofs.Among.{numbered_alike, passing_here}
-use Rattle.rd_trees.specs.ReadCheckedOut.{answer_checked_out_at, answer_checked_out_in, copies, is_copy, is_filed_at, page_reply}
-use Rattle.rd_trees.proofs.Pages.{page_alike}
+use Rattle.rd_trees.specs.ReadCheckedOut.{answer_checked_out_at, answer_checked_out_in, answer_ordered_copies, copies, is_copy, is_filed_at, page_reply}
+use Rattle.rd_include.proofs.Pages.{included_page_alike}
+use Rattle.rd_order.proofs.Alike.{answered_alike}
 
 and_true : (b : Bool) → (b && true) ≡ b
 and_true true = refl
@@ -104,15 +105,26 @@ copies_alike r other u a folder filed other_filed =
 
 -- ---- the answers
 
-in_folder_alike : (r other : Repository) (u : List ℕ) → AreAlike r other u → (q : ReadCheckedOut) (x : Object) → IsAlike r other u x → answer_checked_out_in r u q x ≡ answer_checked_out_in other u q x
+page_alike : (r other : Repository) (u : List ℕ) → AreAlike r other u → (q : ShowCheckedOut) (xs : List Object) → All (IsAlike r other u) xs → page_reply r u q xs ≡ page_reply other u q xs
+page_alike r other u a q xs each =
+    included_page_alike r other u a q.checked_out.filter q.checked_out.succinct q.includes q.checked_out.skip_count q.checked_out.max_items xs xs (record { same = refl; each = each })
+
+ordered_alike : (r other : Repository) (u : List ℕ) → AreAlike r other u → (q : ShowCheckedOut) (folder : Option Oid) → AreFound r other u (copies r u folder) (copies other u folder)
+    → answer_ordered_copies r u q folder ≡ answer_ordered_copies other u q folder
+ordered_alike r other u a q folder found =
+    answered_alike r other u a q.order (λ xs. Ok (page_reply r u q xs)) (λ xs. Ok (page_reply other u q xs))
+    (λ zs each. ap (λ y. Ok y) (page_alike r other u a q zs each))
+    (copies r u folder) (copies other u folder) found
+
+in_folder_alike : (r other : Repository) (u : List ℕ) → AreAlike r other u → (q : ShowCheckedOut) (x : Object) → IsAlike r other u x → answer_checked_out_in r u q x ≡ answer_checked_out_in other u q x
 in_folder_alike r other u a q x h =
-    ap (λ ts. refuse causes.WrongKind (not (is_of_base ts bases.Folder x.kind)) >> Ok (page_reply r u q (copies r u (Some x.id)))) (sym (ap (λ s. s.types) a.alike))
-    ∙ ap (λ y. refuse causes.WrongKind (not (is_a other bases.Folder x)) >> Ok y)
-    (page_alike r other u a q (copies r u (Some x.id)) (copies other u (Some x.id))
+    ap (λ ts. refuse causes.WrongKind (not (is_of_base ts bases.Folder x.kind)) >> answer_ordered_copies r u q (Some x.id)) (sym (ap (λ s. s.types) a.alike))
+    ∙ ap (λ y. refuse causes.WrongKind (not (is_a other bases.Folder x)) >> y)
+    (ordered_alike r other u a q (Some x.id)
     (copies_alike r other u a (Some x.id) (λ y. sees_filed r u x y a.well.numbers h.here) (λ y. sees_filed other u x y a.other_well.numbers h.there)))
 
-pub checked_out_alike : (r other : Repository) (u : List ℕ) → AreAlike r other u → (q : ReadCheckedOut) (place : Option Place) → answer_checked_out_at r u q place ≡ answer_checked_out_at other u q place
-checked_out_alike r other u a q None = ap Ok (page_alike r other u a q (copies r u None) (copies other u None) (copies_alike r other u a None (λ x. refl) (λ x. refl)))
+pub checked_out_alike : (r other : Repository) (u : List ℕ) → AreAlike r other u → (q : ShowCheckedOut) (place : Option Place) → answer_checked_out_at r u q place ≡ answer_checked_out_at other u q place
+checked_out_alike r other u a q None = ordered_alike r other u a q None (copies_alike r other u a None (λ x. refl) (λ x. refl))
 checked_out_alike r other u a q (Some place) = answer_alike r other u causes.NotFound (addressed r u place) (addressed other u place)
     (answer_checked_out_in r u q) (answer_checked_out_in other u q)
     (addressed_alike r other u place a) (in_folder_alike r other u a q)

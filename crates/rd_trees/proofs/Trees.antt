@@ -1,5 +1,5 @@
 -- The tree below a folder that is seen alike in two repositories is the same.
-use Rattle.std.specs.Prelude.{◌≡◌, ℕ, zero, suc, ◌+◌, Bool, ◌||◌, not, if◌then◌else◌, List, [], ◌∷◌, ◌++◌, length, map, filter, All, Some, None, Ok}
+use Rattle.std.specs.Prelude.{◌≡◌, ℕ, zero, suc, ◌+◌, Bool, ◌||◌, not, List, [], ◌∷◌, ◌++◌, length, map, filter, All, Ok}
 use Rattle.std.specs.List.{flat_map}
 use Rattle.std.proofs.Common.{refl, sym, ap, ◌∙◌}
 use Rattle.std.proofs.lemmas.List.Elements.{All-nil, All-cons, All-head, All-tail, All-append, All-filter, All-weaker}
@@ -8,17 +8,15 @@ use Rattle.cm_base.specs.declared.cause.Cause.TheVariants as causes
 use Rattle.cm_base.specs.Judged.{◌>>◌, refuse}
 use Rattle.cm_types.specs.declared.definition.BaseType.TheVariants as bases
 use Rattle.cm_types.specs.Types.{is_of_base}
-use Rattle.tree_parts.specs.declared.readings.ReadTree.{ReadTree}
+use Rattle.include_parts.specs.declared.readings.ShowTree.{ShowTree}
 use Rattle.cmis_spec.specs.Repository.{Repository, is_a}
 use Rattle.cmis_spec.specs.Access.{children_of}
+use Rattle.cm_include.proofs.Alike.{included_alike}
 use Rattle.seen_laws.proofs.Lists.{map_same}
-use Rattle.seen_laws.proofs.Looks.{seen_name}
-use Rattle.seen_laws.proofs.Objects.{sees_name}
-use Rattle.seen_laws.proofs.Shown.{shown_alike}
 use Rattle.seen_laws.proofs.Worlds.{AreAlike, AreFound, IsAlike, children_alike}
 use Rattle.rd_lists.specs.Listed.{is_too_long}
-use Rattle.rd_lists.specs.ReadParents.{segment_of}
-use Rattle.rd_trees.specs.ReadTree.{Placed, all_below, answer_tree_of, is_in_tree, placed, right_below, shown_row, tree_levels, tree_reply}
+use Rattle.rd_lists.proofs.Seen.{segment_alike}
+use Rattle.rd_trees.specs.ReadTree.{Placed, all_below, answer_tree_of, included_node, included_row, is_in_tree, placed, right_below, tree_levels, tree_reply}
 
 module _ (r other : Repository) (u : List ℕ) (a : AreAlike r other u) where
   in_tree_alike : (only : Bool) (xs ys : List Object) → AreFound r other u xs ys → AreFound r other u (filter (is_in_tree r only) xs) (filter (is_in_tree other only) ys)
@@ -57,25 +55,28 @@ module _ (r other : Repository) (u : List ℕ) (a : AreAlike r other u) where
   placed_alike only zero level xs h = (refl, All-nil IsPlacedAlike)
   placed_alike only (suc n) level xs h = level_alike only n level (λ ys k. placed_alike only n (level + 1) ys k) xs h
 
-  named_alike : (asked : Bool) (x : Object) → IsAlike r other u x → segment_of r asked x ≡ segment_of other asked x
-  named_alike asked x h = ap (λ name. if asked then Some name else None) (sees_name r u x a.well h.here.0 ∙ (ap seen_name h.alike ∙ sym (sees_name other u x a.other_well h.there.0)))
+  node_alike : (q : ShowTree) (x : Object) → IsAlike r other u x → included_node r u q x ≡ included_node other u q x
+  node_alike q x h =
+      let object = included_alike r other u a x h q.tree.filter q.tree.succinct q.includes in
+      let segment = segment_alike r other u a x h q.tree.segments in
+      (λ i. record { object = object i; segment = segment i })
 
-  row_alike : (q : ReadTree) (t : Placed) → IsPlacedAlike t → shown_row r u q t ≡ shown_row other u q t
-  row_alike q t h = λ i. record { level = t.0; object = shown_alike r other u a t.1 h q.filter q.succinct i; segment = named_alike q.segments t.1 h i }
+  row_alike : (q : ShowTree) (t : Placed) → IsPlacedAlike t → included_row r u q t ≡ included_row other u q t
+  row_alike q t h = ap (λ m. record { level = t.0; member = m }) (node_alike q t.1 h)
 
-  reply_alike : (q : ReadTree) (ts : List Placed) → All IsPlacedAlike ts → tree_reply r u q ts ≡ tree_reply other u q ts
+  reply_alike : (q : ShowTree) (ts : List Placed) → All IsPlacedAlike ts → tree_reply r u q ts ≡ tree_reply other u q ts
   reply_alike q ts h =
       ap (λ rows. refuse (causes.TooMany (length ts)) (is_too_long (length ts)) >> Ok (record { rows = rows }))
-      (map_same (shown_row r u q) (shown_row other u q) ts (All-weaker IsPlacedAlike (λ t. shown_row r u q t ≡ shown_row other u q t) (row_alike q) ts h))
+      (map_same (included_row r u q) (included_row other u q) ts (All-weaker IsPlacedAlike (λ t. included_row r u q t ≡ included_row other u q t) (row_alike q) ts h))
 
-  tree_alike : (q : ReadTree) (x : Object) → IsAlike r other u x → tree_reply r u q (all_below r u q x.id) ≡ tree_reply other u q (all_below other u q x.id)
+  tree_alike : (q : ShowTree) (x : Object) → IsAlike r other u x → tree_reply r u q (all_below r u q.tree x.id) ≡ tree_reply other u q (all_below other u q.tree x.id)
   tree_alike q x h =
-      let below = below_alike q.folders_only x h in
-      let all = placed_alike q.folders_only (tree_levels q.depth) 0 (right_below r u q.folders_only x.id) below.each in
-      reply_alike q (all_below r u q x.id) all.1
-      ∙ ap (tree_reply other u q) (all.0 ∙ ap (placed (tree_levels q.depth) other u q.folders_only 0) below.same)
+      let below = below_alike q.tree.folders_only x h in
+      let all = placed_alike q.tree.folders_only (tree_levels q.tree.depth) 0 (right_below r u q.tree.folders_only x.id) below.each in
+      reply_alike q (all_below r u q.tree x.id) all.1
+      ∙ ap (tree_reply other u q) (all.0 ∙ ap (placed (tree_levels q.tree.depth) other u q.tree.folders_only 0) below.same)
 
-  pub tree_of_alike : (q : ReadTree) (x : Object) → IsAlike r other u x → answer_tree_of r u q x ≡ answer_tree_of other u q x
+  pub tree_of_alike : (q : ShowTree) (x : Object) → IsAlike r other u x → answer_tree_of r u q x ≡ answer_tree_of other u q x
   tree_of_alike q x h =
-      ap (λ ts. refuse causes.WrongKind (not (is_of_base ts bases.Folder x.kind)) >> tree_reply r u q (all_below r u q x.id)) (sym (ap (λ s. s.types) a.alike))
+      ap (λ ts. refuse causes.WrongKind (not (is_of_base ts bases.Folder x.kind)) >> tree_reply r u q (all_below r u q.tree x.id)) (sym (ap (λ s. s.types) a.alike))
       ∙ ap (λ y. refuse causes.WrongKind (not (is_a other bases.Folder x)) >> y) (tree_alike q x h)

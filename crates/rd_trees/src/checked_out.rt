@@ -3,29 +3,27 @@ ghost use Rattle.std.specs.Prelude.{◌≡◌, ◌++◌, ◌&&◌, IfOk, OnOk, S
 ghost use Rattle.std.specs.Option.{option_copied};
 ghost use Rattle.map_keys.specs.Parts.{pointee};
 ghost use Rattle.cm_base.specs.Judged.{Meets};
-ghost use Rattle.cm_show.specs.Shown.{shown_object};
 ghost use Rattle.cmis_spec.specs.Access.{reads};
-ghost use Rattle.rd_trees.specs.ReadCheckedOut.{answer_checked_out, answer_checked_out_at, answer_checked_out_in, copies, is_copy, is_filed_at, page_reply};
+ghost use Rattle.rd_trees.specs.ReadCheckedOut.{answer_checked_out, answer_checked_out_at, answer_checked_out_in, answer_ordered_copies, copies, is_copy, is_filed_at, page_reply};
 ghost use Rattle.rd_trees.specs.Walks.{object_if};
 
 use call_parts::place::Place;
-use call_parts::replies::ShownObjects;
 use cm_base::cause::Cause;
 use cm_base::fail::Fail;
-use cm_base::items::Items;
 use cm_base::number::Oid;
 use cm_base::object::Object;
 use cm_base::text::Text;
+use cm_include::included::View;
 use cm_see::read::reads;
 use cm_show::address::addressed;
-use cm_show::shown::shown_object;
 use cm_state::look::entry_of;
 use cm_state::state::State;
 use cm_types::definition::BaseType;
-use rd_nav::page::{has_more, page};
+use include_parts::readings::ShowCheckedOut;
+use include_parts::replies::IncludedPageReply;
+use rd_include::listed::included_page;
+use rd_order::ordered::ordered;
 use std::alloc::{AllocError, Global};
-use tree_parts::readings::ReadCheckedOut;
-use tree_parts::replies::PageReply;
 
 fn is_filed_at(state: &State, folder: Option<Oid>, x: &Object) -> bool
     ensures { result ≡ is_filed_at state.now folder x.now }
@@ -82,53 +80,41 @@ fn copies<'a>(
     Ok(all)
 }
 
-fn shown_copies(
-    alloc: Global,
-    state: &State,
-    user: &Text,
-    q: &ReadCheckedOut,
-    copies: &[&Object],
-) -> Result<ShownObjects, AllocError>
-    ensures { IfOk result (λ all. all
-        ≡ map (shown_object state.now user.now q.now.filter q.now.succinct) (map pointee copies.now)) }
-{
-    let mut all = Items::new(alloc);
-    for x in copies {
-        all.push(shown_object(alloc, state, user, &q.filter, q.succinct, x)?)?;
-    }
-    Ok(all)
-}
-
 // The objects of the page are shown, and all are counted.
 fn page_reply(
     alloc: Global,
     state: &State,
     user: &Text,
-    q: &ReadCheckedOut,
+    q: &ShowCheckedOut,
     copies: &[&Object],
-) -> Result<PageReply, AllocError>
+) -> Result<IncludedPageReply, AllocError>
     ensures { IfOk result (λ reply. reply ≡ page_reply state.now user.now q.now (map pointee copies.now)) }
 {
-    let shown = page(q.skip_count, q.max_items, copies);
-    let objects = shown_copies(alloc, state, user, q, shown)?;
-    Ok(PageReply {
-        objects,
-        has_more_items: has_more(q.skip_count, q.max_items, copies),
-        num_items: copies.len() as u64,
-    })
+    let asked = &q.checked_out;
+    let view = View {
+        state,
+        user,
+        filter: &asked.filter,
+        succinct: asked.succinct,
+        includes: &q.includes,
+    };
+    let reply = included_page(alloc, view, asked.skip_count, asked.max_items, copies)?;
+    Ok(reply)
 }
 
-fn copies_reply(
+// The working copies are put in order before the page is cut.
+#[tactic(auto, using(cm_types::proofs::Exits::fails_bind))]
+fn ordered_copies(
     alloc: Global,
     state: &State,
     user: &Text,
-    q: &ReadCheckedOut,
+    q: &ShowCheckedOut,
     folder: Option<Oid>,
-) -> Result<PageReply, AllocError>
-    ensures { IfOk result (λ reply. reply
-        ≡ page_reply state.now user.now q.now (copies state.now user.now folder)) }
+) -> Result<IncludedPageReply, Fail>
+    ensures { Meets (λ y. y) result (answer_ordered_copies state.now user.now q.now folder) }
 {
-    let copies = copies(alloc, state, user, folder)?;
+    let read = copies(alloc, state, user, folder)?;
+    let copies = ordered(alloc, state, user, read, &q.order)?;
     let reply = page_reply(alloc, state, user, q, &copies)?;
     Ok(reply)
 }
@@ -137,25 +123,24 @@ fn checked_out_in(
     alloc: Global,
     state: &State,
     user: &Text,
-    q: &ReadCheckedOut,
+    q: &ShowCheckedOut,
     x: &Object,
-) -> Result<PageReply, Fail>
+) -> Result<IncludedPageReply, Fail>
     ensures { Meets (λ y. y) result (answer_checked_out_in state.now user.now q.now x.now) }
 {
     if !state.is_a(BaseType::Folder, x) {
         return Err(Fail::Refused(Cause::WrongKind));
     }
-    let reply = copies_reply(alloc, state, user, q, Some(x.id))?;
-    Ok(reply)
+    ordered_copies(alloc, state, user, q, Some(x.id))
 }
 
 fn checked_out_at(
     alloc: Global,
     state: &State,
     user: &Text,
-    q: &ReadCheckedOut,
+    q: &ShowCheckedOut,
     place: &Place,
-) -> Result<PageReply, Fail>
+) -> Result<IncludedPageReply, Fail>
     ensures { Meets (λ y. y) result (answer_checked_out_at state.now user.now q.now (Some place.now)) }
 {
     match addressed(state, user, place) {
@@ -164,22 +149,20 @@ fn checked_out_at(
     }
 }
 
-/// A page of the working copies that the caller reads, in the order of their numbers, and how many he reads in all: those whose series
-/// is filed in the folder that is addressed, or those of the whole repository. A folder that he doesn't read is not found; what is no
-/// folder is of the wrong kind. It goes through the objects of the repository once.
+/// A page of the working copies that the caller reads, in the order that is asked for or else in that of their numbers, with what is
+/// asked for beside their properties, and how many he reads in all: those whose series is filed in the folder that is addressed, or
+/// those of the whole repository. A folder that he doesn't read is not found; what is no folder is of the wrong kind; an order by what
+/// no property is, or by one that is not orderable, is refused last. It goes through the objects of the repository once.
 pub fn checked_out(
     alloc: Global,
     state: &State,
     user: &Text,
-    q: &ReadCheckedOut,
-) -> Result<PageReply, Fail>
+    q: &ShowCheckedOut,
+) -> Result<IncludedPageReply, Fail>
     ensures { Meets (λ y. y) result (answer_checked_out state.now user.now q.now) }
 {
-    match &q.place {
+    match &q.checked_out.place {
         Some(place) => checked_out_at(alloc, state, user, q, place),
-        None => {
-            let reply = copies_reply(alloc, state, user, q, None)?;
-            Ok(reply)
-        }
+        None => ordered_copies(alloc, state, user, q, None),
     }
 }

@@ -3,8 +3,7 @@ ghost use Rattle.std.specs.Prelude.{◌≡◌, ◌+◌, ◌≤◌, ◌++◌, ◌
 ghost use Rattle.map_keys.specs.Parts.{pointee};
 ghost use Rattle.cm_base.specs.Judged.{Meets};
 ghost use Rattle.cmis_spec.specs.Repository.{levels_up};
-ghost use Rattle.rd_lists.specs.ReadParents.{segment_of};
-ghost use Rattle.rd_trees.specs.ReadTree.{all_below, answer_tree, answer_tree_of, is_in_tree, placed, right_below, shown_row, tree_levels, tree_reply};
+ghost use Rattle.rd_trees.specs.ReadTree.{all_below, answer_tree, answer_tree_of, included_node, included_row, is_in_tree, placed, right_below, tree_levels, tree_reply};
 ghost use Rattle.rd_trees.specs.Walks.{node_shown, nodes_shown};
 
 use cm_base::cause::Cause;
@@ -13,22 +12,23 @@ use cm_base::items::Items;
 use cm_base::number::Oid;
 use cm_base::object::Object;
 use cm_base::text::Text;
+use cm_include::included::{View, included_object};
 use cm_see::child::children_of;
 use cm_see::tree::levels_up;
 use cm_show::address::addressed;
-use cm_show::shown::shown_object;
-use cm_state::look::entry_of;
 use cm_state::state::State;
 use cm_types::definition::BaseType;
+use include_parts::readings::ShowTree;
+use include_parts::replies::{IncludedMember, IncludedRow, IncludedRows, IncludedTreeReply};
+use rd_lists::folders::segment_of;
 use rd_lists::listed::is_too_long;
 use std::alloc::{AllocError, Global};
 use tree_parts::readings::ReadTree;
-use tree_parts::replies::{TreeReply, TreeRow, TreeRows};
 use type_parts::readings::Depth;
 
 /// What a tree is read of: whose, and whether it has folders alone.
 #[derive(Clone, Copy)]
-pub(crate) struct View<'a> {
+pub(crate) struct Scope<'a> {
     pub(crate) state: &'a State,
     pub(crate) user: &'a Text,
     pub(crate) folders_only: bool,
@@ -89,14 +89,14 @@ fn kept<'a>(
 
 fn right_below<'a>(
     alloc: Global,
-    view: View<'a>,
+    scope: Scope<'a>,
     folder: Oid,
 ) -> Result<Vec<&'a Object>, AllocError>
     ensures { IfOk result (λ all. map pointee all.items
-        ≡ right_below view.entry.state.now view.entry.user.now view.entry.folders_only folder) }
+        ≡ right_below scope.entry.state.now scope.entry.user.now scope.entry.folders_only folder) }
 {
-    let children = children_of(alloc, view.state, view.user, folder)?;
-    let all = kept(alloc, view.state, view.folders_only, &children)?;
+    let children = children_of(alloc, scope.state, scope.user, folder)?;
+    let all = kept(alloc, scope.state, scope.folders_only, &children)?;
     Ok(all)
 }
 
@@ -116,22 +116,22 @@ fn push_node<'a>(
 fn add_nodes<'a>(
     alloc: Global,
     nodes: &mut Vec<Node<'a>>,
-    view: View<'a>,
+    scope: Scope<'a>,
     levels: u64,
     level: u64,
     tops: &[&'a Object],
 ) -> Result<(), AllocError>
     requires room { level + levels ≤ levels_up }
     ensures { OnOk result (nodes_shown nodes.new.items ≡ nodes_shown nodes.old.items
-        ++ placed levels view.entry.state.now view.entry.user.now view.entry.folders_only level (map pointee tops.now)) }
+        ++ placed levels scope.entry.state.now scope.entry.user.now scope.entry.folders_only level (map pointee tops.now)) }
 {
     if levels == 0 {
         return Ok(());
     }
     for x in tops {
         push_node(nodes, level, *x)?;
-        let below = right_below(alloc, view, x.id)?;
-        add_nodes(alloc, nodes, view, levels - 1, level + 1, &below)?;
+        let below = right_below(alloc, scope, x.id)?;
+        add_nodes(alloc, nodes, scope, levels - 1, level + 1, &below)?;
     }
     Ok(())
 }
@@ -145,62 +145,66 @@ fn all_below<'a>(
 ) -> Result<Vec<Node<'a>>, AllocError>
     ensures { IfOk result (λ all. nodes_shown all.items ≡ all_below state.now user.now q.now folder) }
 {
-    let view = View {
+    let scope = Scope {
         state,
         user,
         folders_only: q.folders_only,
     };
-    let tops = right_below(alloc, view, folder)?;
+    let tops = right_below(alloc, scope, folder)?;
     let mut nodes = Vec::new(alloc);
-    add_nodes(alloc, &mut nodes, view, tree_levels(q.depth), 0, &tops)?;
+    add_nodes(alloc, &mut nodes, scope, tree_levels(q.depth), 0, &tops)?;
     Ok(nodes)
 }
 
-fn segment(
-    alloc: Global,
-    state: &State,
-    asked: bool,
-    x: &Object,
-) -> Result<Option<Text>, AllocError>
-    ensures { IfOk result (λ s. s ≡ segment_of state.now asked x.now) }
-{
-    if !asked {
-        return Ok(None);
-    }
-    let name = state.entry_text(entry_of(x));
-    Ok(Some(Text::from_str(alloc, name)?))
-}
-
-fn shown_row(
+fn included_node(
     alloc: Global,
     state: &State,
     user: &Text,
-    q: &ReadTree,
-    node: &Node<'_>,
-) -> Result<TreeRow, AllocError>
-    ensures { IfOk result (λ row. row ≡ shown_row state.now user.now q.now (node_shown node.now)) }
+    q: &ShowTree,
+    x: &Object,
+) -> Result<IncludedMember, AllocError>
+    ensures { IfOk result (λ m. m ≡ included_node state.now user.now q.now x.now) }
 {
-    let object = shown_object(alloc, state, user, &q.filter, q.succinct, node.object)?;
-    let segment = segment(alloc, state, q.segments, node.object)?;
-    Ok(TreeRow {
+    let view = View {
+        state,
+        user,
+        filter: &q.tree.filter,
+        succinct: q.tree.succinct,
+        includes: &q.includes,
+    };
+    let object = included_object(alloc, view, x)?;
+    let segment = segment_of(alloc, state, q.tree.segments, x)?;
+    Ok(IncludedMember { object, segment })
+}
+
+fn included_row(
+    alloc: Global,
+    state: &State,
+    user: &Text,
+    q: &ShowTree,
+    node: &Node<'_>,
+) -> Result<IncludedRow, AllocError>
+    ensures { IfOk result (λ row. row ≡ included_row state.now user.now q.now (node_shown node.now)) }
+{
+    let member = included_node(alloc, state, user, q, node.object)?;
+    Ok(IncludedRow {
         level: node.level,
-        object,
-        segment,
+        member,
     })
 }
 
-fn shown_rows(
+fn included_rows(
     alloc: Global,
     state: &State,
     user: &Text,
-    q: &ReadTree,
+    q: &ShowTree,
     nodes: &[Node<'_>],
-) -> Result<TreeRows, AllocError>
-    ensures { IfOk result (λ rows. rows ≡ map (shown_row state.now user.now q.now) (nodes_shown nodes.now)) }
+) -> Result<IncludedRows, AllocError>
+    ensures { IfOk result (λ rows. rows ≡ map (included_row state.now user.now q.now) (nodes_shown nodes.now)) }
 {
     let mut rows = Items::new(alloc);
     for node in nodes {
-        rows.push(shown_row(alloc, state, user, q, node)?)?;
+        rows.push(included_row(alloc, state, user, q, node)?)?;
     }
     Ok(rows)
 }
@@ -209,42 +213,48 @@ fn tree_reply(
     alloc: Global,
     state: &State,
     user: &Text,
-    q: &ReadTree,
+    q: &ShowTree,
     nodes: &[Node<'_>],
-) -> Result<TreeReply, Fail>
+) -> Result<IncludedTreeReply, Fail>
     ensures { Meets (λ y. y) result (tree_reply state.now user.now q.now (nodes_shown nodes.now)) }
 {
     let count = nodes.len() as u64;
     if is_too_long(count) {
         return Err(Fail::Refused(Cause::TooMany(count)));
     }
-    let rows = shown_rows(alloc, state, user, q, nodes)?;
-    Ok(TreeReply { rows })
+    let rows = included_rows(alloc, state, user, q, nodes)?;
+    Ok(IncludedTreeReply { rows })
 }
 
 fn tree_of(
     alloc: Global,
     state: &State,
     user: &Text,
-    q: &ReadTree,
+    q: &ShowTree,
     x: &Object,
-) -> Result<TreeReply, Fail>
+) -> Result<IncludedTreeReply, Fail>
     ensures { Meets (λ y. y) result (answer_tree_of state.now user.now q.now x.now) }
 {
     if !state.is_a(BaseType::Folder, x) {
         return Err(Fail::Refused(Cause::WrongKind));
     }
-    let nodes = all_below(alloc, state, user, q, x.id)?;
+    let nodes = all_below(alloc, state, user, &q.tree, x.id)?;
     tree_reply(alloc, state, user, q, &nodes)
 }
 
-/// The tree of the children that the caller reads, or of folders alone, so many levels deep: each object stands before those below it,
-/// and the children of one folder stand in the order of their numbers. A folder that the caller doesn't read is not found, what is no
-/// folder is of the wrong kind, and more than 5000 objects are too many. It visits the folders of the tree alone.
-pub fn tree(alloc: Global, state: &State, user: &Text, q: &ReadTree) -> Result<TreeReply, Fail>
+/// The tree of the children that the caller reads, or of folders alone, so many levels deep, with what is asked for beside their
+/// properties: each object stands before those below it, and the children of one folder stand in the order of their numbers. A folder
+/// that the caller doesn't read is not found, what is no folder is of the wrong kind, and more than 5000 objects are too many. It visits
+/// the folders of the tree alone.
+pub fn tree(
+    alloc: Global,
+    state: &State,
+    user: &Text,
+    q: &ShowTree,
+) -> Result<IncludedTreeReply, Fail>
     ensures { Meets (λ y. y) result (answer_tree state.now user.now q.now) }
 {
-    match addressed(state, user, &q.place) {
+    match addressed(state, user, &q.tree.place) {
         Some(x) => tree_of(alloc, state, user, q, x),
         None => Err(Fail::Refused(Cause::NotFound)),
     }

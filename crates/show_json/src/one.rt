@@ -4,7 +4,7 @@ ghost use Rattle.serde_json.specs.Written.{compact_text};
 ghost use Rattle.cm_base.specs.Judged.{Meets};
 ghost use Rattle.cm_show.specs.Shown.{shown_object};
 ghost use Rattle.object_json.specs.Objects.{shown_data};
-ghost use Rattle.rd_object.specs.ReadObject.{answer_addressed};
+ghost use Rattle.rd_nav.specs.ReadObject.{answer_addressed};
 ghost use Rattle.show_json.specs.Columns.{object_answer_text};
 
 use crate::column::columns_of;

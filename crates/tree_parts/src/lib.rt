@@ -1,5 +1,4 @@
-//! The arguments of the readings of trees of objects and of working copies, and what their replies hold.
+//! The arguments of the readings of trees of objects and of working copies.
 #![tactic(auto)]
 
 pub mod readings;
-pub mod replies;

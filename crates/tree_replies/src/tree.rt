@@ -4,36 +4,14 @@ ghost use Rattle.json_text.specs.Build.{with_field};
 ghost use Rattle.json_text.specs.Shown.{data_of, fields_of};
 ghost use Rattle.type_replies.specs.Shown.{standing};
 ghost use Rattle.type_replies.specs.Types.{behind, deeper};
-ghost use Rattle.tree_replies.specs.Trees.{children_fields, member_data, object_node, path_segment_fields, tree_data, trees_in, with_member};
+ghost use Rattle.tree_replies.specs.Trees.{children_fields, object_node, tree_data, trees_in, with_member};
 
-use cm_base::text::Text;
+use include_json::pages::member_json;
+use include_parts::replies::{IncludedMember, IncludedRow, IncludedTreeReply};
 use json_text::tree::{Fields, Json};
-use object_json::objects::object_json;
 use std::alloc::{AllocError, Global};
 use std::collections::VecDeque;
-use tree_parts::replies::{TreeReply, TreeRow};
 use type_replies::tree::{Tree, elements_of, front_is_deeper, put_front, take_deeper};
-
-fn put_segment(alloc: Global, fields: &mut Fields, segment: &Option<Text>) -> Result<(), AllocError>
-    ensures { OnOk result (fields_of fields.new
-        ≡ fold with_field (fields_of fields.old) (path_segment_fields segment.now)) }
-{
-    match segment {
-        Some(name) => fields.put(alloc, "pathSegment", Json::text(alloc, name.as_str())?),
-        None => Ok(()),
-    }
-}
-
-#[tactic(auto, unfolding(crate::specs::Trees::member_data))]
-fn member_json(alloc: Global, row: &TreeRow) -> Result<Json, AllocError>
-    ensures { IfOk result (λ j. data_of j ≡ member_data row.now) }
-{
-    let object = object_json(alloc, &row.object)?;
-    let mut fields = Fields::new(alloc);
-    fields.put(alloc, "object", object)?;
-    put_segment(alloc, &mut fields, &row.segment)?;
-    Ok(Json::object(fields))
-}
 
 // Takes the trees in front that stand deeper than the level, and puts them where there are any.
 #[tactic(auto, using(crate::proofs::Deeper::none_deeper, crate::proofs::Deeper::some_deeper))]
@@ -56,28 +34,36 @@ fn put_children(
 
 // Takes the trees in front that stand deeper than the object, which are below it.
 #[tactic(auto, unfolding(crate::specs::Trees::object_node))]
-fn node_json(alloc: Global, trees: &mut VecDeque<Tree>, row: &TreeRow) -> Result<Json, AllocError>
-    ensures node { IfOk result (λ j. data_of j
-        ≡ object_node row.now (deeper row.now.level (standing trees.old.items))) }
-    ensures left { OnOk result (standing trees.new.items ≡ behind row.now.level (standing trees.old.items)) }
+fn node_json(
+    alloc: Global,
+    trees: &mut VecDeque<Tree>,
+    level: u64,
+    member: &IncludedMember,
+) -> Result<Json, AllocError>
+    ensures node { IfOk result (λ j. data_of j ≡ object_node member.now (deeper level (standing trees.old.items))) }
+    ensures left { OnOk result (standing trees.new.items ≡ behind level (standing trees.old.items)) }
 {
-    let member = member_json(alloc, row)?;
+    let object = member_json(alloc, "pathSegment", member)?;
     let mut fields = Fields::new(alloc);
-    fields.put(alloc, "object", member)?;
-    put_children(alloc, &mut fields, trees, row.level)?;
+    fields.put(alloc, "object", object)?;
+    put_children(alloc, &mut fields, trees, level)?;
     Ok(Json::object(fields))
 }
 
-fn add_member(alloc: Global, trees: &mut VecDeque<Tree>, row: &TreeRow) -> Result<(), AllocError>
+fn add_member(
+    alloc: Global,
+    trees: &mut VecDeque<Tree>,
+    row: &IncludedRow,
+) -> Result<(), AllocError>
     ensures { OnOk result (standing trees.new.items ≡ with_member row.now (standing trees.old.items)) }
 {
-    let json = node_json(alloc, trees, row)?;
+    let json = node_json(alloc, trees, row.level, &row.member)?;
     put_front(trees, row.level, json)?;
     Ok(())
 }
 
 // The rows are gone through from the last one, so that what stands below an object is there before it.
-fn trees_in(alloc: Global, rows: &[TreeRow]) -> Result<VecDeque<Tree>, AllocError>
+fn trees_in(alloc: Global, rows: &[IncludedRow]) -> Result<VecDeque<Tree>, AllocError>
     ensures { IfOk result (λ trees. standing trees.items ≡ trees_in rows.now) }
 {
     let mut trees = VecDeque::new(alloc);
@@ -88,7 +74,7 @@ fn trees_in(alloc: Global, rows: &[TreeRow]) -> Result<VecDeque<Tree>, AllocErro
 }
 
 /// What stands below a folder, each object with what stands below it.
-pub fn tree_json(alloc: Global, reply: &TreeReply) -> Result<Json, AllocError>
+pub fn tree_json(alloc: Global, reply: &IncludedTreeReply) -> Result<Json, AllocError>
     ensures { IfOk result (λ j. data_of j ≡ tree_data reply.now) }
 {
     let trees = trees_in(alloc, reply.rows.as_slice())?;

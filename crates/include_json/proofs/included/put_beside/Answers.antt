@@ -8,7 +8,7 @@ use Rattle.include_json.proofs.included.put_beside.Goals as goal
 
 pub returns : goal.returns
 returns c =
-    let o = c.args.object.now in
+    let o = c.args.beside.now in
     c.in_ok-put_renditions.ensures
     ∙ (ap (λ ms. fold with_field ms (rendition_fields o.renditions)) (c.in_ok-put_relationships.ensures
     ∙ ap (λ ms. fold with_field ms (relationship_fields o.relationships)) (c.in_ok-put_policy_ids.ensures

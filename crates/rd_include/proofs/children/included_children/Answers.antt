@@ -3,7 +3,7 @@ use Rattle.std.proofs.lemmas.List.{length-map}
 use Rattle.map_keys.specs.Parts.{pointee}
 use Rattle.rd_nav.specs.ReadChildren.{has_more, page, page_size}
 use Rattle.rd_include.specs.ShowChildren.{included_child}
-use Rattle.rd_include.proofs.Pages.{page_mapped}
+use Rattle.rd_nav.proofs.Pages.{page_mapped}
 use Rattle.rd_include.proofs.children.included_children.Goals as goal
 
 pub returns : goal.returns

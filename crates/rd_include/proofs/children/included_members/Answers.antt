@@ -1,5 +1,5 @@
 use Rattle.rd_include.specs.ShowChildren.{included_child}
-use Rattle.rd_include.proofs.Listed.{shown_more}
+use Rattle.cm_include.proofs.Listed.{shown_more}
 use Rattle.rd_include.proofs.children.included_members.Goals as goal
 
 pub loop-x-preserved : goal.loop-x-preserved

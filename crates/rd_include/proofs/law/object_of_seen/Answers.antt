@@ -6,7 +6,7 @@ use Rattle.cm_include.proofs.Alike.{included_alike}
 use Rattle.seen_laws.proofs.Answers.{addressed_alike, answer_alike}
 use Rattle.seen_laws.proofs.Worlds.{AreAlike}
 use Rattle.rd_include.specs.ShowObject.{answer_version, included_reply, version_asked}
-use Rattle.rd_include.proofs.Versions.{version_alike}
+use Rattle.rd_include.proofs.Alike.{version_alike}
 use Rattle.rd_include.proofs.law.object_of_seen.Goals as goal
 
 pub returns : goal.returns

@@ -1,4 +1,4 @@
-use Rattle.rd_relationships.proofs.Alike.{relationships_alike}
+use Rattle.cm_include.proofs.Related.{relationships_alike}
 use Rattle.rd_relationships.proofs.law.read_of_seen.Goals as goal
 
 pub returns : goal.returns

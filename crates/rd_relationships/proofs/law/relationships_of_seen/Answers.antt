@@ -9,6 +9,6 @@ use Rattle.rd_relationships.proofs.law.relationships_of_seen.Goals as goal
 pub returns : goal.returns
 returns c r u q w other v e =
     let a : AreAlike r other u = record { well = w; other_well = v; alike = e } in
-    answer_alike r other u causes.NotFound (addressed r u q.place) (addressed other u q.place)
+    answer_alike r other u causes.NotFound (addressed r u q.relationships.place) (addressed other u q.relationships.place)
     (answer_relationships_of r u q) (answer_relationships_of other u q)
-    (addressed_alike r other u q.place a) (λ x h. relationships_of_alike r other u a q x)
+    (addressed_alike r other u q.relationships.place a) (λ x h. relationships_of_alike r other u a q x)

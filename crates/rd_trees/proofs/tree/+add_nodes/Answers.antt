@@ -14,9 +14,9 @@ pub loop-x-preserved : goal.loop-x-preserved
 loop-x-preserved t c =
     let levels = c.args.levels in
     let level = c.args.level in
-    let r = c.args.view.state.now in
-    let u = c.args.view.user.now in
-    let only = c.args.view.folders_only in
+    let r = c.args.scope.state.now in
+    let u = c.args.scope.user.now in
+    let only = c.args.scope.folders_only in
     let x = c.x-item.result in
     let shown : map pointee (take (c.loop-x.x-index + 1) c.args.tops.now) ≡ map pointee (take c.loop-x.x-index c.args.tops.now) ++ x.now ∷ [] =
     shown_more c.args.tops.now c.loop-x.x-index x c.loop-x-test.true c.x-item.is in

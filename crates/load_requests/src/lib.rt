@@ -1,0 +1,10 @@
+//! The requests of a load, as bytes.
+#![tactic(auto)]
+
+ghost use Rattle.std.specs.Prelude.{◌≡◌};
+
+mod posts;
+#[cfg(test)]
+mod tests;
+
+pub use posts::{request, requests};

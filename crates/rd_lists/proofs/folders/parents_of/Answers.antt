@@ -1,0 +1,15 @@
+use Rattle.std.proofs.Common.{ap, ◌∙◌}
+use Rattle.std.specs.List.{filter_map, list_any}
+use Rattle.cmis_spec.specs.Repository.{same}
+use Rattle.cmis_spec.specs.Access.{read_at}
+use Rattle.rd_lists.proofs.Filing.{parents_read}
+use Rattle.rd_lists.proofs.folders.parents_of.Goals as goal
+
+pub returns : goal.returns
+returns c =
+    let r = c.args.state.now in
+    let u = c.args.user.now in
+    c.in_ok-all.ensures
+    ∙ (ap (filter_map (read_at r u)) c.as_slice.ensures
+    ∙ parents_read r u c.args.n c.in_ok-rising.rising c.step-step.ensures.well c.in_ok-rising.ensures.rising
+    (λ m. c.in_ok-rising.ensures.members m ∙ ap (list_any (same m)) (c.deref.ensures.value ∙ (c.in_ok-numbers.ensures ∙ c.folders.ensures))))

@@ -1,0 +1,6 @@
+use Rattle.std.proofs.Common.{◌≡◌, map}
+use Rattle.map_keys.specs.Parts.{pointee}
+use Rattle.rd_lists.proofs.folders.values_of.Given as goal
+
+abbrev pub invariant-loop-entry : goal.invariant-loop-entry
+invariant-loop-entry l = l.all.items ≡ map (λ e. e.1) (map pointee l.yielded)

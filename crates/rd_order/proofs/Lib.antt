@@ -1,0 +1,5 @@
+pub mod Alike
+mod Keys
+mod Listed
+mod Rows
+mod Sorting

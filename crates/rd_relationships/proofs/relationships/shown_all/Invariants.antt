@@ -1,7 +1,0 @@
-use Rattle.std.proofs.Common.{◌≡◌, map, take}
-use Rattle.map_keys.specs.Parts.{pointee}
-use Rattle.cm_show.specs.Shown.{shown_object}
-use Rattle.rd_relationships.proofs.relationships.shown_all.Given as goal
-
-abbrev pub invariant-loop-x : goal.invariant-loop-x
-invariant-loop-x l = l.all ≡ map (shown_object l.state l.user l.q.filter l.q.succinct) (map pointee (take l.x-index l.objects))

@@ -1,7 +1,0 @@
-use Rattle.std.proofs.Common.{◌≡◌, map, take}
-use Rattle.rd_trees.specs.ReadTree.{shown_row}
-use Rattle.rd_trees.specs.Walks.{nodes_shown}
-use Rattle.rd_trees.proofs.tree.shown_rows.Given as goal
-
-abbrev pub invariant-loop-node : goal.invariant-loop-node
-invariant-loop-node l = l.rows ≡ map (shown_row l.state l.user l.q) (nodes_shown (take l.node-index l.nodes))
