@@ -1,8 +1,7 @@
 -- A folder that is not made.
-use Rattle.std.specs.Prelude.{◌≡◌, ℕ, [], not, ◌&&◌, ◌||◌, List, Option, Some, None, is_some, unwrap_or, option_map}
+use Rattle.std.specs.Prelude.{ℕ, [], not, ◌||◌, List}
 use Rattle.std.proofs.Common.{sym, subst}
 use Rattle.action_parts.specs.declared.action.Action.TheVariants as actions
-use Rattle.call_parts.specs.declared.place.Place.{Place}
 use Rattle.call_parts.specs.declared.writes.CreateFolder.{CreateFolder}
 use Rattle.cm_base.specs.declared.number.Moment.{Moment}
 use Rattle.cm_base.specs.declared.object.Object.{Object}

@@ -1,5 +1,5 @@
 -- Lists of lines of which one refuses, by the tests that they make.
-use Rattle.std.specs.Prelude.{◌≡◌, Bool, true, false, ◌&&◌, ◌||◌, not, Option, Some, None, Ok, Err, is_err}
+use Rattle.std.specs.Prelude.{◌≡◌, Bool, true, false, ◌&&◌, ◌||◌, not, Option, Some, Ok, Err}
 use Rattle.std.specs.Result.{is_ok}
 use Rattle.std.proofs.Common.{refl, arith}
 use Rattle.cm_base.specs.declared.object.Object.{Object}

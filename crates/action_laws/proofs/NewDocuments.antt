@@ -1,10 +1,9 @@
 -- A document that is not made.
-use Rattle.std.specs.Prelude.{◌≡◌, ℕ, [], not, ◌&&◌, ◌||◌, List, Option, Some, None, is_some, unwrap_or, option_map}
+use Rattle.std.specs.Prelude.{◌≡◌, ℕ, [], not, ◌||◌, List, Option, Some}
 use Rattle.std.proofs.Common.{sym, subst}
 use Rattle.action_parts.specs.declared.action.Action.TheVariants as actions
 use Rattle.call_parts.specs.declared.place.Place.{Place}
 use Rattle.call_parts.specs.declared.versions.CreateDocument.{CreateDocument}
-use Rattle.cm_base.specs.declared.number.Moment.{Moment}
 use Rattle.cm_base.specs.declared.object.Object.{Object}
 use Rattle.cm_base.specs.declared.access.Level.TheVariants as levels
 use Rattle.cm_base.specs.declared.cause.Cause.TheVariants as causes

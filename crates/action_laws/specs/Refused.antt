@@ -1,5 +1,5 @@
 -- An action that is shown as not allowed on an object, and a call that is refused (CMIS 1.1, section 2.2.4.6).
-use Rattle.std.specs.Prelude.{◌≡◌, ℕ, true, false, List, Option, Some, is_err}
+use Rattle.std.specs.Prelude.{◌≡◌, ℕ, true, false, List, Some, is_err}
 use Rattle.cm_base.specs.declared.object.Object.{Object}
 use Rattle.cm_base.specs.Judged.{Judged}
 use Rattle.call_parts.specs.declared.place.Place.{Place}

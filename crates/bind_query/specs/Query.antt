@@ -1,5 +1,5 @@
 -- The arguments of a query, judged in their order (CMIS 1.1, section 5.4).
-use Rattle.std.specs.Prelude.{ℕ, List, Bool, false, Option, Some, None, Ok}
+use Rattle.std.specs.Prelude.{ℕ, List, false, Option, Some, None, Ok}
 use Rattle.cm_base.specs.declared.argument.Argument.TheVariants as args
 use Rattle.cm_base.specs.declared.cause.Cause.TheVariants as causes
 use Rattle.cm_base.specs.Judged.{Judged, ◌>>=◌, find_or}

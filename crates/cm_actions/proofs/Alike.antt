@@ -1,40 +1,31 @@
 -- On an object that is read in two repositories in which the caller sees the same, he is allowed the same actions.
-use Rattle.std.specs.Prelude.{◌≡◌, ℕ, Bool, true, false, ◌&&◌, ◌||◌, not, if◌then◌else◌, List, map, Option, Some, None, is_some, unwrap_or, option_map, option_and_then, bytes_eq, codes}
+use Rattle.std.specs.Prelude.{◌≡◌, ℕ, Bool, true, false, ◌&&◌, not, if◌then◌else◌, List, map, Option, Some, None, is_some, unwrap_or, option_map, option_and_then, bytes_eq, codes}
 use Rattle.std.specs.Result.{is_ok}
 use Rattle.std.proofs.Common.{refl, sym, ap, ◌∙◌}
 use Rattle.cm_base.specs.declared.number.Oid.{Oid}
 use Rattle.cm_base.specs.declared.object.Object.{Object}
 use Rattle.cm_base.specs.declared.series.Series.{Series}
 use Rattle.cm_base.specs.declared.series.WorkingCopy.{WorkingCopy}
-use Rattle.cm_base.specs.declared.access.Ace.{Ace}
-use Rattle.cm_base.specs.declared.access.Level.{Level}
 use Rattle.cm_base.specs.declared.access.Level.TheVariants as levels
 use Rattle.cm_base.specs.declared.cause.Cause.{Cause}
 use Rattle.cm_base.specs.declared.cause.Cause.TheVariants as causes
 use Rattle.cm_base.specs.Judged.{judge_by}
-use Rattle.cm_types.specs.declared.definition.TypeDef.{TypeDef}
-use Rattle.cm_types.specs.declared.definition.BaseType.{BaseType}
 use Rattle.cm_types.specs.declared.definition.BaseType.TheVariants as bases
 use Rattle.cm_types.specs.Types.{type_in, is_of_base}
 use Rattle.cm_types.specs.Properties.{value_in, is_set}
 use Rattle.action_parts.specs.Actions.{all_actions}
-use Rattle.cmis_spec.specs.Repository.{Repository, same, root, is_a, entry_of, series_of, owner_of, is_latest, last_of}
+use Rattle.cmis_spec.specs.Repository.{Repository, same, root, entry_of, series_of, owner_of, is_latest, last_of}
 use Rattle.cmis_spec.specs.Access.{is_administrator, groups_of, aces_at, granted, greater, is_at_least, level_at, level_by_list, level_of_caller, read_at}
 use Rattle.cmis_spec.specs.Documents.{is_copy_of, is_working_copy, fixed_in, judge_changeable}
 use Rattle.cmis_spec.specs.Retention.{has_type, is_under_hold}
 use Rattle.cmis_spec.specs.Seen.{SeenSeries, seen_series, is_read}
 use Rattle.cmis_laws.proofs.Lists.{by_test, same_eq}
-use Rattle.cm_show.specs.Shown.{content_of, is_latest_version}
-use Rattle.wr_rules.specs.Documents.{bars_content, needs_content, is_versionable, is_checked_out}
+use Rattle.cm_show.specs.Shown.{is_latest_version}
+use Rattle.wr_rules.specs.Documents.{bars_content, needs_content, is_checked_out}
 use Rattle.seen_laws.proofs.Objects.{IsHere, here_read}
 use Rattle.seen_laws.proofs.Shown.{content_alike}
 use Rattle.seen_laws.proofs.Worlds.{AreAlike, IsAlike}
-use Rattle.cm_actions.specs.declared.grounds.Grounds.{Grounds}
-use Rattle.cm_actions.specs.declared.grounds.Kind.{Kind}
-use Rattle.cm_actions.specs.declared.grounds.Rights.{Rights}
-use Rattle.cm_actions.specs.declared.grounds.Rules.{Rules}
-use Rattle.cm_actions.specs.declared.grounds.Stage.{Stage}
-use Rattle.cm_actions.specs.Allowed.{actions_of, by_type, flag_of, grounds_of, kind_of, rights_of, rules_of, stage_of}
+use Rattle.cm_actions.specs.Allowed.{actions_of, flag_of, grounds_of, kind_of, rights_of, rules_of, stage_of}
 
 -- ---- a series, by what is seen of it
 

@@ -1,6 +1,6 @@
 -- What a change of the filing or of one object makes of the parts of a repository.
 use Rattle.std.specs.Prelude.{◌≡◌, ℕ, false, List, map, All}
-use Rattle.std.proofs.Common.{refl, sym, ap, ◌∙◌}
+use Rattle.std.proofs.Common.{sym, ap, ◌∙◌}
 use Rattle.std.specs.Arc.{arc_value}
 use Rattle.cm_base.specs.declared.number.Oid.{Oid}
 use Rattle.cm_base.specs.declared.filing.Filed.{Filed}
@@ -9,7 +9,7 @@ use Rattle.cm_types.specs.declared.definition.BaseType.TheVariants as bases
 use Rattle.cm_types.specs.Types.{is_of_base}
 use Rattle.cm_folder.specs.declared.entry.FilingEntry.{FilingEntry}
 use Rattle.cm_folder.specs.Filings.{pairs_of, retold}
-use Rattle.cmis_spec.specs.Repository.{Repository, same}
+use Rattle.cmis_spec.specs.Repository.{same}
 use Rattle.cm_state.specs.declared.parts.Parts.TheInside.{Inside}
 use Rattle.cm_state.specs.declared.lists.Lists.{Lists}
 use Rattle.cm_state.specs.Kept.{repository_of, IsParts}

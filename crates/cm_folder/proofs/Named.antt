@@ -1,5 +1,5 @@
 -- The children under a folder and a name: one more, and one less.
-use Rattle.std.proofs.Common.{◌≡◌, ℕ, ◌&&◌, Bool, true, false, cond, List, [], ◌∷◌, Option, Some, None, if◌then◌else◌, length, unwrap_or, refl, sym, ap, ◌∙◌, arith}
+use Rattle.std.proofs.Common.{◌≡◌, ℕ, ◌&&◌, true, List, [], ◌∷◌, Option, Some, None, if◌then◌else◌, length, unwrap_or, refl, sym, ap, ◌∙◌, arith}
 use Rattle.core.specs.Ordering.{nat_cmp, eq_by_cmp}
 use Rattle.core.specs.Cmp.{nat_cmp_total, unsigned_tied}
 use Rattle.core.specs.Cmp.Lexicographic.{slice_cmp}

@@ -1,5 +1,5 @@
 -- A list in the order of its members' numbers, as a map from number to member.
-use Rattle.std.proofs.Common.{◌≡◌, ℕ, ◌+◌, ◌<◌, ◌≤◌, ◌==◌, nat_lt, if◌then◌else◌, is_some, List, [], ◌∷◌, ◌++◌, All, map, find, filter, not, Bool, true, false, refl, ap, sym, ◌∙◌, arith, subst, T, ◌&&◌}
+use Rattle.std.proofs.Common.{◌≡◌, ℕ, ◌<◌, ◌≤◌, ◌==◌, nat_lt, if◌then◌else◌, is_some, List, [], ◌∷◌, ◌++◌, All, map, find, filter, not, Bool, true, false, refl, ap, sym, ◌∙◌, arith, subst, T, ◌&&◌}
 use Rattle.std.specs.Ordering.{nat_cmp}
 use Rattle.std.specs.Cmp.{nat_cmp_is}
 use Rattle.std.proofs.lemmas.Bool.{eqb-true, both_ways, ltb-true, ltb-false}

@@ -6,7 +6,7 @@ use Rattle.cm_base.specs.declared.number.Oid.{Oid}
 use Rattle.cm_base.specs.declared.filing.Filed.{Filed}
 use Rattle.cm_folder.specs.declared.entry.FilingEntry.{FilingEntry}
 use Rattle.cm_folder.specs.Filings.{pair_of, pairs_of, is_filed_in, is_name_taken, child_named, children_in, folders_in as folders_of}
-use Rattle.cmis_spec.specs.Repository.{Repository, same, is_filed, is_taken}
+use Rattle.cmis_spec.specs.Repository.{Repository, same, is_taken}
 use Rattle.cmis_laws.proofs.Lists.{by_test}
 use Rattle.cm_state.specs.Told.{name_by, entry_by, entries_of}
 use Rattle.cm_state.specs.Looks.{child_in}

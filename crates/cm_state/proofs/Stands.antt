@@ -1,20 +1,18 @@
 -- What stands for an entry, and which objects stand in a folder.
-use Rattle.std.specs.Prelude.{◌≡◌, ℕ, zero, suc, ◌==◌, Bool, true, false, ◌&&◌, if◌then◌else◌, List, [], ◌∷◌, ◌++◌, map, filter, find, slice_get, length, ◌-◌, All, Option, Some, None, IfSome, is_some, is_none, option_map, option_and_then, unwrap_or, bytes_eq}
-use Rattle.std.specs.List.{list_any}
-use Rattle.std.proofs.Common.{refl, sym, ap, subst, ◌∙◌, arith}
+use Rattle.std.specs.Prelude.{◌≡◌, ℕ, zero, suc, ◌==◌, Bool, true, false, ◌&&◌, if◌then◌else◌, List, [], ◌∷◌, ◌++◌, map, slice_get, length, ◌-◌, All, Option, Some, None, IfSome, is_none, option_map, option_and_then, unwrap_or}
+use Rattle.std.proofs.Common.{refl, sym, ap, subst, ◌∙◌}
 use Rattle.std.proofs.lemmas.Bool.{both_ways, and_parts}
 use Rattle.std.proofs.lemmas.List.Elements.{All-head, All-tail, All-weaker}
 use Rattle.cm_base.specs.declared.number.Oid.{Oid}
 use Rattle.cm_base.specs.declared.object.Object.{Object}
 use Rattle.cm_base.specs.declared.series.Series.{Series}
 use Rattle.cm_base.specs.declared.series.DocumentVersion.{DocumentVersion}
-use Rattle.cmis_spec.specs.Repository.{Repository, same, object_at, series_at, series_of, is_latest, last_of, latest_version, entry_of}
+use Rattle.cmis_spec.specs.Repository.{Repository, same, object_at, series_at, is_latest, last_of, entry_of}
 use Rattle.cmis_spec.specs.Access.{stands}
 use Rattle.cmis_spec.specs.Well.{Apart, Belongs, members, copy_in, HasSome, IsMember, IsWellFormed}
 use Rattle.cmis_laws.proofs.Lists.{by_test, some_eq, none_some, found_holds, same_eq, same_refl, differ}
 use Rattle.cmis_laws.proofs.Entries.{number_found, series_found, one_there}
-use Rattle.cm_state.specs.Looks.{own_at, standing_by, standing_at, has_number}
-use Rattle.cm_state.proofs.Numbers.{flip}
+use Rattle.cm_state.specs.Looks.{standing_by, standing_at, has_number}
 
 -- the last of a list is one of it
 last_holds : (P : Oid → Type 0) (vs : List DocumentVersion) (rest : List Oid) (v : DocumentVersion) → All P (map (λ v. v.object) vs ++ rest) → last_of vs ≡ Some v → P v.object

@@ -1,9 +1,9 @@
 -- A run ends with 3 or 4 only where the failure of that side was counted.
-use Rattle.std.specs.Prelude.{◌≡◌, ◌==◌, ◌+◌, ◌-◌, ◌^◌, min, ℕ, Bool, true, false, List, Option, Some, None}
+use Rattle.std.specs.Prelude.{◌≡◌, ◌==◌, ℕ, Bool, true, false, List, Option, Some, None}
 use Rattle.std.proofs.Common.{refl, sym, ap, ◌∙◌, inl, inr}
 use Rattle.std.proofs.lemmas.Bool.{both_ways, le-leb}
 use Rattle.outside.specs.Clocks.{Words}
-use Rattle.outside.specs.Outside.{SourceTold, SinkTold, Rose}
+use Rattle.outside.specs.Outside.{SourceTold, SinkTold}
 use Rattle.talk.specs.declared.end.End.{End}
 use Rattle.talk.specs.declared.end.End.TheVariants.{Ended, Bad, ReadFault, WriteFault, Starved}
 use Rattle.talk.specs.Wire.{Wire}

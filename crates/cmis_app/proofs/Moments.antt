@@ -1,5 +1,5 @@
 -- A moment within the bounds is that of its number as a clock's word.
-use Rattle.std.specs.Prelude.{◌≡◌, ◌≤◌, ℕ, pos, min}
+use Rattle.std.specs.Prelude.{◌≡◌, ◌≤◌, ℕ, pos}
 use Rattle.std.proofs.Common.{sym, ap}
 use Rattle.desk_model.specs.Clocks.{moment_of, last_moment}
 use Rattle.std.proofs.Math.Nat.{min-eq_left}

@@ -1,5 +1,5 @@
 -- What a run of the program does that serves many connections.
-use Rattle.std.specs.Prelude.{◌≡◌, ◌⊎◌, ℕ, ◌≤◌, ◌==◌, List, [], ◌∷◌, ◌++◌, codes, decimal, Option, IfSome, if◌then◌else◌}
+use Rattle.std.specs.Prelude.{◌≡◌, ◌⊎◌, ℕ, ◌≤◌, List, [], ◌∷◌, ◌++◌, codes, decimal, Option, IfSome}
 use Rattle.outside.specs.Clocks.{Words, first_word}
 use Rattle.outside.specs.Outside.{SourceTold, SinkTold, Took, Rose}
 use Rattle.outside.specs.Hosts.{HostTold, Begins}

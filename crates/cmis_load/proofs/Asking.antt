@@ -1,6 +1,6 @@
 -- The query that is asked, and the line that is written.
 use Rattle.std.specs.Prelude.{◌≡◌, ℕ, List, codes, Result}
-use Rattle.std.proofs.Common.{inr, sym, ◌∙◌, subst}
+use Rattle.std.proofs.Common.{inr, ◌∙◌, subst}
 use Rattle.cm_base.specs.declared.fail.Fail.{Fail}
 use Rattle.cm_base.specs.Judged.{Meets}
 use Rattle.cmis_spec.specs.Repository.{Repository}

@@ -1,6 +1,6 @@
 -- One session more, and all of them.
-use Rattle.std.specs.Prelude.{◌≡◌, ℕ, suc, ◌+◌, ◌<◌, ◌≤◌, List}
-use Rattle.std.proofs.Common.{add-one, arith, sym, ◌∙◌, subst}
+use Rattle.std.specs.Prelude.{◌≡◌, ℕ, ◌+◌, ◌<◌, ◌≤◌, List}
+use Rattle.std.proofs.Common.{add-one, arith, ◌∙◌, subst}
 use Rattle.cm_base.specs.declared.user.User.{User}
 use Rattle.cmis_spec.specs.Repository.{Repository}
 use Rattle.cm_face.specs.Served.{repository}

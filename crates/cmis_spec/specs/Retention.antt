@@ -28,7 +28,7 @@ is_document_version r x = is_a r bases.Document x && not (is_working_copy r x)
 
 -- ---- holds (section 2.1.16.2)
 
--- some hold names the version
+-- a hold is set on the version
 abbrev pub is_under_hold : Repository → Object → Bool
 is_under_hold r x =
     is_document_version r x && (has_type r.types x.secondary (codes "cmis:rm_hold") && is_set (value_in x.values (codes "cmis:rm_holdIds")))

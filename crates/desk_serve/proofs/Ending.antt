@@ -1,5 +1,5 @@
 -- What is told as the lock is closed.
-use Rattle.std.proofs.Common.{append-nil, ◌≡◌, ◌≢◌, ℕ, eqb, ◌==◌, zero, suc, ◌≤◌, ◌+◌, Bool, true, false, List, [], ◌∷◌, ◌++◌, length, drop, map, refl, ap, sym, ◌∙◌, subst, ◌⊎◌, inl, inr, ⊎_elim, arith, if◌then◌else◌, nat_lt, eq-eqb, All, Option, Some, None}
+use Rattle.std.proofs.Common.{append-nil, ◌≡◌, ◌≢◌, ℕ, eqb, zero, suc, ◌+◌, Bool, true, false, List, [], ◌∷◌, ◌++◌, length, drop, map, ap, sym, ◌∙◌, subst, ⊎_elim, arith, if◌then◌else◌, nat_lt, eq-eqb, Option, Some, None}
 use Rattle.std.proofs.lemmas.List.{length-append}
 use Rattle.std.proofs.lemmas.List.Elements.{All-weaker}
 use Rattle.std.specs.List.{count_by, filter}
@@ -9,7 +9,7 @@ use lib.ListN.{get_elem?}
 use Rattle.cm_base.specs.declared.number.Moment.{Moment}
 use Rattle.desk_model.specs.declared.entry.Entry.{Entry}
 use Rattle.desk_model.specs.Histories.{History, own, is_by, IsLegal, IsNumbered}
-use Rattle.desk_lock.specs.Numbers.{names, AreApart, IsIn}
+use Rattle.desk_lock.specs.Numbers.{names, IsIn}
 use Rattle.desk_lock.specs.Seats.{longer}
 use Rattle.desk_lock.specs.Words.{LockView, PassView, IsOf, Retired, Closes}
 use Rattle.talk.specs.declared.end.End.{End}
@@ -19,7 +19,7 @@ use Rattle.desk_serve.specs.declared.ended.Ended.{Ended}
 use Rattle.desk_serve.specs.Sessions.{Terms, Taken, EndsFor, IsServed, Closed, setting_of, number_of, is_at}
 use Rattle.desk_serve.specs.declared.ended.HostEnd.{HostEnd}
 use Rattle.outside.specs.Hosts.{HostTold}
-use Rattle.desk_serve.specs.Keeping.{IsNoted, IsFresh, Keeps, KeepsWith, IsDone, IsStopped, IsOverAll, and_at}
+use Rattle.desk_serve.specs.Keeping.{IsNoted, IsFresh, Keeps, IsDone, IsStopped, IsOverAll}
 use Rattle.desk_serve.proofs.Lists.{prefix_trans, begin_longer, get_left, get_mid, at_append, names_append}
 use Rattle.desk_serve.proofs.Noting.{kept_note}
 

@@ -1,5 +1,5 @@
 -- The calling thread's pass makes others, and takes in those of sessions that are over.
-use Rattle.std.proofs.Common.{◌≡◌, ℕ, suc, ◌<◌, ◌≤◌, ◌+◌, ◌==◌, cond, List, [], ◌∷◌, ◌++◌, length, map, refl, ap, sym, ◌∙◌, subst, arith, append-nil, if◌then◌else◌, nat_lt, All, None}
+use Rattle.std.proofs.Common.{◌≡◌, ℕ, suc, ◌<◌, ◌+◌, List, [], ◌∷◌, ◌++◌, length, map, refl, ap, sym, ◌∙◌, subst, arith, append-nil, All, None}
 use Rattle.std.proofs.lemmas.List.{length-append, length-map, map-append}
 use Rattle.std.proofs.lemmas.List.Elements.{All-push, All-weaker, All-nil}
 use Rattle.std.specs.List.{count_by}
@@ -9,7 +9,6 @@ use lib.ListN.{get_elem?}
 use Rattle.cm_base.specs.declared.user.User.{User}
 use Rattle.desk_model.specs.declared.entry.Entry.{Entry}
 use Rattle.desk_model.specs.Histories.{own}
-use Rattle.desk_model.specs.Desks.{Known}
 use Rattle.desk_lock.specs.Numbers.{names, most_passes}
 use Rattle.desk_lock.specs.Seats.{longer}
 use Rattle.desk_lock.specs.Words.{LockView, PassView, IsOf, Retired, with_one_more, made_by, first_pass}
@@ -19,8 +18,8 @@ use Rattle.talk.specs.Talked.{rose}
 use Rattle.desk_serve.specs.declared.ended.Ended.{Ended}
 use Rattle.outside.specs.Hosts.{IsNew}
 use Rattle.desk_serve.specs.Sessions.{Terms, IsGiven, IsServed, setting_of, number_of, is_at, most_links}
-use Rattle.desk_serve.specs.Keeping.{IsHeld, IsNoted, IsFresh, Keeps, Runs, IsOver, IsReady, without_links, and_at}
-use Rattle.desk_serve.proofs.Lists.{prefix_trans, prefix_length, begin_longer, get_left, get_mid, names_append, count_ended, one_more, none_below}
+use Rattle.desk_serve.specs.Keeping.{IsHeld, IsNoted, IsFresh, Keeps, Runs, IsOver, without_links, and_at}
+use Rattle.desk_serve.proofs.Lists.{prefix_trans, begin_longer, get_left, get_mid, names_append, count_ended, one_more, none_below}
 
 module _ {S C Q L : Type 0} (t : Terms S C Q L) where
   -- what is noted stays so as the pass sees more and takes in more

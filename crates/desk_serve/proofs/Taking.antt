@@ -1,5 +1,5 @@
 -- The host gives the next link, or none.
-use Rattle.std.proofs.Common.{◌≡◌, ℕ, ◌≤◌, ◌+◌, ◌-◌, ◌^◌, min, List, ap, sym, ◌∙◌, subst, arith, Option, Some, Ok}
+use Rattle.std.proofs.Common.{◌≡◌, ℕ, ◌≤◌, ◌+◌, List, sym, ◌∙◌, subst, arith, Option, Some, Ok}
 use Rattle.outside.specs.Outside.{Rose}
 use Rattle.outside.specs.declared.traits.Failed.{Failed}
 use Rattle.outside.specs.Hosts.{HostTold, Gives, Accepts}

@@ -1,5 +1,5 @@
 -- What the calling thread keeps while it serves.
-use Rattle.std.specs.Prelude.{◌≡◌, ◌≤◌, ℕ, ◌+◌, ◌==◌, nat_lt, List, [], ◌++◌, length, map, All, Option, Some, None, if◌then◌else◌, cond, Result}
+use Rattle.std.specs.Prelude.{◌≡◌, ℕ, ◌+◌, ◌==◌, nat_lt, List, [], ◌++◌, length, map, All, Option, Some, None, if◌then◌else◌, cond, Result}
 use Rattle.std.specs.List.{count_by}
 use mathlib.Core.List.{IsPrefix}
 use mathlib.Core.Option.{some}

@@ -1,5 +1,5 @@
 -- One value of an argument: a flag, a number, a word of a list of choices.
-use Rattle.std.specs.Prelude.{ℕ, List, codes, bytes_eq, Bool, true, false, if◌then◌else◌, Option, Some, None, Ok}
+use Rattle.std.specs.Prelude.{ℕ, List, Bool, Option, Some, None, Ok}
 use Rattle.cm_types.specs.Properties.{flag_of_text}
 use Rattle.cm_base.specs.declared.argument.Argument.{Argument}
 use Rattle.cm_base.specs.declared.cause.Cause.TheVariants as causes

@@ -1,11 +1,11 @@
 -- When a head is judged: never inside a target, always once it is whole, and from then on.
 use Rattle.std.proofs.Common.{◌≡◌, true, false, Bool, List, [], ◌∷◌, ◌++◌, refl, sym, ap, ◌∙◌, append_assoc, if◌then◌else◌, ◌==◌, ◌||◌}
-use Rattle.std.proofs.Common.{ℕ, ◌≢◌, IsTrue}
+use Rattle.std.proofs.Common.{ℕ, IsTrue}
 use Rattle.std.proofs.lemmas.List.Elements.{All-head, All-tail}
 use Rattle.std.proofs.lemmas.Bool.{eqb-true, false≢true}
 use Rattle.httparse.proofs.GrammarLemmas.{print_request-append}
 use Rattle.http_grammar.specs.Judged.{is_judged, has_line_feed, is_line_byte}
-use Rattle.httparse.specs.Grammar.{LineEnd, crlf, lf, print_end, print_blank, print_version, print_section, RequestHead, print_request, ReadsRequest, EndsInTarget, AllPass, is_token_byte, is_uri_byte}
+use Rattle.httparse.specs.Grammar.{LineEnd, crlf, lf, print_end, print_blank, print_version, print_section, RequestHead, ReadsRequest, EndsInTarget, AllPass, is_token_byte, is_uri_byte}
 
 -- by the cases of a test
 both : (t : Bool) {a b c : Bool} → a ≡ c → b ≡ c → (if t then a else b) ≡ c

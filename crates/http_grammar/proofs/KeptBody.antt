@@ -1,5 +1,5 @@
 -- A decided body front stays when more bytes come, and a whole body lies within the bytes.
-use Rattle.std.proofs.Common.{◌≡◌, ◌++◌, ◌∙◌, ◌≤◌, ◌<◌, ◌+◌, ◌-◌, ℕ, List, [], ◌∷◌, length, take, drop, Bool, true, false, inl, inr, ◌⊎◌, refl, sym, ap, subst, append_assoc, length-append, arith}
+use Rattle.std.proofs.Common.{◌≡◌, ◌++◌, ◌∙◌, ◌≤◌, ◌<◌, ◌+◌, ℕ, List, [], ◌∷◌, length, take, drop, Bool, true, false, inl, inr, ◌⊎◌, refl, sym, ap, subst, append_assoc, length-append, arith}
 use Rattle.std.specs.Prelude.{if◌then◌else◌, nat_le, ◌&&◌, ◌==◌, ⊤}
 use Rattle.std.proofs.lemmas.Bool.{leb-true, le-leb, cond-true, cases_lt}
 use Rattle.std.proofs.lemmas.List.{take-append-le, drop-append-le, drop_all, length-take}

@@ -1,5 +1,5 @@
 -- The turns of the loop that reads a head.
-use Rattle.std.proofs.Common.{◌≡◌, ◌++◌, ◌∙◌, ◌≤◌, ◌<◌, ◌+◌, ◌-◌, ℕ, List, [], ◌∷◌, length, true, false, Ok, Err, Result, Option, Some, None, inl, inr, refl, ap, subst, append_assoc, append-nil, length-append, arith}
+use Rattle.std.proofs.Common.{◌≡◌, ◌++◌, ◌∙◌, ◌≤◌, ◌<◌, ℕ, List, [], ◌∷◌, length, true, false, Ok, Err, Result, Option, Some, None, inl, inr, refl, ap, subst, append_assoc, append-nil, length-append, arith}
 use Rattle.std.specs.Prelude.{⊤, IfOk}
 use Rattle.httparse.specs.declared.spans.HeaderSpan.{HeaderSpan}
 use Rattle.outside.specs.Outside.{SourceTold, Gave}

@@ -1,5 +1,5 @@
 -- A request of its head and its body.
-use Rattle.std.proofs.Common.{◌≡◌, ◌++◌, ◌∙◌, ◌≤◌, ◌<◌, ◌+◌, ◌-◌, ℕ, List, [], ◌∷◌, length, take, drop, true, false, Bool, Ok, Err, Result, Option, Some, None, inl, inr, ◌⊎◌, refl, sym, ap, subst, append_assoc, append-nil, arith}
+use Rattle.std.proofs.Common.{◌≡◌, ◌++◌, ◌∙◌, ◌≤◌, ◌<◌, ◌+◌, ℕ, List, [], ◌∷◌, length, take, drop, true, false, Bool, Ok, Err, Result, Option, Some, None, inl, inr, ◌⊎◌, refl, sym, ap, subst, append_assoc, append-nil, arith}
 use Rattle.std.specs.Prelude.{◌==◌, nat_le, nat_lt, is_ok, ⊤, if◌then◌else◌, codes, MatchResult}
 use Rattle.std.proofs.lemmas.Bool.{le-leb, cond-true, cond-false}
 use Rattle.std.proofs.lemmas.Bool.Decides.{nat_tests}
@@ -7,13 +7,13 @@ use Rattle.std.proofs.lemmas.List.{drop-append-le, drop-drop}
 use Rattle.httparse.specs.Grammar.{print_request}
 use Rattle.httparse.specs.declared.spans.HeaderSpan.{HeaderSpan}
 use Rattle.httparse.specs.declared.spans.RequestSpans.{RequestSpans}
-use Rattle.outside.specs.Outside.{SourceTold, Gave}
+use Rattle.outside.specs.Outside.{SourceTold}
 use Rattle.outside.proofs.Known.{Gave-then}
 use Rattle.http_grammar.specs.Limits.{body_limit}
 use Rattle.http_grammar.specs.Request.{Head, Request, head_of}
 use Rattle.http_grammar.specs.Fields.{head_framing, framing, by_length, by_coding, sized, length_of_value, same_word, has_good_host, values_named, expects_continue}
 use Rattle.http_grammar.specs.Chunks.{BodyFront, unfinished, ends, broken, Body, sized_body}
-use Rattle.http_grammar.specs.First.{Beginning, Waits, Whole, Fault, HasHead, First, whole_head, Follows, front_of, IsPending, HoldsHead}
+use Rattle.http_grammar.specs.First.{Beginning, Waits, Whole, Fault, First, whole_head, Follows, front_of, IsPending, HoldsHead}
 use Rattle.http_grammar.specs.declared.fault.HttpFault.{HttpFault}
 use Rattle.http_grammar.specs.declared.fault.HttpFault.TheVariants.{BadHead, LongHead, LongBody, BadLength, Coding, Cut}
 use Rattle.http_grammar.specs.declared.framing.Framing.{Framing}

@@ -1,5 +1,5 @@
 -- From what the parser of heads says of the first bytes to what stands at the front of all.
-use Rattle.std.proofs.Common.{◌≡◌, ◌++◌, ◌∙◌, ◌≤◌, ◌<◌, ◌+◌, ◌-◌, ℕ, List, [], ◌∷◌, length, take, drop, map, min, Bool, true, false, refl, sym, ap, subst, arith, inl, inr, ◌⊎◌, Result, Err, All}
+use Rattle.std.proofs.Common.{◌≡◌, ◌++◌, ◌∙◌, ◌≤◌, ◌<◌, ◌+◌, ◌-◌, ℕ, List, [], ◌∷◌, length, take, drop, map, min, Bool, refl, sym, ap, subst, arith, inl, inr, ◌⊎◌, Result, Err, All}
 use Rattle.std.specs.Prelude.{is_ok}
 use Rattle.std.proofs.lemmas.Bool.{false≢true, cases_lt}
 use Rattle.std.proofs.lemmas.List.{take-append-le, take_all, length-take, drop-take}

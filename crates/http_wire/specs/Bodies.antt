@@ -1,5 +1,5 @@
 -- What the readers of bodies answer, by the bytes that they had and got. Over: the source has ended. Faulted: its count rose.
-use Rattle.std.specs.Prelude.{◌≡◌, ℕ, ◌+◌, ◌<◌, ◌≤◌, true, false, List, [], ◌++◌, length, take, drop, ◌-◌, Result, Ok, Err, Option, Some, None, ⊤}
+use Rattle.std.specs.Prelude.{◌≡◌, ℕ, ◌+◌, ◌<◌, ◌≤◌, true, false, List, ◌++◌, length, take, drop, ◌-◌, Result, Ok, Err, Option, Some, None, ⊤}
 use Rattle.outside.specs.Outside.{SourceTold, Gave, Rose}
 use Rattle.http_grammar.specs.Limits.{body_limit, chunked_limit}
 use Rattle.http_grammar.specs.Chunks.{BodyFront, unfinished, ends, broken, Body, Chunk, IsChunk, print_chunk, Tail, limited, begins_line_end, may_begin_line_end}

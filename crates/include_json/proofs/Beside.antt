@@ -1,5 +1,5 @@
 -- Fields that are put in one list after another are put as one list.
-use Rattle.std.specs.Prelude.{◌≡◌, List, ◌++◌, fold}
+use Rattle.std.specs.Prelude.{◌≡◌, ◌++◌, fold}
 use Rattle.std.proofs.Common.{sym, ap, ◌∙◌}
 use Rattle.std.proofs.lemmas.List.Sums.{fold-append}
 use Rattle.serde_json.specs.Data.{Members}

@@ -31,7 +31,7 @@ use Rattle.include_json.specs.Included.{fields_beside, included_data}
 use Rattle.include_json.specs.Pages.{member_data, children_data as included_children_data}
 use Rattle.rd_nav.specs.ReadObject.{answer_addressed}
 use Rattle.rd_nav.specs.ReadChildren.{answer_children, children_reply, page}
-use Rattle.rd_include.specs.ShowObject.{answer_included, answer_included_in, answer_show_object, answer_version, included_reply, version_asked}
+use Rattle.rd_include.specs.ShowObject.{answer_included_in, answer_show_object, answer_version, included_reply, version_asked}
 use Rattle.rd_order.specs.Ordered.{ordered}
 use Rattle.rd_include.specs.ShowChildren.{answer_ordered_children, answer_show_children, included_child, included_children}
 use Rattle.show_json.specs.Columns.{answer_text, object_answer_text}

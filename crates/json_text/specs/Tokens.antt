@@ -1,10 +1,10 @@
 -- The tokens of JSON, as they are written from front to back.
-use Rattle.std.specs.Prelude.{ℕ, List, [], ◌∷◌, ◌++◌, map}
+use Rattle.std.specs.Prelude.{ℕ, List, [], ◌∷◌}
 use Rattle.std.specs.List.{flat_map}
 use Rattle.json.specs.Token.{Token}
-use Rattle.json.specs.Tree.{json_tokens, items_tokens, members_tokens}
-use Rattle.serde_json.specs.Data.{Data, Items, Members, no_members, member}
-use Rattle.serde_json.specs.Written.{outline, items_outline, members_outline}
+use Rattle.json.specs.Tree.{json_tokens}
+use Rattle.serde_json.specs.Data.{Data, Members, no_members, member}
+use Rattle.serde_json.specs.Written.{outline}
 
 -- the tokens of a value
 abbrev pub tokens_of : Data → List Token

@@ -1,11 +1,10 @@
 -- A session that ended by itself leads to the state at the end of its history.
 use Rattle.std.specs.Prelude.{◌≡◌, ℕ, List, Option, Some, IfSome}
 use Rattle.std.specs.List.{flat_map}
-use Rattle.std.proofs.Common.{refl, sym, ap, ◌∙◌}
+use Rattle.std.proofs.Common.{ap}
 use Rattle.cm_base.specs.declared.user.User.{User}
 use Rattle.outside.specs.Clocks.{Words, words_of}
 use Rattle.outside.specs.Outside.{SourceTold, SinkTold}
-use Rattle.desk_model.specs.declared.entry.Entry.{Entry}
 use Rattle.desk_model.specs.Histories.{History, replay, state_of}
 use Rattle.load_requests.specs.Requests.{request}
 use Rattle.talk.specs.declared.end.End.{End}

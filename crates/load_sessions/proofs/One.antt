@@ -1,7 +1,7 @@
 -- The sessions of a load make one state.
 use Rattle.std.specs.Prelude.{◌≡◌, ℕ, zero, suc, List}
 use Rattle.std.specs.List.{flat_map}
-use Rattle.std.proofs.Common.{refl, sym, ap, ◌∙◌}
+use Rattle.std.proofs.Common.{sym, ap, ◌∙◌}
 use Rattle.cm_base.specs.declared.user.User.{User}
 use Rattle.outside.specs.Clocks.{Words, words_of}
 use Rattle.desk_model.specs.declared.entry.Entry.{Entry}

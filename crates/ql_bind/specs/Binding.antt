@@ -1,6 +1,6 @@
 -- A parsed query bound to the types, or the first cause that refuses it: the table, then what is shown, the condition and the order, each in the order
 -- of the text (CMIS 1.1, section 2.1.14.2).
-use Rattle.std.specs.Prelude.{ℕ, Bool, true, false, not, ◌&&◌, if◌then◌else◌, List, [], ◌∷◌, ◌++◌, map, Option, Some, None, Ok, unwrap_or, option_map}
+use Rattle.std.specs.Prelude.{ℕ, Bool, true, false, not, ◌&&◌, List, [], ◌∷◌, ◌++◌, map, Option, Some, None, Ok, unwrap_or, option_map}
 use Rattle.cm_base.specs.declared.value.Scalar.{Scalar}
 use Rattle.cm_base.specs.declared.value.Scalar.TheVariants as scalars
 use Rattle.cm_base.specs.declared.cause.Cause.TheVariants.{QueryText, QueryName, QueryUse}

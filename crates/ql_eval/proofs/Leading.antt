@@ -1,8 +1,7 @@
 -- Where a pattern leads, by its first piece.
-use Rattle.std.proofs.Common.{◌≡◌, ◌∙◌, ℕ, ◌+◌, ◌-◌, ◌<◌, ◌≤◌, Bool, true, false, List, [], ◌∷◌, length, take, drop, slice_index_or, refl, sym, ap, subst, arith, true≢false}
-use Rattle.std.specs.Prelude.{◌==◌, Option, Some, None, if◌then◌else◌}
+use Rattle.std.proofs.Common.{◌≡◌, ℕ, ◌-◌, ◌<◌, ◌≤◌, List, [], ◌∷◌, length, take, drop, slice_index_or, refl, sym, subst, arith}
+use Rattle.std.specs.Prelude.{◌==◌, Some}
 use Rattle.core.specs.Fmt.{is_char_start}
-use Rattle.std.specs.Cmp.{both_ways}
 use Rattle.std.proofs.lemmas.List.{take_all}
 use Rattle.cmis_laws.proofs.Lists.{by_test, some_eq, none_some}
 use Rattle.ql_bind.specs.declared.bound.Piece.{Piece}
@@ -11,7 +10,7 @@ use Rattle.ql_eval.specs.declared.like.Lead.{Lead}
 use Rattle.ql_eval.specs.declared.like.Lead.TheVariants as leads
 use Rattle.ql_eval.specs.Likes.{likes, behind_run, past_character, past_byte, next_start}
 use Rattle.ql_eval.specs.Leads.{Leads}
-use Rattle.ql_eval.proofs.Runs.{here, short_past, run_past, character_past, byte_past, run_twice}
+use Rattle.ql_eval.proofs.Runs.{short_past, run_past, character_past, byte_past, run_twice}
 
 rest_is : (p : Piece) (qs : List Piece) → take (length (p ∷ qs) - 1) (drop 1 (p ∷ qs)) ≡ qs
 rest_is p qs = take_all (length (p ∷ qs) - 1) qs (omega arith)

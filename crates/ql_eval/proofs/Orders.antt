@@ -6,11 +6,10 @@ use Rattle.std.specs.List.Sorted.{IsPermutation, IsSortedBy}
 use Rattle.std.specs.Cmp.{IsTotalOrder, IsStrictWeakOrder, nat_cmp_total, then_total, on_total, back_total, tied_itself, alike_right, upto, ranked}
 use Rattle.core.specs.declared.cmp.Ordering.{Ordering}
 use Rattle.core.specs.declared.cmp.Ordering.TheVariants.{Less, Equal, Greater}
-use Rattle.core.specs.Ordering.{nat_cmp, ordering_then, ordering_reverse, is_eq, is_lt, is_gt}
+use Rattle.core.specs.Ordering.{ordering_then, ordering_reverse, is_eq, is_lt, is_gt}
 use Rattle.std.proofs.lemmas.List.Elements.{All-nil, All-cons, All-head, All-tail, All-weaker, All-from_get_or}
 use Rattle.std.proofs.lemmas.List.Sums.{sum_by-cons}
 use Rattle.std.proofs.lemmas.List.Sorted.{ranks_by, sorted_far, sum_by-IsPermutation, All-permutation}
-use Rattle.cm_base.specs.Orders.{value_order}
 use Rattle.cm_base.specs.OrderLaws.{value_order-total}
 use Rattle.cm_types.specs.Properties.{value_in}
 use Rattle.ql_bind.specs.declared.bound.OrderKey.{OrderKey}

@@ -1,6 +1,6 @@
 -- What fits behind some run of bytes, one piece after another.
-use Rattle.std.proofs.Common.{◌≡◌, ◌∙◌, ℕ, ◌==◌, Bool, true, false, List, [], ◌∷◌, refl, sym, ap, subst, true≢false}
-use Rattle.std.specs.Prelude.{◌||◌, Option, Some, None, if◌then◌else◌}
+use Rattle.std.proofs.Common.{◌≡◌, ◌∙◌, ℕ, ◌==◌, Bool, true, false, List, [], ◌∷◌, refl, sym, subst, true≢false}
+use Rattle.std.specs.Prelude.{◌||◌, Option, Some, None}
 use Rattle.core.specs.Fmt.{is_char_start}
 use Rattle.std.specs.Cmp.{both_ways}
 use Rattle.cmis_laws.proofs.Lists.{by_test, some_eq, none_some}

@@ -1,5 +1,5 @@
 -- What a bound condition says of a row (CMIS 1.1, section 2.1.14.2).
-use Rattle.std.specs.Prelude.{Bool, true, false, not, List, [], ◌∷◌, Option, Some, None, if◌then◌else◌}
+use Rattle.std.specs.Prelude.{Bool, true, not, List, Option, Some, None, if◌then◌else◌}
 use Rattle.std.specs.List.{list_any}
 use Rattle.core.specs.declared.cmp.Ordering.{Ordering}
 use Rattle.core.specs.Ordering.{is_eq, is_ne, is_lt, is_gt, is_le, is_ge}

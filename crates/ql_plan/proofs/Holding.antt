@@ -1,6 +1,6 @@
 -- Every row at which a condition is true fits its keys, one kind of condition after another.
 use Rattle.std.proofs.Common.{◌≡◌, ◌∙◌, ℕ, Bool, true, false, List, [], ◌∷◌, ◌++◌, refl, sym, ap, subst, true≢false}
-use Rattle.std.specs.Prelude.{All, Result, Ok, Err, OnOk, Option, Some, None, bytes_eq, codes, if◌then◌else◌}
+use Rattle.std.specs.Prelude.{All, Result, Ok, Err, OnOk, Option, Some, None, bytes_eq, codes}
 use Rattle.std.specs.List.{list_any}
 use Rattle.core.specs.declared.cmp.Ordering.{Ordering}
 use Rattle.core.specs.declared.cmp.Ordering.TheVariants.{Less, Equal, Greater}
@@ -11,9 +11,9 @@ use Rattle.cm_base.specs.declared.value.Scalar.{Scalar}
 use Rattle.cm_base.specs.declared.value.Scalar.TheVariants.{Flag, Whole, Time, Words}
 use Rattle.cm_base.specs.declared.value.Value.{Value}
 use Rattle.cm_base.specs.declared.value.Value.TheVariants.{Unset, One, Many}
-use Rattle.cm_base.specs.Orders.{scalar_order, value_order}
+use Rattle.cm_base.specs.Orders.{scalar_order}
 use Rattle.cm_base.specs.OrderLaws.{value_order-exact}
-use Rattle.cm_types.specs.Properties.{value_in, is_set}
+use Rattle.cm_types.specs.Properties.{value_in}
 use Rattle.cmis_spec.specs.Repository.{same}
 use Rattle.cmis_spec.specs.Access.{oid_named}
 use Rattle.cmis_laws.proofs.Lists.{by_test}
@@ -29,11 +29,11 @@ use Rattle.ql_eval.specs.declared.row.Row.{Row}
 use Rattle.ql_eval.specs.declared.truth.Truth.{Truth}
 use Rattle.ql_eval.specs.declared.truth.Truth.TheVariants.{Holds, Fails, Unknown}
 use Rattle.ql_eval.specs.Truths.{both, holds, truth_of}
-use Rattle.ql_eval.specs.Conditions.{truth, truth_step, compared, is_one_of, keeps_by}
+use Rattle.ql_eval.specs.Conditions.{truth, truth_step, compared, is_one_of}
 use Rattle.ql_plan.specs.declared.key.Key.{Key}
 use Rattle.ql_plan.specs.declared.key.Key.TheVariants as keys
 use Rattle.ql_plan.specs.Candidates.{keys_of, key_step, key_of_compare, key_of_scalar}
-use Rattle.ql_plan.specs.Planned.{Fits, IsKeyOf, IsKeyBy}
+use Rattle.ql_plan.specs.Planned.{IsKeyOf, IsKeyBy}
 
 -- ---- equations
 

@@ -1,6 +1,6 @@
 -- The id of an object names it.
-use Rattle.std.proofs.Common.{◌≡◌, ◌∙◌, ℕ, ◌+◌, ◌<◌, ◌≤◌, ◌/◌, ◌%◌, ◌^◌, Bool, true, false, List, [], ◌∷◌, ◌++◌, length, get_or, refl, sym, ap, arith, zero, suc, true≢false}
-use Rattle.std.specs.Prelude.{◌==◌, nat_lt, not, ◌&&◌, decimal, Some, option_map, if◌then◌else◌}
+use Rattle.std.proofs.Common.{◌≡◌, ℕ, ◌+◌, ◌<◌, ◌%◌, ◌^◌, true, List, [], ◌∷◌, ◌++◌, length, get_or, refl, sym, arith, zero, suc, true≢false}
+use Rattle.std.specs.Prelude.{nat_lt, decimal, Some}
 use Rattle.std.specs.Char.{is_ascii_digit}
 use Rattle.std.specs.List.{list_all}
 use Rattle.std.specs.Str.Parse.{digits_value}
@@ -8,7 +8,7 @@ use Rattle.std.proofs.lemmas.Bool.{lt-ltb}
 use Rattle.std.proofs.lemmas.Fmt.{decimal_digit, decimal_by_steps, decimal_is_IsNumeral, decimal_nonempty, first_decimal}
 use Rattle.cmis_laws.proofs.Lists.{by_test}
 use Rattle.cm_base.specs.declared.number.Oid.{Oid}
-use Rattle.cm_base.specs.Decimals.{is_led, is_decimal, decimal_u64}
+use Rattle.cm_base.specs.Decimals.{is_led, decimal_u64}
 use Rattle.cmis_spec.specs.Access.{oid_named}
 
 all_then : (xs : List ℕ) (d : ℕ) → list_all is_ascii_digit xs ≡ true → is_ascii_digit d ≡ true → list_all is_ascii_digit (xs ++ d ∷ []) ≡ true

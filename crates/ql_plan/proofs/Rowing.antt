@@ -1,6 +1,6 @@
 -- Rows by their numbers, and the values at a row.
-use Rattle.std.proofs.Common.{◌≡◌, ◌∙◌, ℕ, ◌<◌, Bool, true, false, List, [], ◌∷◌, map, refl, sym, ap, subst, true≢false, inl, inr}
-use Rattle.std.specs.Prelude.{◌&&◌, ◌||◌, not, ◌⊎◌, filter, find, All, Option, Some, None, unwrap_or, option_map, option_and_then, bytes_eq, if◌then◌else◌}
+use Rattle.std.proofs.Common.{◌≡◌, ℕ, Bool, true, List, [], ◌∷◌, map, refl, sym, ap, subst, true≢false, inl, inr}
+use Rattle.std.specs.Prelude.{◌&&◌, ◌⊎◌, filter, All, Some, bytes_eq}
 use Rattle.std.specs.List.{list_any, filter_map}
 use Rattle.std.proofs.lemmas.List.Elements.{All-head, All-tail}
 use Rattle.std.specs.Cmp.{first_so}
@@ -10,11 +10,10 @@ use Rattle.cm_base.specs.declared.value.Value.TheVariants.{Unset}
 use Rattle.cm_types.specs.declared.property.PropDef.{PropDef}
 use Rattle.cm_types.specs.Properties.{value_in}
 use Rattle.cmis_spec.specs.Repository.{Repository, same, object_at, is_filed}
-use Rattle.cmis_spec.specs.Access.{reads, parents_of}
+use Rattle.cmis_spec.specs.Access.{reads}
 use Rattle.cmis_laws.proofs.Lists.{by_test, same_eq}
 use Rattle.cmis_laws.proofs.Kept.{bytes_true}
 use Rattle.cm_show.specs.Shown.{shown_slot, property_value}
-use Rattle.ql_eval.specs.declared.row.Row.{Row}
 use Rattle.row_store.specs.Rows.{is_row, row_of, row_at, numbers}
 
 -- a row has the value of a property, or does not have the property

@@ -1,7 +1,7 @@
 -- The sets of the planner as filters over the objects.
-use Rattle.std.proofs.Common.{◌≡◌, ◌∙◌, ℕ, ◌+◌, ◌<◌, ◌≤◌, ◌^◌, Bool, true, false, List, [], ◌∷◌, length, map, refl, sym, ap, subst, arith, true≢false, inl, inr}
+use Rattle.std.proofs.Common.{◌≡◌, ◌∙◌, ℕ, ◌<◌, ◌^◌, Bool, true, false, List, [], ◌∷◌, map, refl, sym, ap, subst, arith, true≢false, inl, inr}
 use Rattle.std.specs.Prelude.{◌&&◌, ◌||◌, not, ◌⊎◌, filter, find, All, Option, Some, None, unwrap_or, option_map, is_some, codes, decimal}
-use Rattle.std.specs.List.{list_any, filter_map}
+use Rattle.std.specs.List.{filter_map}
 use Rattle.std.specs.Cmp.{first_so, second_so}
 use Rattle.std.proofs.lemmas.List.Elements.{All-nil, All-cons, All-head, All-tail, All-weaker, All-filter}
 use Rattle.cm_base.specs.declared.number.Oid.{Oid}
@@ -12,22 +12,21 @@ use Rattle.cm_base.specs.declared.value.Scalar.TheVariants.{Words}
 use Rattle.cm_types.specs.Types.{props_of}
 use Rattle.cm_types.specs.Properties.{value_in, is_set}
 use Rattle.cmis_spec.specs.Repository.{Repository, same, object_at, owner_of, entry_of, is_filed, most_steps}
-use Rattle.cmis_spec.specs.Access.{reads, parents_of, stands, oid_named}
+use Rattle.cmis_spec.specs.Access.{reads, stands, oid_named}
 use Rattle.cmis_spec.specs.Well.{Apart, IsWellFormed}
-use Rattle.cmis_spec.specs.Values.{words}
-use Rattle.cmis_laws.proofs.Lists.{by_test, same_eq, same_refl, differ, find_yes, find_no, some_eq, all_zip}
+use Rattle.cmis_laws.proofs.Lists.{by_test, same_eq, same_refl, differ, find_yes, find_no, all_zip}
 use Rattle.cmis_laws.proofs.Entries.{all_there}
 use Rattle.cm_show.specs.Shown.{property_value}
 use Rattle.ql_bind.specs.declared.bound.Bound.{Bound}
 use Rattle.ql_eval.specs.declared.row.Row.{Row}
 use Rattle.ql_eval.specs.Conditions.{keeps}
 use Rattle.ql_eval.specs.Order.{IsEachOnce}
-use Rattle.row_store.specs.Rows.{is_of_types, is_row, is_listed, row_of, row_at, row_values, numbers, of_types, has_types, is_filed_in, filed_in}
+use Rattle.row_store.specs.Rows.{is_of_types, is_row, is_listed, row_of, row_at, row_values, numbers, of_types, has_types, is_filed_in}
 use Rattle.ql_plan.specs.declared.key.Key.{Key}
 use Rattle.ql_plan.specs.declared.key.Key.TheVariants as keys
 use Rattle.ql_plan.specs.Found.{rows_of}
 use Rattle.ql_plan.specs.Candidates.{is_in_set}
-use Rattle.ql_plan.specs.Planned.{Fits, IsKeyBy, HasAll, numbers_of, members_of}
+use Rattle.ql_plan.specs.Planned.{Fits, IsKeyBy, HasAll, members_of}
 use Rattle.ql_plan.proofs.Named.{named_decimal}
 use Rattle.ql_plan.proofs.Rowing.{value_of_row, rows_at, filed_by_parents}
 

@@ -1,5 +1,5 @@
 -- A small repository: in the root the documents `5%0` (2), without a description, and `5x` (3), with the description k.
-use Rattle.std.specs.Prelude.{◌≡◌, ℕ, pos, neg_ℤ, true, false, Bool, List, [], ◌∷◌, map, Ok, Some, None, codes}
+use Rattle.std.specs.Prelude.{◌≡◌, ℕ, pos, neg_ℤ, true, false, List, [], ◌∷◌, map, Ok, Some, None, codes}
 use Rattle.std.proofs.Common.{refl}
 use Rattle.cm_base.specs.declared.number.Oid.{Oid}
 use Rattle.cm_base.specs.declared.number.Moment.{Moment}
@@ -8,9 +8,7 @@ use Rattle.cm_base.specs.declared.series.Series.{Series}
 use Rattle.cm_base.specs.declared.value.Slot.{Slot}
 use Rattle.cm_base.specs.declared.value.Value.TheVariants.{Unset, One}
 use Rattle.cm_base.specs.declared.value.Scalar.TheVariants.{Words}
-use Rattle.cm_base.specs.declared.access.Ace.{Ace}
 use Rattle.cm_base.specs.declared.access.Level.TheVariants as levels
-use Rattle.cm_base.specs.declared.user.User.{User}
 use Rattle.cm_base.specs.Judged.{Judged, ◌>>=◌}
 use Rattle.cm_types.specs.BaseTypes.{base_types}
 use Rattle.cmis_spec.specs.Repository.{Repository, opening, root, levels_up}
@@ -18,7 +16,6 @@ use Rattle.ql_tree.specs.declared.tree.Column.{Column}
 use Rattle.ql_tree.specs.declared.tree.Comparison.TheVariants as comparisons
 use Rattle.ql_tree.specs.declared.tree.Item.TheVariants as items
 use Rattle.ql_tree.specs.declared.tree.Selection.TheVariants as selections
-use Rattle.ql_tree.specs.declared.tree.Table.{Table}
 use Rattle.ql_tree.specs.declared.tree.Key.{Key}
 use Rattle.ql_tree.specs.declared.tree.Query.{Query}
 use Rattle.ql_bind.specs.Numbers.{whole_number}

@@ -21,8 +21,7 @@ use Rattle.ql_eval.proofs.Orders.{ordered_all}
 use Rattle.row_store.specs.Rows.{is_listed, is_of_types, is_row, row_of}
 use Rattle.ql_plan.specs.Found.{found, rows_of}
 use Rattle.query_parts.specs.declared.readings.ReadQuery.{ReadQuery}
-use Rattle.query_parts.specs.declared.replies.QueryReply.{QueryReply}
-use Rattle.rd_nav.specs.ReadChildren.{has_more, page}
+use Rattle.rd_nav.specs.ReadChildren.{page}
 use Rattle.rd_query.specs.ReadQuery.{nothing_beside, query_reply, query_row, row_beside, shown_row}
 use Rattle.rd_query.proofs.Pages.{page_shown}
 

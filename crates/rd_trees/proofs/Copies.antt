@@ -14,7 +14,7 @@ use Rattle.cm_types.specs.Types.{is_of_base}
 use Rattle.call_parts.specs.declared.place.Place.{Place}
 use Rattle.include_parts.specs.declared.readings.ShowCheckedOut.{ShowCheckedOut}
 use Rattle.cmis_spec.specs.Repository.{Repository, same, is_a, is_filed, object_at, series_of, owner_of, entry_of}
-use Rattle.cmis_spec.specs.Access.{reads, read_at, parents_of}
+use Rattle.cmis_spec.specs.Access.{reads, read_at}
 use Rattle.cmis_spec.specs.Seen.{SeenObject, seen, seen_object, seen_series, is_read}
 use Rattle.cmis_spec.specs.Well.{HasNumbers}
 use Rattle.cmis_laws.proofs.Entries.{all_there}

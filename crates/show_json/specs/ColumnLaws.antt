@@ -1,6 +1,6 @@
 -- What is written by columns is what is shown.
 use Rattle.std.specs.Prelude.{option_map, unwrap_or}
-use Rattle.std.proofs.Common.{◌≡◌, ℕ, Bool, true, false, List, [], ◌∷◌, refl, sym, ap, ◌∙◌, map, codes}
+use Rattle.std.proofs.Common.{◌≡◌, ℕ, Bool, true, false, List, [], ◌∷◌, refl, sym, ap, ◌∙◌, codes}
 use Rattle.std.proofs.lemmas.Simd.{map-map}
 use Rattle.json_text.specs.Build.{object_data}
 use Rattle.json_text.specs.Tokens.{listed_members}

@@ -1,5 +1,5 @@
 -- What is shown of an object by columns: the definitions that are shown, in byte order of their ids.
-use Rattle.std.specs.Prelude.{ℕ, Bool, true, false, List, [], ◌∷◌, ◌++◌, codes, map, length, Option, Ok}
+use Rattle.std.specs.Prelude.{ℕ, Bool, true, false, List, [], ◌∷◌, codes, map, length, Option, Ok}
 use Rattle.serde_json.specs.Data.{Data, boolean, number, object, string, unsigned}
 use Rattle.json_text.specs.Tokens.{listed_members}
 use Rattle.json_text.specs.Values.{value_data}

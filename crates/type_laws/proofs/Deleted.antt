@@ -1,5 +1,5 @@
 -- A type that nothing is of is removed: the list of types stays well formed, and objects are what they were.
-use Rattle.std.specs.Prelude.{◌≡◌, ℕ, Bool, true, false, not, ◌||◌, List, All, Some, option_map, unwrap_or, bytes_eq}
+use Rattle.std.specs.Prelude.{◌≡◌, ℕ, true, false, not, List, All, Some, option_map, unwrap_or, bytes_eq}
 use Rattle.std.specs.List.{list_any}
 use Rattle.core.specs.Ordering.{nat_cmp}
 use Rattle.core.specs.Cmp.Lexicographic.{slice_cmp}
@@ -8,7 +8,6 @@ use Rattle.std.proofs.Common.{refl, sym, ap, subst, ◌∙◌}
 use Rattle.std.proofs.lemmas.Bool.{both_ways}
 use Rattle.std.proofs.lemmas.Iterator.Adapters.{option_map_id}
 use Rattle.std.proofs.lemmas.List.Elements.{All-filter, All-weaker}
-use Rattle.cm_base.specs.declared.object.Object.{Object}
 use Rattle.cm_types.specs.declared.definition.TypeDef.{TypeDef}
 use Rattle.cm_types.specs.Types.{type_in, longest_chain, is_child_type, props_of}
 use Rattle.cm_types.specs.Changes.{without_type}

@@ -1,5 +1,5 @@
 -- What is deleted with a tree, or taken out of it, leaves what is well formed.
-use Rattle.std.specs.Prelude.{◌≡◌, ℕ, Bool, true, false, ◌||◌, not, if◌then◌else◌, List, [], ◌∷◌, filter, fold, find, All, Option, Some, None, is_none, option_map, unwrap_or}
+use Rattle.std.specs.Prelude.{◌≡◌, ℕ, Bool, true, false, ◌||◌, if◌then◌else◌, List, [], ◌∷◌, filter, fold, find, All, Option, Some, None, is_none, option_map, unwrap_or}
 use Rattle.std.specs.List.{list_all}
 use Rattle.std.proofs.Common.{refl, sym, ap, subst, ◌∙◌, inl, inr}
 use Rattle.std.proofs.lemmas.Bool.{both_ways}

@@ -1,5 +1,5 @@
 -- applyPolicy keeps what is well formed.
-use Rattle.std.specs.Prelude.{◌≡◌, ℕ, ◌+◌, ◌<◌, ◌^◌, true, false, not, if◌then◌else◌, List, [], ◌∷◌, find, Option, Some, Ok, unwrap_or, option_map}
+use Rattle.std.specs.Prelude.{◌≡◌, ℕ, ◌+◌, ◌<◌, ◌^◌, true, false, not, if◌then◌else◌, List, [], ◌∷◌, find, Some, Ok, unwrap_or, option_map}
 use Rattle.std.proofs.Common.{sym, ap, subst, ◌∙◌}
 use Rattle.std.proofs.lemmas.List.Elements.{All-nil, All-cons}
 use Rattle.cm_base.specs.declared.number.Oid.{Oid}

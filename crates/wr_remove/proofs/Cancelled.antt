@@ -1,5 +1,5 @@
 -- cancelCheckOut keeps what is well formed.
-use Rattle.std.specs.Prelude.{◌≡◌, ℕ, ◌+◌, ◌<◌, ◌^◌, Bool, true, false, not, List, [], ◌∷◌, ◌||◌, Option, Some, None, Ok, option_map, unwrap_or}
+use Rattle.std.specs.Prelude.{◌≡◌, ℕ, ◌+◌, ◌<◌, ◌^◌, true, false, not, List, [], ◌∷◌, ◌||◌, Some, Ok, option_map, unwrap_or}
 use Rattle.std.proofs.Common.{refl, sym, ap, subst, ◌∙◌}
 use Rattle.std.proofs.lemmas.Bool.{both_ways}
 use Rattle.cm_base.specs.declared.number.Oid.{Oid}
@@ -13,13 +13,12 @@ use Rattle.cm_show.specs.Addressed.{addressed}
 use Rattle.cmis_spec.specs.Repository.{Repository, same, object_at, is_a}
 use Rattle.cmis_spec.specs.Access.{lacks}
 use Rattle.cmis_spec.specs.Removal.{among, deleted}
-use Rattle.cmis_spec.specs.Documents.{is_working_copy}
 use Rattle.cmis_spec.specs.Changes.{stepped}
 use Rattle.cmis_spec.specs.Well.{IsWellFormed}
 use Rattle.cmis_laws.proofs.Lists.{by_test, same_eq}
 use Rattle.cmis_laws.proofs.Entries.{not_both}
 use Rattle.cmis_laws.proofs.Going.{loose_free, deleted_keeps}
-use Rattle.cmis_laws.proofs.Passed.{refused_not, then_ok, refuse_ok, find_ok, not_false}
+use Rattle.cmis_laws.proofs.Passed.{then_ok, refuse_ok, find_ok, not_false}
 use Rattle.cmis_laws.proofs.Steps.{HasRoom, step_keeps}
 use Rattle.wr_rules.specs.Rules.{judge_storage}
 use Rattle.wr_rules.proofs.Found.{addressed_there}

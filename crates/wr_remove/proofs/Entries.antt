@@ -1,5 +1,5 @@
 -- Whether something is filed in a folder.
-use Rattle.std.specs.Prelude.{◌≡◌, ℕ, suc, Bool, true, false, nat_lt, List, [], ◌∷◌, map, filter, length}
+use Rattle.std.specs.Prelude.{◌≡◌, ℕ, suc, Bool, true, nat_lt, List, [], ◌∷◌, map, filter, length}
 use Rattle.std.specs.List.{list_any}
 use Rattle.std.proofs.Common.{refl, sym, ap, ◌∙◌, arith}
 use Rattle.std.proofs.lemmas.List.{length-map}

@@ -1,5 +1,5 @@
 -- What the values of a copy cost.
-use Rattle.std.specs.Prelude.{◌≡◌, ℕ, ◌+◌, List, [], ◌∷◌, map, sum}
+use Rattle.std.specs.Prelude.{◌≡◌, ℕ, List, [], ◌∷◌, map, sum}
 use Rattle.std.proofs.Common.{refl, ap, arith}
 use Rattle.cm_base.specs.declared.value.Scalar.TheVariants.{Words}
 use Rattle.cmis_spec.specs.Values.{words, texts}

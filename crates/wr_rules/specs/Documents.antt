@@ -1,5 +1,5 @@
 -- What the writes on documents share: look-ups of versions, the causes of content, and what a check-out or a check-in makes (CMIS 1.1, section 2.1.13).
-use Rattle.std.specs.Prelude.{ℕ, ◌+◌, nat_lt, sum, Bool, true, false, ◌&&◌, if◌then◌else◌, List, [], ◌∷◌, ◌++◌, map, length, Option, is_some, is_none, unwrap_or, option_map, codes}
+use Rattle.std.specs.Prelude.{ℕ, ◌+◌, nat_lt, sum, Bool, true, false, ◌&&◌, if◌then◌else◌, List, ◌∷◌, map, length, Option, is_some, is_none, unwrap_or, option_map, codes}
 use Rattle.std.specs.List.{list_any}
 use Rattle.cm_base.specs.declared.number.Oid.{Oid}
 use Rattle.cm_base.specs.declared.object.Object.{Object}

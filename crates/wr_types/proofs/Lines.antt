@@ -1,7 +1,6 @@
 -- What the lines of a judgement say once it is made.
 use Rattle.std.specs.Prelude.{◌≡◌, Bool, true, false, Option, Some, None, Ok, Err}
 use Rattle.std.proofs.Common.{refl, ap}
-use Rattle.std.proofs.lemmas.Bool.{both_ways}
 use Rattle.cm_base.specs.declared.cause.Cause.{Cause}
 use Rattle.cm_base.specs.Judged.{Judged, refuse, find_or, ◌>>=◌, ◌>>◌}
 use Rattle.cmis_laws.proofs.Passed.{err_ok}

@@ -1,5 +1,5 @@
 -- deleteType (CMIS 1.1, section 2.2.2.8): when it is refused, and what it makes of the repository. Its reply is empty.
-use Rattle.std.specs.Prelude.{ℕ, List, Ok, is_none}
+use Rattle.std.specs.Prelude.{ℕ, List, is_none}
 use Rattle.std.specs.List.{list_any}
 use Rattle.cm_base.specs.declared.number.Moment.{Moment}
 use Rattle.cm_base.specs.declared.cause.Cause.TheVariants as causes

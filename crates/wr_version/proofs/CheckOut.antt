@@ -1,8 +1,8 @@
 -- checkOut keeps what is well formed.
-use Rattle.std.specs.Prelude.{◌≡◌, ℕ, suc, ◌+◌, ◌≤◌, Bool, true, false, not, ◌&&◌, List, [], ◌∷◌, ◌++◌, map, length, All, Option, Some, None, IfSome, Ok, is_some, option_map, option_and_then, unwrap_or, nat_lt}
+use Rattle.std.specs.Prelude.{◌≡◌, ℕ, suc, ◌+◌, ◌≤◌, Bool, true, false, not, ◌&&◌, List, [], ◌∷◌, ◌++◌, map, length, Option, Some, None, IfSome, Ok, is_some, option_map, option_and_then, unwrap_or}
 use Rattle.std.specs.List.{list_any}
 use Rattle.std.proofs.Common.{refl, sym, ap, subst, ◌∙◌, arith}
-use Rattle.std.proofs.lemmas.Bool.{both_ways, ltb-false}
+use Rattle.std.proofs.lemmas.Bool.{both_ways}
 use Rattle.cm_base.specs.declared.number.Oid.{Oid}
 use Rattle.cm_base.specs.declared.number.Moment.{Moment}
 use Rattle.cm_base.specs.declared.object.Object.{Object}
@@ -17,15 +17,15 @@ use Rattle.cm_types.specs.declared.definition.BaseType.TheVariants as bases
 use Rattle.cm_types.specs.Types.{props_of}
 use Rattle.call_parts.specs.declared.versions.CheckOut.{CheckOut}
 use Rattle.cm_show.specs.Addressed.{addressed}
-use Rattle.cmis_spec.specs.Repository.{Repository, same, most_steps, most_cost, object_at, series_at, series_of, is_a, entry_of, last_of, is_latest, new_number, longest_stream}
+use Rattle.cmis_spec.specs.Repository.{Repository, same, object_at, series_at, series_of, is_a, entry_of, last_of, is_latest, new_number, longest_stream}
 use Rattle.cmis_spec.specs.Access.{lacks}
 use Rattle.cmis_spec.specs.Changes.{stepped, noted}
 use Rattle.cmis_spec.specs.Documents.{with_copy, with_contents}
-use Rattle.cmis_spec.specs.Well.{IsBaseAt, Belongs, members, copy_in, IsAlone, is_plain, IsTyped, IsKept, OwnsValues, IsWellFormed}
-use Rattle.cmis_laws.proofs.Lists.{by_test, found_holds, none_some, all_zip, all_found, some_eq, same_eq}
+use Rattle.cmis_spec.specs.Well.{IsBaseAt, Belongs, members, IsAlone, is_plain, IsTyped, IsKept, OwnsValues, IsWellFormed}
+use Rattle.cmis_laws.proofs.Lists.{by_test, found_holds, all_zip, all_found, some_eq, same_eq}
 use Rattle.cmis_laws.proofs.Entries.{series_found}
 use Rattle.cmis_laws.proofs.Begun.{IsPlainIn}
-use Rattle.cmis_laws.proofs.Joined.{joined, object_new}
+use Rattle.cmis_laws.proofs.Joined.{object_new}
 use Rattle.cmis_laws.proofs.Copied.{IsNewCopy, copy_keeps}
 use Rattle.cmis_laws.proofs.Copies.{kept_copied, owns_copied}
 use Rattle.cmis_laws.proofs.Listed.{content_keeps}
@@ -37,7 +37,7 @@ use Rattle.cm_show.specs.Shown.{is_latest_version}
 use Rattle.cm_state.specs.Looks.{content_at}
 use Rattle.wr_rules.proofs.Found.{addressed_there}
 use Rattle.wr_rules.proofs.Room.{room_of}
-use Rattle.wr_version.specs.CheckOut.{judge_latest, refusal_check_out, new_copy, after_check_out_of, after_check_out}
+use Rattle.wr_version.specs.CheckOut.{refusal_check_out, new_copy, after_check_out_of, after_check_out}
 
 -- ---- what a refusal that is none tells
 

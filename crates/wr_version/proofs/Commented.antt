@@ -8,14 +8,13 @@ use Rattle.std.proofs.lemmas.List.Elements.{All-nil, All-cons, All-head, All-tai
 use Rattle.cm_types.specs.declared.definition.TypeDef.{TypeDef}
 use Rattle.cm_types.specs.declared.definition.BaseType.{BaseType}
 use Rattle.cm_types.specs.declared.definition.BaseType.TheVariants as bases
-use Rattle.cm_types.specs.declared.property.PropDef.{PropDef}
 use Rattle.cm_types.specs.BaseTypes.{base_row, base_types}
 use Rattle.cm_types.specs.Changes.{base_id}
 use Rattle.cm_types.specs.Types.{type_in, chain_of, chain, longest_chain, same_base, is_of_base, first_of_each, types_of, props_of}
 use Rattle.cm_types.specs.Properties.{def_of}
 use Rattle.cmis_spec.specs.Repository.{last_of}
 use Rattle.cmis_spec.specs.Well.{HasBases, IsRooted, HasTypes}
-use Rattle.cmis_laws.proofs.Lists.{by_test, find_yes, find_no, found_holds, found_passes, none_some, some_eq}
+use Rattle.cmis_laws.proofs.Lists.{by_test, find_yes, found_holds, found_passes, none_some, some_eq}
 use Rattle.cmis_laws.proofs.Kept.{bytes_true}
 use Rattle.cmis_laws.proofs.Moved.{map_some}
 

@@ -1,18 +1,16 @@
-use Rattle.std.proofs.Common.{◌≡◌, ◌∙◌, sym, ap, if◌then◌else◌}
-use Rattle.std.specs.Prelude.{Ok, Bool}
-use Rattle.cm_base.specs.declared.object.Object.{Object}
+use Rattle.std.proofs.Common.{sym, ap, if◌then◌else◌}
+use Rattle.std.specs.Prelude.{Ok}
 use Rattle.cm_base.specs.declared.cause.Cause.TheVariants as causes
-use Rattle.cm_base.specs.Judged.{Judged, ◌>>=◌}
+use Rattle.cm_base.specs.Judged.{◌>>=◌}
 use Rattle.cm_types.specs.declared.definition.BaseType.TheVariants as bases
 use Rattle.cm_types.specs.Types.{is_of_base}
 use Rattle.include_parts.specs.declared.replies.IncludedChildrenReply.{IncludedChildrenReply}
 use Rattle.call_parts.specs.declared.replies.ContentReply.{ContentReply}
 use Rattle.include_parts.specs.declared.replies.IncludedReply.{IncludedReply}
-use Rattle.cm_call.specs.declared.reply.Reply.{Reply}
 use Rattle.cm_call.specs.declared.reply.Reply.TheVariants as replies
 use Rattle.cm_show.specs.Addressed.{addressed}
 use Rattle.seen_laws.proofs.Answers.{addressed_alike, answer_alike}
-use Rattle.seen_laws.proofs.Worlds.{AreAlike, IsAlike}
+use Rattle.seen_laws.proofs.Worlds.{AreAlike}
 use Rattle.cm_repo.specs.Calls.{default_of}
 use Rattle.cm_repo.proofs.law.default_of_seen.Goals as goal
 

@@ -1,4 +1,4 @@
-use Rattle.std.proofs.Common.{◌≡◌, ◌++◌, ◌∷◌, [], ℕ, List, ap, sym, ◌∙◌, rules, arith}
+use Rattle.std.proofs.Common.{rules, arith}
 use Rattle.cm_state.specs.Members.{names_at}
 use Rattle.cm_state.proofs.Noted.{member_noted}
 use Rattle.cm_state.proofs.people.note_group.Goals as goal

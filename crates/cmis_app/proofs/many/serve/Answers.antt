@@ -1,6 +1,5 @@
-use Rattle.std.proofs.Common.{rules, ◌≡◌, sym, ap, subst, ℕ}
-use Rattle.cm_types.specs.BaseTypes.{base_types}
-use Rattle.cmis_spec.specs.Repository.{Repository, opening}
+use Rattle.std.proofs.Common.{rules, subst}
+use Rattle.cmis_spec.specs.Repository.{Repository}
 use Rattle.cm_face.specs.Served.{repository}
 use Rattle.desk_serve.specs.Sessions.{Closed}
 use Rattle.cmis_app.proofs.many.serve.Goals as goal

@@ -1,4 +1,4 @@
-use Rattle.std.proofs.Common.{rules, ◌≡◌, ◌+◌, ◌++◌, ◌∷◌, [], List, vec_len, sym, subst, All}
+use Rattle.std.proofs.Common.{rules, ◌+◌, vec_len, sym, subst, All}
 use Rattle.std.proofs.lemmas.List.Elements.{All-pop}
 use Rattle.desk_serve.specs.Sessions.{terms}
 use Rattle.desk_serve.specs.Keeping.{held_by, and_at, Runs}

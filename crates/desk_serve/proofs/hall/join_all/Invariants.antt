@@ -1,4 +1,4 @@
-use Rattle.std.proofs.Common.{◌≡◌, ◌+◌, ◌≤◌, All, vec_len, vec_capacity}
+use Rattle.std.proofs.Common.{◌+◌, ◌≤◌, All, vec_len, vec_capacity}
 use Rattle.desk_serve.specs.Sessions.{terms}
 use Rattle.desk_serve.specs.Keeping.{IsStopped, Runs, held_by}
 use Rattle.desk_serve.proofs.hall.join_all.Given as goal

@@ -1,6 +1,6 @@
-use Rattle.std.proofs.Common.{rules, ◌≡◌, ◌+◌, vec_len}
+use Rattle.std.proofs.Common.{rules, ◌+◌, vec_len}
 use Rattle.desk_serve.specs.Sessions.{terms}
-use Rattle.desk_serve.specs.Keeping.{Keeps, held_by, and_at}
+use Rattle.desk_serve.specs.Keeping.{held_by, and_at}
 use Rattle.desk_serve.proofs.Lists.{held_removed}
 use Rattle.desk_serve.proofs.Noting.{moved}
 use Rattle.desk_serve.proofs.hall.join_one.Goals as goal

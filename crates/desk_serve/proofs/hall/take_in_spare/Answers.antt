@@ -1,4 +1,4 @@
-use Rattle.std.proofs.Common.{rules, ◌≡◌, subst, vec_len}
+use Rattle.std.proofs.Common.{rules, subst}
 use Rattle.desk_serve.specs.Sessions.{terms}
 use Rattle.desk_serve.specs.Keeping.{IsStopped, held_by}
 use Rattle.desk_serve.proofs.Lists.{held_none}

@@ -1,4 +1,4 @@
-use Rattle.std.proofs.Common.{rules, ◌≡◌, sym, subst}
+use Rattle.std.proofs.Common.{rules, sym, subst}
 use Rattle.desk_model.specs.Histories.{IsLegal}
 use Rattle.talk.specs.Served.{wire_of}
 use Rattle.desk_serve.specs.Sessions.{terms, Closed}

@@ -1,4 +1,4 @@
-use Rattle.std.proofs.Common.{◌≡◌, ◌+◌, ◌≤◌, All, vec_len, vec_capacity}
+use Rattle.std.proofs.Common.{◌+◌, ◌≤◌, All, vec_len, vec_capacity}
 use Rattle.desk_serve.specs.Sessions.{terms, Taken}
 use Rattle.desk_serve.specs.Keeping.{Keeps, Runs, held_by, most_workers}
 use Rattle.desk_serve.proofs.serving.take_links.Given as goal

@@ -1,4 +1,4 @@
-use Rattle.std.proofs.Common.{rules, ◌≡◌, sym, subst, vec_len}
+use Rattle.std.proofs.Common.{rules, sym, subst, vec_len}
 use Rattle.desk_serve.specs.Sessions.{terms}
 use Rattle.desk_serve.specs.Keeping.{Keeps, held_by}
 use Rattle.desk_serve.proofs.Lists.{held_none}

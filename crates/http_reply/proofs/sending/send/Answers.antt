@@ -1,4 +1,4 @@
-use Rattle.std.proofs.Common.{List, ℕ, length, take, drop, arith, sym, refl, subst, ◌∙◌, Ok}
+use Rattle.std.proofs.Common.{List, ℕ, take, drop, arith, sym, refl, subst, ◌∙◌, Ok}
 use Rattle.outside.specs.declared.traits.Failed.{Failed}
 use Rattle.std.proofs.lemmas.List.{take-append-drop, length-drop}
 use Rattle.outside.specs.Outside.{Writes}

@@ -1,5 +1,4 @@
 use Rattle.std.proofs.Common.{◌∙◌, arith}
-use Rattle.outside.specs.Outside.{Gave}
 use Rattle.outside.proofs.Known.{Gave-none}
 use Rattle.http_wire.proofs.Ranges.{some_gave}
 use Rattle.http_wire.proofs.BodyReading.{ended_read, came, cut_body, faulted_body, more_came}

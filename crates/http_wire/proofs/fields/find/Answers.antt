@@ -1,7 +1,6 @@
 use Rattle.std.proofs.Common.{List, ℕ, subst}
 use Rattle.http_wire.specs.Found.{Finds}
 use Rattle.http_wire.proofs.NamedValues.{values_named-none, values_at-more}
-use Rattle.http_grammar.specs.Fields.{values_named}
 use Rattle.http_wire.proofs.fields.find.Goals as goal
 
 pub loop-field-init : goal.loop-field-init

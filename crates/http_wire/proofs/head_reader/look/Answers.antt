@@ -1,4 +1,3 @@
-use Rattle.std.proofs.Common.{IfOk, Result, Ok, Err, List, ℕ}
 use Rattle.http_wire.proofs.HeadReading.{looks_of_ok}
 use Rattle.http_wire.proofs.head_reader.look.Goals as goal
 

@@ -1,6 +1,6 @@
 use Rattle.std.proofs.Common.{◌∙◌, sym, ap}
 use Rattle.std.specs.Option.{option_copied}
-use Rattle.ql_bind.specs.declared.bound.Piece.TheVariants.{Run, Character, Byte}
+use Rattle.ql_bind.specs.declared.bound.Piece.TheVariants.{Run}
 use Rattle.ql_eval.proofs.Leading.{run_leads, character_leads, byte_leads}
 use Rattle.ql_eval.proofs.like.+upto_run.Goals as goal
 

@@ -1,10 +1,9 @@
-use Rattle.std.proofs.Common.{rules, ◌≡◌, ◌∙◌, List, Bool, sym, ap, subst}
+use Rattle.std.proofs.Common.{rules, ◌≡◌, ◌∙◌, subst}
 use Rattle.core.specs.Ordering.{is_lt}
 use Rattle.std.specs.List.Sorted.{IsPermutation, IsSortedBy}
 use Rattle.std.specs.Cmp.{IsStrictWeakOrder}
 use Rattle.std.proofs.lemmas.Fn.{always_returns_same}
 use Rattle.std.proofs.lemmas.List.Sorted.{ranks_by}
-use Rattle.ql_eval.specs.declared.row.Row.{Row}
 use Rattle.ql_eval.specs.Order.{row_order}
 use Rattle.ql_eval.proofs.Orders.{row_total, sorted_is_ordered}
 use Rattle.ql_eval.proofs.order.ordered.Goals as goal

@@ -1,4 +1,4 @@
-use Rattle.std.proofs.Common.{◌+◌, arith}
+use Rattle.std.proofs.Common.{arith}
 use Rattle.ql_eval.specs.Conditions.{keeps}
 use Rattle.row_store.specs.Rows.{row_at}
 use Rattle.ql_plan.proofs.Steps.{kept_more}

@@ -1,6 +1,6 @@
 use Rattle.std.proofs.Common.{◌≡◌, ◌∙◌, sym, ap}
-use Rattle.std.specs.Prelude.{Ok, Err}
-use Rattle.cm_base.specs.Judged.{Judged, ◌>>=◌}
+use Rattle.std.specs.Prelude.{Ok}
+use Rattle.cm_base.specs.Judged.{◌>>=◌}
 use Rattle.ql_bind.specs.declared.bound.Bound.{Bound}
 use Rattle.seen_laws.proofs.Worlds.{AreAlike}
 use Rattle.rd_query.specs.ReadQuery.{answer_bound, query_reply}

@@ -1,4 +1,4 @@
-use Rattle.std.proofs.Common.{◌≡◌, ◌∙◌, rules}
+use Rattle.std.proofs.Common.{◌≡◌, rules}
 use Rattle.std.specs.Prelude.{Some, slice_get}
 use Rattle.cmis_spec.specs.Repository.{object_at}
 use Rattle.rd_types.proofs.Visible.{latest_by, of_unread}

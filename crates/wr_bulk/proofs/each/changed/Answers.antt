@@ -1,4 +1,4 @@
-use Rattle.std.proofs.Common.{◌≡◌, sym, ap, ◌∙◌}
+use Rattle.std.proofs.Common.{sym, ap, ◌∙◌}
 use Rattle.std.specs.Prelude.{Some, None, if◌then◌else◌, option_map}
 use Rattle.cm_base.specs.declared.object.Object.{Object}
 use Rattle.cm_show.specs.Addressed.{addressed}

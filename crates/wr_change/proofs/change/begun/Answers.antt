@@ -1,4 +1,4 @@
-use Rattle.std.proofs.Common.{◌≡◌, ◌+◌, ◌<◌, ◌^◌, sym, ap, subst, ◌∙◌}
+use Rattle.std.proofs.Common.{◌+◌, ◌<◌, ◌^◌, sym, ap, subst, ◌∙◌}
 use Rattle.cmis_spec.specs.Repository.{Repository}
 use Rattle.cmis_spec.specs.Changes.{stepped}
 use Rattle.cmis_spec.specs.Well.{IsWellFormed}

@@ -1,4 +1,4 @@
-use Rattle.std.proofs.Common.{◌≡◌, sym, ap, subst, ◌∙◌}
+use Rattle.std.proofs.Common.{sym, ap, subst, ◌∙◌}
 use Rattle.cm_base.specs.declared.object.Object.{Object}
 use Rattle.cmis_spec.specs.Well.{IsWellFormed}
 use Rattle.wr_change.specs.Update.{placed}

@@ -1,4 +1,4 @@
-use Rattle.std.proofs.Common.{[], ◌∷◌, subst, sym, ap, ◌∙◌}
+use Rattle.std.proofs.Common.{subst, sym, ap, ◌∙◌}
 use Rattle.cmis_spec.specs.Changes.{stepped}
 use Rattle.cmis_spec.specs.Removal.{deleted}
 use Rattle.cmis_spec.specs.Well.{IsWellFormed}

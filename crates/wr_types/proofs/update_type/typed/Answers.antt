@@ -1,4 +1,4 @@
-use Rattle.std.proofs.Common.{rules, ◌≡◌, Ok, sym, ap, ◌∙◌, true, false}
+use Rattle.std.proofs.Common.{rules, ◌≡◌, Ok, sym, ap, ◌∙◌}
 use Rattle.cm_types.specs.Changes.{judge_with_change}
 use Rattle.wr_types.specs.UpdateType.{cost_update_type, refusal_update_type}
 use Rattle.wr_types.proofs.Changing.{types_are}

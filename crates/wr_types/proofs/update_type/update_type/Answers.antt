@@ -1,5 +1,5 @@
-use Rattle.std.proofs.Common.{◌≡◌, true, sym, ap, subst, ◌∙◌}
-use Rattle.std.specs.Prelude.{Some, is_some}
+use Rattle.std.proofs.Common.{ap, ◌∙◌}
+use Rattle.std.specs.Prelude.{is_some}
 use Rattle.cm_types.specs.Types.{type_in}
 use Rattle.wr_types.specs.UpdateType.{cost_update_type, updated_type}
 use Rattle.wr_types.proofs.Changing.{updated_there}

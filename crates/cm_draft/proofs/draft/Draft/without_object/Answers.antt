@@ -1,4 +1,4 @@
-use Rattle.std.proofs.Common.{refl, ap, ◌∙◌}
+use Rattle.std.proofs.Common.{ap, ◌∙◌}
 use Rattle.std.specs.Arc.{arc_value}
 use Rattle.cmis_spec.specs.Changes.{without_object}
 use Rattle.cm_draft.proofs.Entries.{object_agrees}

@@ -1,4 +1,4 @@
-use Rattle.std.proofs.Common.{refl, ap, ◌∙◌}
+use Rattle.std.proofs.Common.{ap, ◌∙◌}
 use Rattle.std.specs.Arc.{arc_value}
 use Rattle.cm_draft.specs.Without.{without_series}
 use Rattle.cm_draft.proofs.Entries.{series_agrees}

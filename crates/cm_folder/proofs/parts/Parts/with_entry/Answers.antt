@@ -1,9 +1,7 @@
-use Rattle.std.proofs.Common.{◌&&◌, if◌then◌else◌, Some, T, inl, refl, sym, ap, subst, ◌∙◌}
-use Rattle.core.specs.Ordering.{nat_cmp, eq_by_cmp}
+use Rattle.std.proofs.Common.{Some, T, inl, refl, sym, ap, subst, ◌∙◌}
+use Rattle.core.specs.Ordering.{nat_cmp}
 use Rattle.core.specs.Cmp.{nat_cmp_total}
 use Rattle.core.specs.FinMap.Entries.{find, is_sorted, is_sorted-put}
-use Rattle.cm_lists.specs.Buckets.{find_in}
-use Rattle.cm_folder.specs.Places.{name_order}
 use Rattle.cm_folder.proofs.Placing.{find-put_at}
 use Rattle.cm_folder.proofs.Indexing.{indexed_changed}
 use Rattle.cm_folder.proofs.parts.Parts.with_entry.Goals as goal

@@ -1,8 +1,6 @@
-use Rattle.std.proofs.Common.{◌≡◌, ℕ, ◌==◌, ◌&&◌, cond, if◌then◌else◌, not, None, T, inr, refl, sym, ap, subst, ◌∙◌}
+use Rattle.std.proofs.Common.{◌≡◌, ℕ, ◌==◌, cond, not, None, T, inr, refl, sym, ap, subst, ◌∙◌}
 use Rattle.core.specs.Ordering.{nat_cmp, eq_by_cmp}
 use Rattle.core.specs.FinMap.Entries.{find, is_sorted, is_sorted-where_key}
-use Rattle.cm_lists.specs.Buckets.{find_in}
-use Rattle.cm_folder.specs.Places.{name_order}
 use Rattle.cm_folder.proofs.Placing.{find-without_at}
 use Rattle.cm_folder.proofs.Indexing.{indexed_changed}
 use Rattle.cm_folder.proofs.parts.Parts.without_entry.Goals as goal

@@ -1,5 +1,5 @@
 use Rattle.std.proofs.Common.{ap, ◌∙◌}
-use Rattle.cm_state.specs.Looks.{entries_in, folders_in}
+use Rattle.cm_state.specs.Looks.{entries_in}
 use Rattle.cm_state.proofs.Looked.{entries_same}
 use Rattle.cm_state.proofs.parts.Parts.entries.Goals as goal
 

@@ -1,5 +1,5 @@
 use Rattle.std.proofs.Common.{ap, ◌∙◌}
-use Rattle.cm_state.specs.Looks.{entries_in, folders_in}
+use Rattle.cm_state.specs.Looks.{folders_in}
 use Rattle.cm_state.proofs.Looked.{folders_same}
 use Rattle.cm_state.proofs.parts.Parts.folders.Goals as goal
 

@@ -1,6 +1,6 @@
-use Rattle.std.proofs.Common.{◌≡◌, ◌∙◌, sym, ap, map, unwrap_or, option_copied, []}
+use Rattle.std.proofs.Common.{◌∙◌, sym, ap, map, unwrap_or, option_copied, []}
 use Rattle.std.specs.List.{list_any}
-use Rattle.cm_state.specs.Looks.{entries_in, numbers_in, has_number, standing_at}
+use Rattle.cm_state.specs.Looks.{numbers_in, has_number, standing_at}
 use Rattle.cm_state.proofs.Among.{children_are}
 use Rattle.cm_state.proofs.Numbers.{any_values}
 use Rattle.cm_state.proofs.state.State.children.Goals as goal
