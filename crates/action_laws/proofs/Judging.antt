@@ -1,7 +1,8 @@
 -- Lists of lines of which one refuses, by the tests that they make.
 use Rattle.std.specs.Prelude.{◌≡◌, Bool, true, false, ◌&&◌, ◌||◌, not, Option, Some, Ok, Err}
 use Rattle.std.specs.Result.{is_ok}
-use Rattle.std.proofs.Common.{refl, arith}
+use Rattle.std.proofs.Common.{refl, ap, ◌∙◌, arith}
+use Rattle.std.proofs.lemmas.Bool.{both_ways}
 use Rattle.cm_base.specs.declared.object.Object.{Object}
 use Rattle.cm_base.specs.declared.cause.Cause.{Cause}
 use Rattle.cm_base.specs.declared.cause.Cause.TheVariants as causes
@@ -80,3 +81,32 @@ removal_lines a b c more rest w top held copy out some k h = grind arith
 pub creation_lines : {B : Type 0} (a b : Cause) (more : Judged (Unit {0})) (rest : Judged B) (f w other : Bool) → (f && w) ≡ false
     → IsRefused ((refuse a (not w) >> refuse b (not f || other) >> more) >> rest)
 creation_lines a b more rest f w other h = grind arith
+
+-- the same, where the lines stand in no group
+pub making_lines : {B : Type 0} (a b : Cause) (rest : Judged B) (w f other : Bool) → (f && w) ≡ false → IsRefused (refuse a (not w) >> refuse b (not f || other) >> rest)
+making_lines a b rest false f other h = refl
+making_lines a b rest true false other h = refl
+making_lines a b rest true true other h = absurd (both_ways true h refl)
+
+pub application_lines : (a b c : Cause) (w takes other keeps : Bool) → keeps ≡ not takes → (w && takes) ≡ false → IsRefused (refuse a (not w) >> refuse b other >> refuse c keeps)
+application_lines a b c false takes other keeps k h = refl
+application_lines a b c true takes true keeps k h = refl
+application_lines a b c true takes false keeps k h = rw (k ∙ ap not h) refl
+
+pub taking_off_lines : (a b : Cause) (w takes other : Bool) → (w && takes) ≡ false → takes ≡ true → IsRefused (refuse a (not w) >> refuse b other)
+taking_off_lines a b false takes other h k = refl
+taking_off_lines a b true takes other h k = absurd (both_ways takes h k)
+
+pub tree_lines : (a b c : Cause) (w f top : Bool) → (f && w && not top) ≡ false → IsRefused (refuse a (not w) >> refuse b (not f) >> refuse c top)
+tree_lines a b c false f top h = refl
+tree_lines a b c true false top h = refl
+tree_lines a b c true true true h = refl
+tree_lines a b c true true false h = absurd (both_ways true h refl)
+
+-- where one of the ends is a relationship, either is
+pub end_lines : {B : Type 0} (a b c : Cause) (rest : Judged B) (anonymous other end either : Bool) → (end ≡ true → either ≡ true) → (not end && not anonymous) ≡ false
+    → IsRefused ((refuse a anonymous >> refuse b other >> refuse c either) >> rest)
+end_lines a b c rest true other end either k h = refl
+end_lines a b c rest false true end either k h = refl
+end_lines a b c rest false false true either k h = rw (k refl) refl
+end_lines a b c rest false false false either k h = absurd (both_ways true h refl)

@@ -5,8 +5,12 @@ mod Going
 mod Judging
 mod Moves
 mod NewDocuments
+mod NewItems
+mod Passing
+mod PolicyCalls
 mod Read
 mod Readings
+mod Relationships
 mod Series
 mod Streamed
 mod Updates

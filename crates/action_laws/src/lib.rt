@@ -1,5 +1,7 @@
-//! Where an action is shown as not allowed on an object, the call that it names is refused (CMIS 1.1, section 2.2.4.6): laws alone, each
-//! as a clause of a function that does nothing.
+//! Where an action is shown as not allowed on an object, the call that it names is refused, and where it is shown as allowed, that call is
+//! refused by none of the causes that stand for the action (CMIS 1.1, section 2.2.4.6): laws alone, each as a clause of a function
+//! that does nothing. Five of the thirty actions are always allowed and need no law: GetAcl, GetAppliedPolicies,
+//! GetObjectRelationships, GetProperties and GetRenditions.
 #![tactic(auto)]
 
 ghost use Rattle.std.specs.Prelude.{◌≡◌};
@@ -9,6 +11,7 @@ pub mod contents;
 pub mod creations;
 pub mod filing;
 pub mod lists;
+pub mod policies;
 pub mod properties;
 pub mod removals;
 pub mod streams;

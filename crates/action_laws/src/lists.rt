@@ -11,7 +11,7 @@ ghost use Rattle.rd_lists.specs.ReadParent.{answer_parent};
 ghost use Rattle.rd_include.specs.ShowParents.{answer_show_parents};
 ghost use Rattle.rd_include.specs.ShowVersions.{answer_show_versions};
 ghost use Rattle.rd_include.specs.ShowChildren.{answer_show_children};
-ghost use Rattle.action_laws.specs.Refused.{IsBarred, IsRefused};
+ghost use Rattle.action_laws.specs.Refused.{IsBarred, IsRefused, MayDo, NoneComes};
 
 /// Where a caller may not ask for the children, the parent or the parents of an object, or for its versions, that reading is refused.
 pub fn lists_refused()
@@ -23,4 +23,20 @@ pub fn lists_refused()
         → IsBarred r u q.parents.place actions.GetObjectParents → IsRefused (answer_show_parents r u q) }
     ensures versions { (r : Repository) (u : List ℕ) (q : ShowVersions)
         → IsBarred r u q.versions.place actions.GetAllVersions → IsRefused (answer_show_versions r u q) }
+{}
+
+/// Where he may, it is refused neither by the kind of the object or its type, nor for a parent that is not there or not read.
+pub fn lists_allowed()
+    ensures children { (r : Repository) (u : List ℕ) (q : ShowChildren)
+        → MayDo r u q.children.place actions.GetChildren
+        → NoneComes actions.GetChildren (answer_show_children r u q) }
+    ensures parent { (r : Repository) (u : List ℕ) (q : ReadParent) → IsWellFormed r
+        → MayDo r u q.place actions.GetFolderParent
+        → NoneComes actions.GetFolderParent (answer_parent r u q) }
+    ensures parents { (r : Repository) (u : List ℕ) (q : ShowParents)
+        → MayDo r u q.parents.place actions.GetObjectParents
+        → NoneComes actions.GetObjectParents (answer_show_parents r u q) }
+    ensures versions { (r : Repository) (u : List ℕ) (q : ShowVersions)
+        → MayDo r u q.versions.place actions.GetAllVersions
+        → NoneComes actions.GetAllVersions (answer_show_versions r u q) }
 {}

@@ -9,12 +9,12 @@ use Rattle.http_caller.specs.Steps.{least_of}
 use Rattle.request_target.specs.Targets.{target_of, query_of}
 use Rattle.bind_read.specs.declared.asked.Asked.{Asked}
 use Rattle.bind_read.specs.declared.asked.Asked.TheVariants as asks
-use Rattle.bind_read.specs.declared.words.Service.{Service}
-use Rattle.bind_read.specs.declared.words.Service.TheVariants as services
+use Rattle.bind_words.specs.declared.words.Service.{Service}
+use Rattle.bind_words.specs.declared.words.Service.TheVariants as services
 use Rattle.bind_parts.specs.declared.asking.Asking.{Asking}
 use Rattle.bind_parts.specs.Askings.{with_query, host_of}
-use Rattle.bind_read.specs.Forms.{method_of, form_of}
-use Rattle.bind_read.specs.Words.{service_of}
+use Rattle.bind_form.specs.Forms.{method_of, form_of}
+use Rattle.bind_words.specs.Words.{service_of}
 use Rattle.bind_tree.specs.CreateFolder.{create_folder_of}
 use Rattle.bind_include.specs.Objects.{show_object_of, show_properties_of}
 use Rattle.bind_include.specs.Children.{show_children_of, show_default_of}

@@ -4,9 +4,4 @@
 ghost use Rattle.std.specs.Prelude.{◌≡◌};
 
 pub mod asked;
-pub mod boundary;
 pub mod call;
-pub mod fields;
-pub mod form;
-pub mod media;
-pub mod words;

@@ -81,6 +81,16 @@ fn examine(piece: Piece, bytes: &[u8], budget: usize, spans: &mut [HeaderSpan]) 
     }
 }
 
+// How many bytes settle what the piece is, whatever they are, where it may have so many.
+fn limit_of(piece: Piece, budget: usize) -> usize
+    ensures { result ≤ budget }
+{
+    match piece {
+        Piece::Trailers => budget.min(TRAILER_LIMIT),
+        _ => budget,
+    }
+}
+
 // A look at the bytes, where it is worth it.
 fn look(
     piece: Piece,
@@ -92,7 +102,7 @@ fn look(
     requires { length spans.old ≡ 21846 }
     ensures { LooksPiece piece budget bytes.now result }
 {
-    if !pace.is_worth(bytes, budget.min(TRAILER_LIMIT)) {
+    if !pace.is_worth(bytes, limit_of(piece, budget)) {
         return PieceSeen::Open;
     }
     examine(piece, bytes, budget, spans)

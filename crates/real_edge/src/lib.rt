@@ -2,6 +2,7 @@
 //! They keep their count of faults, and tell nothing of content.
 #![tactic(auto)]
 
+mod again;
 mod clock;
 mod sink;
 mod source;

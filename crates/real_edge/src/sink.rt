@@ -2,6 +2,7 @@
 ghost use Rattle.std.specs.Prelude.{◌≡◌, None};
 ghost use Rattle.outside.specs.Outside.{nothing_beside_sink};
 
+use crate::again::write_some;
 use outside::{Failed, Sink};
 use std::io::Write;
 
@@ -34,8 +35,8 @@ impl<W: Write> Sink for StdSink<W> {
     ghost aside = { λ _. nothing_beside_sink };
 
     fn write(&mut self, piece: &[u8]) -> Result<usize, Failed> {
-        match self.writer.write(piece) {
-            Ok(count) if count > 0 => Ok(count),
+        match write_some(&mut self.writer, piece) {
+            Some(count) if count > 0 => Ok(count),
             _ => {
                 self.faults = self.faults.saturating_add(1);
                 Err(Failed)

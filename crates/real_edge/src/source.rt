@@ -2,6 +2,7 @@
 ghost use Rattle.std.specs.Prelude.{◌≡◌, None, false};
 ghost use Rattle.outside.specs.Outside.{nothing_beside_source};
 
+use crate::again::read_some;
 use outside::{Failed, Source};
 use std::io::Read;
 
@@ -45,12 +46,12 @@ impl<R: Read> Source for StdSource<R> {
         if self.ended {
             return Ok(0);
         }
-        match self.reader.read(room) {
-            Ok(count) => {
+        match read_some(&mut self.reader, room) {
+            Some(count) => {
                 self.ended = count == 0;
                 Ok(count)
             }
-            Err(_) => {
+            None => {
                 self.faults = self.faults.saturating_add(1);
                 Err(Failed)
             }

@@ -1,6 +1,7 @@
 //! Connections on loopback, and where they come from.
 ghost use Rattle.std.specs.Prelude.{◌≡◌, ◌≤◌, [], None, false, refl};
 
+use crate::again::{read_some, write_some};
 use outside::{Failed, Host, Link, Sink, Source};
 use std::io::{Read, Write};
 use std::net::{IpAddr, Ipv4Addr, Net, OpenListener, OpenStream, Shutdown, SocketAddr};
@@ -50,7 +51,7 @@ impl<S: Read + Write + OpenStream + Drop> Source for TcpLink<S> {
             return Ok(0);
         }
         let count = match &mut self.stream {
-            Some(stream) => stream.read(room).ok(),
+            Some(stream) => read_some(stream, room),
             None => None,
         };
         match count {
@@ -73,7 +74,7 @@ impl<S: Read + Write + OpenStream + Drop> Sink for TcpLink<S> {
 
     fn write(&mut self, piece: &[u8]) -> Result<usize, Failed> {
         let count = match &mut self.stream {
-            Some(stream) => stream.write(piece).ok(),
+            Some(stream) => write_some(stream, piece),
             None => None,
         };
         match count {

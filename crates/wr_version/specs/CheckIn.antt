@@ -1,5 +1,5 @@
 -- checkIn (CMIS 1.1, section 2.2.7.3): when it is refused, what it makes of the repository, and what it answers.
-use Rattle.std.specs.Prelude.{ℕ, ◌+◌, true, not, List, [], ◌∷◌, Option, None, unwrap_or, option_map}
+use Rattle.std.specs.Prelude.{ℕ, ◌+◌, true, not, List, [], Option, None, unwrap_or, option_map}
 use Rattle.cm_base.specs.declared.number.Moment.{Moment}
 use Rattle.cm_base.specs.declared.object.Object.{Object}
 use Rattle.cm_base.specs.declared.content.Content.{Content}

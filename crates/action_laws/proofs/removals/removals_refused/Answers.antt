@@ -5,4 +5,5 @@ pub returns : goal.returns
 returns c = record {
   delete = λ r u m cost call w b. laws.delete r u m cost call w b;
   cancel_check_out = λ r u cost call b. laws.cancel_check_out r u cost call b;
+  delete_tree = λ r u cost call b. laws.delete_tree r u cost call b;
 }

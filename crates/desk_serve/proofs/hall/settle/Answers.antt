@@ -1,4 +1,3 @@
-use Rattle.std.proofs.Common.{rules}
 use Rattle.desk_serve.specs.Sessions.{terms}
 use Rattle.desk_serve.proofs.Noting.{held_of}
 use Rattle.desk_serve.proofs.hall.settle.Goals as goal

@@ -1,4 +1,4 @@
-use Rattle.std.proofs.Common.{rules, vec_len, subst, Err}
+use Rattle.std.proofs.Common.{vec_len, subst, Err}
 use Rattle.desk_lock.specs.Words.{Splits}
 use Rattle.desk_serve.specs.Sessions.{terms}
 use Rattle.desk_serve.specs.Keeping.{held_by}

@@ -1,4 +1,3 @@
-use Rattle.std.proofs.Common.{rules}
 use Rattle.outside.specs.Hosts.{IsNew}
 use Rattle.desk_serve.proofs.Taking.{taken_from}
 use Rattle.desk_serve.proofs.serving.next_link.Goals as goal

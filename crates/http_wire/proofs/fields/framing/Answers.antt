@@ -1,4 +1,4 @@
-use Rattle.std.proofs.Common.{◌∷◌, [], ◌∙◌, List, ℕ, sym, ap}
+use Rattle.std.proofs.Common.{[], ◌∙◌, List, ℕ, sym, ap}
 use Rattle.http_grammar.specs.Fields.{framing}
 use Rattle.http_wire.proofs.fields.framing.Goals as goal
 

@@ -1,4 +1,4 @@
-use Rattle.std.proofs.Common.{◌≡◌, ◌∙◌, true, false, sym}
+use Rattle.std.proofs.Common.{◌≡◌, ◌∙◌, true, sym}
 use Rattle.std.proofs.lemmas.Bool.{false≢true}
 use Rattle.http_grammar.specs.Request.{head_of}
 use Rattle.http_wire.proofs.RequestReading.{sized_within, no_request, whole_answer, broken_answer, body_wants, put_together}

@@ -1,0 +1,4 @@
+//! Computed rows of what small requests ask: no code.
+#![tactic(auto)]
+
+ghost use Rattle.std.specs.Prelude.{◌≡◌};
