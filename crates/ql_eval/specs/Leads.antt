@@ -1,5 +1,5 @@
 -- Where a pattern and a text lead up to the next run.
-use Rattle.std.specs.Prelude.{◌≡◌, ℕ, ◌<◌, ◌≤◌, true, false, List, [], ◌∷◌, length}
+use Rattle.std.specs.Prelude.{◌≡◌, ℕ, ◌<◌, ◌≤◌, true, false, List, [], length}
 use Rattle.ql_bind.specs.declared.bound.Piece.{Piece}
 use Rattle.ql_eval.specs.declared.like.Lead.{Lead}
 use Rattle.ql_eval.specs.declared.like.Lead.TheVariants as leads

@@ -1,4 +1,4 @@
-use Rattle.std.proofs.Common.{rules, ◌∙◌, sym, ap, ◌&&◌, if◌then◌else◌, Some, None, find, option_and_then, bytes_eq}
+use Rattle.std.proofs.Common.{◌∙◌, sym, ap, ◌&&◌, if◌then◌else◌, Some, None, find, option_and_then, bytes_eq}
 use Rattle.cmis_spec.specs.Repository.{is_filed, entry_of, entry_name}
 use Rattle.cmis_spec.specs.Access.{stands}
 use Rattle.cm_state.specs.Looks.{standing_at}
