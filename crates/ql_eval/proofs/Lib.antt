@@ -1,3 +1,4 @@
 pub mod Leading
+pub mod Mentioned
 pub mod Orders
 pub mod Runs

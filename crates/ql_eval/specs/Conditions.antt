@@ -1,5 +1,5 @@
 -- What a bound condition says of a row (CMIS 1.1, section 2.1.14.2).
-use Rattle.std.specs.Prelude.{Bool, true, not, List, Option, Some, None, if◌then◌else◌}
+use Rattle.std.specs.Prelude.{ℕ, Bool, true, false, ◌||◌, not, List, Option, Some, None, bytes_eq, if◌then◌else◌}
 use Rattle.std.specs.List.{list_any}
 use Rattle.core.specs.declared.cmp.Ordering.{Ordering}
 use Rattle.core.specs.Ordering.{is_eq, is_ne, is_lt, is_gt, is_le, is_ge}
@@ -91,3 +91,29 @@ keeps_by (Some x) row = holds (truth row x)
 
 abbrev pub keeps : Bound → Row → Bool
 keeps bound row = keeps_by bound.filter row
+
+-- ---- which properties a condition names
+
+abbrev pub mention_step : List ℕ → Condition-F Bool → Bool
+mention_step id (Condition-F.Or a b) = a || b
+mention_step id (Condition-F.And a b) = a || b
+mention_step id (Condition-F.Not a) = a
+mention_step id (Condition-F.Compare other by s) = bytes_eq other id
+mention_step id (Condition-F.In other negated ss) = bytes_eq other id
+mention_step id (Condition-F.AnyIn other negated ss) = bytes_eq other id
+mention_step id (Condition-F.Like other negated ps) = bytes_eq other id
+mention_step id (Condition-F.Null other negated) = bytes_eq other id
+mention_step id (Condition-F.InFolder f) = false
+mention_step id (Condition-F.InTree f) = false
+
+-- the condition names the property with this id
+abbrev pub mentions : List ℕ → Condition → Bool
+mentions id = fold-Condition Bool (mention_step id)
+
+-- WHERE tests the property; without it none is tested
+abbrev pub tests_by : Option Condition → List ℕ → Bool
+tests_by None id = false
+tests_by (Some x) id = mentions id x
+
+abbrev pub tests : Bound → List ℕ → Bool
+tests bound id = tests_by bound.filter id

@@ -4,7 +4,7 @@ ghost use Rattle.std.specs.Option.{option_copied};
 ghost use Rattle.cm_base.specs.declared.value.Value.TheVariants.{Unset};
 ghost use Rattle.cm_types.specs.Properties.{value_in};
 ghost use Rattle.ql_eval.specs.Truths.{opposite_if};
-ghost use Rattle.ql_eval.specs.Conditions.{any_in, compared, is_in, is_like, is_null, keeps, truth};
+ghost use Rattle.ql_eval.specs.Conditions.{any_in, compared, is_in, is_like, is_null, keeps, mentions, tests, truth};
 
 use crate::row::Row;
 use crate::truth::Truth;
@@ -86,5 +86,33 @@ pub fn keeps(row: &Row, bound: &Bound) -> bool
     match &bound.filter {
         None => true,
         Some(x) => truth(row, x).holds(),
+    }
+}
+
+/// Whether a bound condition names the property with this id.
+pub fn mentions(x: &Condition, id: &Text) -> bool
+    ensures { result ≡ mentions id.now x.now }
+{
+    match x {
+        Condition::Or(a, b) => mentions(a.get(), id) || mentions(b.get(), id),
+        Condition::And(a, b) => mentions(a.get(), id) || mentions(b.get(), id),
+        Condition::Not(a) => mentions(a.get(), id),
+        Condition::Compare(other, _, _) => other.is(id),
+        Condition::In(other, _, _) => other.is(id),
+        Condition::AnyIn(other, _, _) => other.is(id),
+        Condition::Like(other, _, _) => other.is(id),
+        Condition::Null(other, _) => other.is(id),
+        Condition::InFolder(_) => false,
+        Condition::InTree(_) => false,
+    }
+}
+
+/// Whether the query tests the property: its condition names it.
+pub fn tests(bound: &Bound, id: &Text) -> bool
+    ensures { result ≡ tests bound.now id.now }
+{
+    match &bound.filter {
+        None => false,
+        Some(x) => mentions(x, id),
     }
 }

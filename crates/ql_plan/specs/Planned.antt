@@ -13,7 +13,7 @@ use Rattle.ql_bind.specs.declared.bound.Bound.{Bound}
 use Rattle.ql_eval.specs.declared.row.Row.{Row}
 use Rattle.ql_eval.specs.declared.truth.Truth.TheVariants.{Holds}
 use Rattle.ql_eval.specs.Conditions.{truth, keeps, keeps_by}
-use Rattle.row_store.specs.Rows.{row_at, of_types, has_types, filed_in}
+use Rattle.row_store.specs.Rows.{Search, row_at, row_kept, of_types, has_types, filed_in}
 use Rattle.ql_plan.specs.declared.key.Key.{Key}
 use Rattle.ql_plan.specs.declared.key.Key.TheVariants as keys
 use Rattle.ql_plan.specs.Found.{rows_of}
@@ -39,15 +39,9 @@ HasAll r bound ns = (u : List ℕ) (versions : Bool) → filter (keeps bound) (f
 
 -- ---- what is kept
 
--- who asks, for what, and whether each version is a row
-pub record Search : Type 0 where
-  pub user : List ℕ
-  pub bound : Bound
-  pub versions : Bool
-
 -- the row of a number, where there is one that the query keeps
 abbrev pub kept_at : Repository → Search → Oid → List Row
-kept_at r s n = filter (keeps s.bound) (option_to_list (row_at r s.user s.versions n))
+kept_at r s n = option_to_list (row_kept r s n)
 
 -- of the rows of these numbers, those that the query keeps
 abbrev pub kept : Repository → Search → List Oid → List Row

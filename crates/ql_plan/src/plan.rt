@@ -11,33 +11,12 @@ use cm_base::number::{Oid, Oids};
 use cm_base::steps::Steps;
 use cm_base::text::Text;
 use ql_bind::bound::Bound;
-use ql_eval::eval::keeps;
 use ql_eval::order::ordered;
 use ql_eval::row::Rows;
+use row_store::search::Search;
 use row_store::store::RowStore;
 use std::alloc::{AllocError, Global};
-use std::marker::Model;
 use std::sync::ledger::Ledger;
-
-/// A search: who asks, for what, and whether each version is a row.
-#[derive(Drop)]
-struct Search<'a> {
-    user: &'a Text,
-    bound: &'a Bound,
-    versions: bool,
-}
-
-impl<'a> Model for Search<'a> {
-    ghost use Rattle.std.specs.Coded.{codes};
-    ghost use Rattle.ql_bind.specs.contracts.bound.Condition as condition;
-    ghost use Rattle.ql_plan.specs.Planned.{Search as Sought};
-
-    ghost Value = { Sought };
-
-    ghost coded = { Prim.hlevel (codes, condition.the_row.coded) };
-
-    ghost view = { λ s. record { user = s.user.now; bound = s.bound.now; versions = s.versions } };
-}
 
 // Fetches an object, and adds its row where it has one that the query keeps.
 fn keep<S: RowStore, L: Ledger>(
@@ -51,12 +30,10 @@ fn keep<S: RowStore, L: Ledger>(
     ensures kept { OnOk result (rows.new ≡ rows.old ++ kept_at (S.means store.now) search.now n) }
     ensures ticked { steps.new ≡ steps.old + 1 }
 {
-    match store.row(alloc, search.user, n, search.versions, steps) {
+    match store.row(alloc, search, n, steps) {
         Ok(row) => match row {
             Some(row) => {
-                if keeps(&row, search.bound) {
-                    rows.push(row)?;
-                }
+                rows.push(row)?;
                 Ok(())
             }
             None => Ok(()),

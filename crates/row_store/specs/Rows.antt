@@ -8,7 +8,9 @@ use Rattle.cm_types.specs.Types.{props_of}
 use Rattle.cmis_spec.specs.Repository.{Repository, object_at, owner_of, entry_of, is_filed, folders_up}
 use Rattle.cmis_spec.specs.Access.{reads, stands, parents_of}
 use Rattle.cm_show.specs.Shown.{shown_slot}
+use Rattle.ql_bind.specs.declared.bound.Bound.{Bound}
 use Rattle.ql_eval.specs.declared.row.Row.{Row}
+use Rattle.ql_eval.specs.Conditions.{keeps}
 
 -- ---- which objects are rows
 
@@ -61,3 +63,19 @@ filed_in r f = numbers (filter (is_filed_in r f) r.objects)
 -- the row of an object, where it is one
 abbrev pub row_at : Repository → List ℕ → Bool → Oid → Option Row
 row_at r u versions n = option_and_then (λ x. if is_row r u versions x then Some (row_of r u x) else None) (object_at r n)
+
+-- ---- what a query keeps
+
+-- who asks, for what, and whether each version is a row
+pub record Search : Type 0 where
+  pub user : List ℕ
+  pub bound : Bound
+  pub versions : Bool
+
+-- the row, where the query keeps it
+abbrev pub if_kept : Bound → Row → Option Row
+if_kept bound row = if keeps bound row then Some row else None
+
+-- the row of an object, where it is one that the query keeps
+abbrev pub row_kept : Repository → Search → Oid → Option Row
+row_kept r s n = option_and_then (if_kept s.bound) (row_at r s.user s.versions n)

@@ -3,4 +3,5 @@
 
 ghost use Rattle.std.specs.Prelude.{◌≡◌};
 
+pub mod search;
 pub mod store;

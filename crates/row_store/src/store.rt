@@ -2,11 +2,12 @@
 ghost use Rattle.std.specs.Prelude.{◌≡◌, ◌+◌, IfOk};
 ghost use Rattle.cmis_spec.specs.Repository.{Repository};
 ghost use Rattle.cmis_spec.specs.Well.{IsWellFormed};
-ghost use Rattle.row_store.specs.Rows.{filed_in, has_types, of_types, row_at};
+ghost use Rattle.row_store.specs.Rows.{filed_in, has_types, of_types, row_kept};
 
+use crate::search::Search;
 use cm_base::number::{Oid, Oids};
 use cm_base::steps::Steps;
-use cm_base::text::{Text, Texts};
+use cm_base::text::Texts;
 use ql_eval::row::Row;
 use std::alloc::{AllocError, Global};
 use std::sync::ledger::Ledger;
@@ -33,15 +34,14 @@ pub trait RowStore {
         ensures { IfOk result (λ all. all ≡ filed_in (means self.now) folder) };
 
     /// The row of an object; none where it isn't there, the user doesn't read it, it is a working copy, or an older version while
-    /// `versions` is false. Ticks one step.
+    /// `versions` is false, and none where the query doesn't keep it. Ticks one step.
     fn row<L: Ledger>(
         &self,
         alloc: Global,
-        user: &Text,
+        search: &Search<'_>,
         x: Oid,
-        versions: bool,
         steps: &mut Steps<L>,
     ) -> Result<Option<Row>, AllocError>
-        ensures row { IfOk result (λ row. row ≡ row_at (means self.now) user.now versions x) }
+        ensures row { IfOk result (λ row. row ≡ row_kept (means self.now) search.now x) }
         ensures ticked { steps.new ≡ steps.old + 1 };
 }

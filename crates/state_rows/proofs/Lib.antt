@@ -3,3 +3,4 @@ mod RisingLists
 mod Sets
 mod FiledIn
 pub mod Parents
+mod Tested

@@ -7,9 +7,10 @@ use crate::row::row_if;
 use crate::walk::of_types;
 use cm_base::number::{Oid, Oids};
 use cm_base::steps::Steps;
-use cm_base::text::{Text, Texts};
+use cm_base::text::Texts;
 use cm_state::state::State;
 use ql_eval::row::Row;
+use row_store::search::Search;
 use row_store::store::RowStore;
 use std::alloc::{AllocError, Global};
 use std::marker::Model;
@@ -63,13 +64,12 @@ impl<'a> RowStore for StateRows<'a> {
     fn row<L: Ledger>(
         &self,
         alloc: Global,
-        user: &Text,
+        search: &Search<'_>,
         x: Oid,
-        versions: bool,
         steps: &mut Steps<L>,
     ) -> Result<Option<Row>, AllocError> {
         match self.state.fetch(x, steps) {
-            Some(x) => row_if(alloc, self.state, user, versions, x),
+            Some(x) => row_if(alloc, self.state, search, x),
             None => Ok(None),
         }
     }

@@ -1,21 +1,21 @@
 //! The values that a row has.
-ghost use Rattle.std.specs.Prelude.{◌≡◌, ◌++◌, [], ◌∷◌, filter, map, IfOk, OnOk};
+ghost use Rattle.std.specs.Prelude.{◌≡◌, ◌++◌, [], ◌∷◌, map, IfOk, OnOk};
 ghost use Rattle.map_keys.specs.Parts.{pointee};
 ghost use Rattle.cm_show.specs.Seen.{value_seen};
 ghost use Rattle.cm_show.specs.Shown.{property_value, shown_slot};
-ghost use Rattle.row_store.specs.Rows.{row_values};
+ghost use Rattle.state_rows.specs.Tested.{queryable_values, tested_values};
 
-use call_parts::readings::PropertyFilter;
 use cm_base::copies::Copies;
 use cm_base::items::Items;
 use cm_base::object::Object;
 use cm_base::text::Text;
 use cm_base::value::{Scalar, Slot, Value, Values};
 use cm_show::seen::{PropertyValue, kept_seen, system_seen};
-use cm_show::shown::shown_defs;
 use cm_show::system::find_system;
 use cm_state::state::State;
 use cm_types::property::PropDef;
+use ql_eval::eval::tests;
+use row_store::search::Search;
 use std::alloc::{AllocError, Global};
 
 // The value that is seen, as a value of its own.
@@ -77,8 +77,7 @@ fn push_queryable(
     x: &Object,
     def: &PropDef,
 ) -> Result<(), AllocError>
-    ensures { OnOk result (all.new ≡
-        all.old ++ map (shown_slot state.now user.now x.now) (filter (λ d. d.queryable) (def.now ∷ []))) }
+    ensures { OnOk result (all.new ≡ all.old ++ queryable_values state.now user.now x.now (def.now ∷ [])) }
 {
     if def.queryable {
         all.push(slot(alloc, state, user, x, def)?)?;
@@ -86,15 +85,15 @@ fn push_queryable(
     Ok(())
 }
 
-fn queryable_of(
+/// Of these properties, the queryable ones as the user sees them.
+pub(crate) fn queryable_values(
     alloc: Global,
     state: &State,
     user: &Text,
     x: &Object,
     defs: &[&PropDef],
 ) -> Result<Values, AllocError>
-    ensures { IfOk result (λ all. all ≡
-        map (shown_slot state.now user.now x.now) (filter (λ d. d.queryable) (map pointee defs.now))) }
+    ensures { IfOk result (λ all. all ≡ queryable_values state.now user.now x.now (map pointee defs.now)) }
 {
     let mut all = Items::new(alloc);
     for def in defs {
@@ -103,16 +102,36 @@ fn queryable_of(
     Ok(all)
 }
 
-/// The queryable properties as the user sees them.
-pub(crate) fn row_values(
+// Adds the value of the property where it is queryable and the condition names it.
+fn push_tested(
+    all: &mut Values,
     alloc: Global,
     state: &State,
-    user: &Text,
+    search: &Search<'_>,
     x: &Object,
-) -> Result<Values, AllocError>
-    ensures { IfOk result (λ all. all ≡ row_values state.now user.now x.now) }
+    def: &PropDef,
+) -> Result<(), AllocError>
+    ensures { OnOk result (all.new ≡ all.old ++ tested_values state.now search.now x.now (def.now ∷ [])) }
 {
-    let defs = shown_defs(alloc, state, &PropertyFilter::All, x)?;
-    let all = queryable_of(alloc, state, user, x, &defs)?;
+    if def.queryable && tests(search.bound, &def.id) {
+        all.push(slot(alloc, state, search.user, x, def)?)?;
+    }
+    Ok(())
+}
+
+/// Of these properties, the queryable ones that the condition names, as the user sees them.
+pub(crate) fn tested_values(
+    alloc: Global,
+    state: &State,
+    search: &Search<'_>,
+    x: &Object,
+    defs: &[&PropDef],
+) -> Result<Values, AllocError>
+    ensures { IfOk result (λ all. all ≡ tested_values state.now search.now x.now (map pointee defs.now)) }
+{
+    let mut all = Items::new(alloc);
+    for def in defs {
+        push_tested(&mut all, alloc, state, search, x, def)?;
+    }
     Ok(all)
 }
