@@ -1,4 +1,3 @@
 pub mod Asked
 pub mod Failed
 pub mod Moments
-pub mod Scheduled

@@ -4,4 +4,3 @@ pub mod Options
 pub mod Programs
 pub mod Serving
 pub mod Loading
-pub mod Scheduling

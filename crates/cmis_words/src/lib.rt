@@ -7,6 +7,5 @@ pub mod groups;
 pub mod laws;
 pub mod load;
 mod options;
-pub mod schedule;
 pub mod serve;
 pub mod words;

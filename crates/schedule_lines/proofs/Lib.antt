@@ -1,6 +1,0 @@
-mod Fronts
-mod Kept
-mod Names
-mod Pieces
-mod Standing
-mod Words

@@ -1,4 +1,0 @@
-pub mod Limits
-pub mod Lines
-pub mod Scripts
-pub mod Reading
