@@ -8,7 +8,7 @@ use Rattle.cm_base.specs.declared.object.Object.{Object}
 use Rattle.cm_base.specs.declared.cause.Cause.{Cause}
 use Rattle.cm_base.specs.declared.cause.Cause.TheVariants as causes
 use Rattle.cm_types.specs.declared.definition.BaseType.TheVariants as bases
-use Rattle.cm_show.specs.Addressed.{addressed}
+use Rattle.cm_see.specs.Addressed.{addressed}
 use Rattle.cmis_spec.specs.Repository.{Repository, is_a}
 use Rattle.rd_lists.specs.Listed.{is_too_long}
 use Rattle.rd_trees.specs.ReadTree.{all_below, answer_tree, answer_tree_of, included_row, tree_reply}

@@ -10,13 +10,13 @@ use Rattle.cm_base.specs.Judged.{◌>>=◌, ◌>>◌, find_or, refuse}
 use Rattle.cm_types.specs.declared.definition.TypeDef.{TypeDef}
 use Rattle.action_parts.specs.declared.action.Action.TheVariants as actions
 use Rattle.call_parts.specs.declared.place.Place.{Place}
-use Rattle.cm_show.specs.Addressed.{addressed}
+use Rattle.cm_see.specs.Addressed.{addressed}
 use Rattle.cmis_spec.specs.Repository.{Repository, same, entry_of, type_of}
 use Rattle.cmis_spec.specs.Access.{is_at_least, level_by_list}
 use Rattle.cmis_spec.specs.Well.{IsTyped, IsWellFormed}
 use Rattle.cmis_laws.proofs.Lists.{found_holds}
-use Rattle.seen_laws.proofs.Answers.{addressed_alike}
-use Rattle.seen_laws.proofs.Worlds.{AreAlike}
+use Rattle.cm_see.proofs.Answers.{addressed_alike}
+use Rattle.cm_see.proofs.Worlds.{AreAlike}
 use Rattle.wr_rules.specs.Rules.{has_unknown_permission, judge_storage}
 use Rattle.wr_access.specs.ApplyAcl.{is_offered, judge_change, keeps_its_list, refusal_apply_acl}
 use Rattle.cm_actions.specs.Allowed.{by_type}

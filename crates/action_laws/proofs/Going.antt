@@ -14,7 +14,7 @@ use Rattle.action_parts.specs.declared.action.Action.TheVariants as actions
 use Rattle.call_parts.specs.declared.versions.CancelCheckOut.{CancelCheckOut}
 use Rattle.call_parts.specs.declared.versions.Delete.{Delete}
 use Rattle.delete_tree_parts.specs.declared.writes.DeleteTree.{DeleteTree}
-use Rattle.cm_show.specs.Addressed.{addressed}
+use Rattle.cm_see.specs.Addressed.{addressed}
 use Rattle.cmis_spec.specs.Repository.{Repository, same, root, object_at, series_at, series_of, is_a}
 use Rattle.cmis_spec.specs.Access.{is_at_least, lacks, level_of_caller}
 use Rattle.cmis_spec.specs.Documents.{is_working_copy}

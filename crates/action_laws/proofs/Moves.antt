@@ -12,7 +12,7 @@ use Rattle.action_parts.specs.declared.action.Action.TheVariants as actions
 use Rattle.call_parts.specs.declared.changes.AddToFolder.{AddToFolder}
 use Rattle.call_parts.specs.declared.changes.MoveObject.{MoveObject}
 use Rattle.call_parts.specs.declared.changes.RemoveFromFolder.{RemoveFromFolder}
-use Rattle.cm_show.specs.Addressed.{addressed}
+use Rattle.cm_see.specs.Addressed.{addressed}
 use Rattle.cmis_spec.specs.Repository.{Repository, same, root, is_a, is_filed, is_taken, is_under, entry_name, entry_of}
 use Rattle.cmis_spec.specs.Access.{is_at_least, lacks, level_of_caller, read_named}
 use Rattle.cmis_spec.specs.Documents.{is_working_copy}

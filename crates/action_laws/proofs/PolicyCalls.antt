@@ -8,7 +8,7 @@ use Rattle.cm_types.specs.declared.definition.BaseType.TheVariants as bases
 use Rattle.action_parts.specs.declared.action.Action.TheVariants as actions
 use Rattle.policy_parts.specs.declared.writes.ApplyPolicy.{ApplyPolicy}
 use Rattle.policy_parts.specs.declared.writes.RemovePolicy.{RemovePolicy}
-use Rattle.cm_show.specs.Addressed.{addressed}
+use Rattle.cm_see.specs.Addressed.{addressed}
 use Rattle.cmis_spec.specs.Repository.{Repository, is_a, type_of}
 use Rattle.cmis_spec.specs.Access.{is_at_least, level_of_caller, read_named}
 use Rattle.cmis_spec.specs.Well.{IsWellFormed}

@@ -11,7 +11,7 @@ use Rattle.cm_base.specs.declared.cause.Cause.{Cause}
 use Rattle.cm_base.specs.declared.cause.Cause.TheVariants as causes
 use Rattle.cm_base.specs.Judged.{◌>>◌, find_or, refuse}
 use Rattle.cm_types.specs.declared.definition.BaseType.TheVariants as bases
-use Rattle.cm_show.specs.Addressed.{addressed}
+use Rattle.cm_see.specs.Addressed.{addressed}
 use Rattle.cm_state.specs.Looks.{content_at}
 use Rattle.cmis_spec.specs.Repository.{Repository, is_a}
 use Rattle.rd_version.specs.Content.{answer_content, content_in, content_reply, rendition_named, rendition_reply, stream_of}

@@ -19,18 +19,18 @@ use Rattle.cm_base.specs.declared.cause.Cause.TheVariants as causes
 use Rattle.cm_base.specs.Judged.{Judged, ◌>>=◌, ◌>>◌, find_or, refuse}
 use Rattle.cm_types.specs.declared.definition.BaseType.TheVariants as bases
 use Rattle.cm_types.specs.declared.definition.TypeDef.{TypeDef}
-use Rattle.cm_show.specs.Addressed.{addressed}
+use Rattle.cm_see.specs.Addressed.{addressed}
 use Rattle.cmis_spec.specs.Repository.{Repository, same, root, entry_of, is_a, is_filed, object_at, parent_in}
 use Rattle.cmis_spec.specs.Access.{children_of, parents_of, read_at, reads}
 use Rattle.cmis_spec.specs.Seen.{seen_object}
 use Rattle.cmis_spec.specs.Well.{Climbs, HasWay, IsWellFormed}
 use Rattle.cmis_laws.proofs.Entries.{all_there}
 use Rattle.cmis_laws.proofs.Lists.{found_holds, none_some, same_eq, same_refl, some_eq}
-use Rattle.seen_laws.proofs.Answers.{addressed_alike}
-use Rattle.seen_laws.proofs.Looks.{first_of}
-use Rattle.seen_laws.proofs.Objects.{IsHere, here_read}
-use Rattle.seen_laws.proofs.Paths.{sees_up}
-use Rattle.seen_laws.proofs.Worlds.{AreAlike}
+use Rattle.cm_see.proofs.Answers.{addressed_alike}
+use Rattle.cm_see.proofs.Looks.{first_of}
+use Rattle.cm_see.proofs.Objects.{IsHere, here_read}
+use Rattle.cm_see.proofs.SeenPaths.{sees_up}
+use Rattle.cm_see.proofs.Worlds.{AreAlike}
 use Rattle.ql_bind.specs.declared.bound.OrderKey.{OrderKey}
 use Rattle.ql_bind.specs.Binding.{each_onto}
 use Rattle.rd_order.specs.Ordered.{key_of, object_order, orderable_named, ordered, sort_filter, sort_key, sort_keys, sorted_by}

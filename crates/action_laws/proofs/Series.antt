@@ -16,8 +16,8 @@ use Rattle.action_parts.specs.declared.action.Action.TheVariants as actions
 use Rattle.call_parts.specs.declared.versions.CheckIn.{CheckIn}
 use Rattle.call_parts.specs.declared.versions.CheckOut.{CheckOut}
 use Rattle.cm_state.specs.Looks.{content_at}
-use Rattle.cm_show.specs.Addressed.{addressed}
-use Rattle.cm_show.specs.Shown.{is_latest_version}
+use Rattle.cm_see.specs.Addressed.{addressed}
+use Rattle.cm_see.specs.Shown.{is_latest_version}
 use Rattle.cmis_spec.specs.Repository.{Repository, entry_of, is_a, object_at, same, series_at, type_of}
 use Rattle.cmis_spec.specs.Access.{is_at_least, lacks, level_of_caller}
 use Rattle.cmis_spec.specs.Documents.{is_copy_of, is_working_copy}

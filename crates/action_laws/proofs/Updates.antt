@@ -11,7 +11,7 @@ use Rattle.cm_types.specs.declared.given.PropertyCall.TheVariants as calls
 use Rattle.cm_types.specs.Properties.{judge_properties}
 use Rattle.action_parts.specs.declared.action.Action.TheVariants as actions
 use Rattle.call_parts.specs.declared.changes.UpdateProperties.{UpdateProperties}
-use Rattle.cm_show.specs.Addressed.{addressed}
+use Rattle.cm_see.specs.Addressed.{addressed}
 use Rattle.cmis_spec.specs.Repository.{Repository, same, root}
 use Rattle.cmis_spec.specs.Access.{is_at_least, level_of_caller}
 use Rattle.cmis_spec.specs.Documents.{is_working_copy, judge_changeable}

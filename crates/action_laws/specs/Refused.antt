@@ -12,7 +12,7 @@ use Rattle.call_parts.specs.declared.versions.Delete.{Delete}
 use Rattle.action_parts.specs.declared.action.Action.{Action}
 use Rattle.action_parts.specs.declared.action.Action.TheVariants as actions
 use Rattle.create_parts.specs.declared.writes.CreateRelationship.{CreateRelationship}
-use Rattle.cm_show.specs.Addressed.{addressed}
+use Rattle.cm_see.specs.Addressed.{addressed}
 use Rattle.cm_actions.specs.Allowed.{is_allowed}
 use Rattle.cmis_spec.specs.Repository.{Repository, same, entry_of}
 use Rattle.cmis_spec.specs.Access.{lacks, read_named}

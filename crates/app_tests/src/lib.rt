@@ -1,9 +1,5 @@
-//! Tests of the program's words and of its top call; they stand beside their crates, since a crate with tests is proved twice.
+//! Tests of the top call over hosts in memory; they stand beside their crate, since a crate with tests is proved twice.
 #![tactic(auto)]
 
 #[cfg(test)]
 mod moments;
-#[cfg(test)]
-mod runs;
-#[cfg(test)]
-mod words;

@@ -1,48 +1,91 @@
-//! What is refused at the moment of a write.
-use cmis_app::run_once;
-use outside::{ListClock, MemSink, MemSource};
-use std::alloc::{AllocError, Global};
+//! The moments that a clock gives: the first is the root's, and each write has one of its own.
+ghost use Rattle.std.specs.Prelude.{All, IfOk, map};
+ghost use Rattle.cmis_spec.specs.Well.{HasGroups};
+ghost use Rattle.outside.specs.Hosts.{is_new};
 
-// A request of the administrator at the root.
-fn posted(alloc: Global, form: &str) -> Result<String, AllocError> {
-    let length = form.len();
-    format!(in alloc;
-        "POST /cmis/main/root HTTP/1.1\r\nHost: x\r\nAuthorization: Basic YWRtaW46cHc=\r\nContent-Type: application/x-www-form-urlencoded\r\nContent-Length: {length}\r\n\r\n{form}"
+use cm_base::number::{Moment, Oid};
+use cm_repo::face::Face;
+use cmis_app::serve;
+use cmis_words::serve::{Serve, read_serve};
+use desk_model::Snapshot;
+use desk_serve::Closing;
+use outside::{Host, ListClock, MemHost, MemLink, OpenGate};
+use std::alloc::{AllocError, Global};
+use std::sync::Wait;
+use std::test::Fail;
+use std::thread::Threads;
+
+// A link on which two folders are made in the root.
+fn link(alloc: Global) -> Result<MemLink, AllocError>
+    ensures { IfOk result is_new }
+{
+    MemLink::new(
+        alloc,
+        b"POST /cmis/main/root HTTP/1.1\r\nHost: x\r\nAuthorization: Basic YWRtaW46cHc=\r\nContent-Type: application/x-www-form-urlencoded\r\nContent-Length: 127\r\n\r\ncmisaction=createFolder&propertyId[0]=cmis:name&propertyValue[0]=a&propertyId[1]=cmis:objectTypeId&propertyValue[1]=cmis:folderPOST /cmis/main/root HTTP/1.1\r\nHost: x\r\nAuthorization: Basic YWRtaW46cHc=\r\nContent-Type: application/x-www-form-urlencoded\r\nContent-Length: 127\r\n\r\ncmisaction=createFolder&propertyId[0]=cmis:name&propertyValue[0]=b&propertyId[1]=cmis:objectTypeId&propertyValue[1]=cmis:folder",
+        &[],
+        &[],
     )
 }
 
-// A document that is under retention until 2000 is made, and deleted.
-fn requests(alloc: Global) -> Result<String, AllocError> {
-    let made = posted(
-        alloc,
-        "cmisaction=createDocument&propertyId[0]=cmis:objectTypeId&propertyValue[0]=cmis:document&propertyId[1]=cmis:name&propertyValue[1]=d&propertyId[2]=cmis:secondaryObjectTypeIds&propertyValue[2][0]=cmis:rm_clientMgtRetention&propertyId[3]=cmis:rm_expirationDate&propertyValue[3]=2000",
-    )?;
-    let deleted = posted(alloc, "cmisaction=delete&objectId=2")?;
-    format!(in alloc; "{made}{deleted}")
+fn links(alloc: Global) -> Result<Vec<MemLink>, AllocError>
+    ensures { IfOk result (λ links. All is_new links.items) }
+{
+    let link = link(alloc)?;
+    let mut links = Vec::new(alloc);
+    links.push(link)?;
+    Ok(links)
 }
 
-// Whether the replies end so, at the moments of the root, of the creation and of the deletion.
-fn ends_with(alloc: Global, moments: &[u64], last: &[u8]) -> Result<bool, AllocError> {
-    let mut words = Vec::new(alloc);
-    words.push(String::from_str(alloc, "pipe")?)?;
-    words.push(String::from_str(alloc, "admin:pw")?)?;
-    let requests = requests(alloc)?;
-    let mut source = MemSource::new(alloc, requests.as_bytes(), &[])?;
-    let mut sink = MemSink::new(alloc, &[])?;
-    let mut clock = ListClock::new(alloc, moments)?;
-    let status = run_once(alloc, &words, &mut source, &mut sink, &mut clock);
-    Ok(status == 0 && sink.held().ends_with(last))
+fn words(alloc: Global) -> Result<Vec<String>, AllocError> {
+    let mut all = Vec::new(alloc);
+    for word in ["serve", "admin:pw", "8080", "1"] {
+        all.push(String::from_str(alloc, word)?)?;
+    }
+    Ok(all)
+}
+
+fn moment_at(last: &Snapshot<Face>, place: u64) -> Option<Moment> {
+    match last.entry(place) {
+        Some(entry) => Some(entry.moment),
+        None => None,
+    }
+}
+
+// When the root was made.
+fn moment_of_root(last: &Snapshot<Face>) -> Option<Moment> {
+    match last.state().object(Oid(1)) {
+        Some(root) => Some(root.made),
+        None => None,
+    }
+}
+
+// What stands once the link is served, with these words of the clock.
+fn served<R: Threads + Wait + Sync>(
+    rt: &R,
+    alloc: Global,
+    asked: Serve,
+) -> Result<Closing<Face, MemLink>, AllocError>
+    requires { HasGroups (map (λ u. u.name) asked.users) asked.groups }
+{
+    let links = links(alloc)?;
+    let mut host = MemHost::new(alloc, links, &[], &[])?;
+    drop(host.begin(8080, None));
+    let mut clock = ListClock::new(alloc, &[5, 6, 7])?;
+    serve(rt, alloc, asked, &mut host, &mut clock, &OpenGate)
 }
 
 #[test]
-fn a_retention_is_over_at_its_expiration(rt: HostRuntime) {
-    let gone = b"HTTP/1.1 200 OK\r\nContent-Length: 0\r\nCMIS-Step: 2\r\n\r\n".as_slice();
-    assert_eq!(rt; ends_with(rt.alloc(), &[0, 0, 2000], gone), Ok(true));
-}
-
-#[test]
-fn a_retention_is_judged_at_the_moment_of_the_write(rt: HostRuntime) {
-    let kept =
-        b"CMIS-Step: 1\r\n\r\n{\"exception\":\"constraint\",\"message\":\"object is under retention 1999 2000\"}".as_slice();
-    assert_eq!(rt; ends_with(rt.alloc(), &[0, 0, 1999], kept), Ok(true));
+fn moments_kept(rt: HostRuntime) -> Result<(), Fail> {
+    let words = words(rt.alloc())?;
+    match read_serve(rt.alloc(), &words) {
+        Ok(asked) => {
+            let closing = served(&rt, rt.alloc(), asked)?;
+            assert_eq!(rt; moment_of_root(&closing.last), Some(Moment(5)));
+            assert_eq!(rt; moment_at(&closing.last, 0), Some(Moment(6)));
+            assert_eq!(rt; moment_at(&closing.last, 1), Some(Moment(7)));
+            assert_eq!(rt; moment_at(&closing.last, 2), None);
+        }
+        Err(_) => assert!(rt; false),
+    }
+    Ok(())
 }

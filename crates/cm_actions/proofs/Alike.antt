@@ -20,11 +20,11 @@ use Rattle.cmis_spec.specs.Documents.{is_copy_of, is_working_copy, fixed_in, jud
 use Rattle.cmis_spec.specs.Retention.{has_type, is_under_hold}
 use Rattle.cmis_spec.specs.Seen.{SeenSeries, seen_series, is_read}
 use Rattle.cmis_laws.proofs.Lists.{by_test, same_eq}
-use Rattle.cm_show.specs.Shown.{is_latest_version}
+use Rattle.cm_see.specs.Shown.{is_latest_version}
 use Rattle.wr_rules.specs.Documents.{bars_content, needs_content, is_checked_out}
-use Rattle.seen_laws.proofs.Objects.{IsHere, here_read}
-use Rattle.seen_laws.proofs.Shown.{content_alike}
-use Rattle.seen_laws.proofs.Worlds.{AreAlike, IsAlike}
+use Rattle.cm_see.proofs.Objects.{IsHere, here_read}
+use Rattle.cm_see.proofs.SeenShown.{content_alike}
+use Rattle.cm_see.proofs.Worlds.{AreAlike, IsAlike}
 use Rattle.cm_actions.specs.Allowed.{actions_of, flag_of, grounds_of, kind_of, rights_of, rules_of, stage_of}
 
 -- ---- a series, by what is seen of it

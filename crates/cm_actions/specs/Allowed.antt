@@ -15,7 +15,7 @@ use Rattle.cm_actions.specs.declared.grounds.Rules.{Rules}
 use Rattle.cm_actions.specs.declared.grounds.Stage.{Stage}
 use Rattle.cm_actions.specs.declared.grounds.Grounds.{Grounds}
 use Rattle.cm_state.specs.Looks.{content_at}
-use Rattle.cm_show.specs.Shown.{is_latest_version}
+use Rattle.cm_see.specs.Shown.{is_latest_version}
 use Rattle.cmis_spec.specs.Repository.{Repository, same, root, is_a, type_of, entry_of}
 use Rattle.cmis_spec.specs.Access.{is_at_least, level_by_list, level_of_caller}
 use Rattle.cmis_spec.specs.Documents.{is_working_copy, judge_changeable}

@@ -1,6 +1,6 @@
 //! On what the allowed actions of a caller on an object depend. Nothing here takes memory.
 ghost use Rattle.std.specs.Prelude.{◌≡◌};
-ghost use Rattle.cm_show.specs.Shown.{is_latest_version};
+ghost use Rattle.cm_see.specs.Shown.{is_latest_version};
 ghost use Rattle.cm_actions.specs.Allowed.{grounds_of, kind_of, rights_of, rules_of, stage_of};
 
 use cm_acl::level::is_at_least;

@@ -22,8 +22,6 @@ pub mod pieces;
 pub mod series;
 pub mod shown;
 pub mod steps;
-#[cfg(test)]
-mod tests;
 pub mod text;
 pub mod user;
 pub mod users;

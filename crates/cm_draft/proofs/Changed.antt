@@ -1,49 +1,78 @@
--- What a change of the filing or of one object makes of the parts of a repository.
-use Rattle.std.specs.Prelude.{◌≡◌, ℕ, false, List, map, All}
-use Rattle.std.proofs.Common.{sym, ap, ◌∙◌}
+-- What a change of the filing or of one list makes of the parts of a repository.
+use Rattle.std.specs.Prelude.{◌≡◌, List, map, All}
+use Rattle.std.proofs.Common.{sym, ◌∙◌}
 use Rattle.std.specs.Arc.{arc_value}
-use Rattle.cm_base.specs.declared.number.Oid.{Oid}
 use Rattle.cm_base.specs.declared.filing.Filed.{Filed}
+use Rattle.cm_base.specs.declared.object.Object.{Object}
+use Rattle.cm_base.specs.declared.series.Series.{Series}
 use Rattle.cm_types.specs.declared.definition.TypeDef.{TypeDef}
 use Rattle.cm_types.specs.declared.definition.BaseType.TheVariants as bases
 use Rattle.cm_types.specs.Types.{is_of_base}
 use Rattle.cm_folder.specs.declared.entry.FilingEntry.{FilingEntry}
-use Rattle.cm_folder.specs.Filings.{pairs_of, retold}
-use Rattle.cmis_spec.specs.Repository.{same}
+use Rattle.cm_folder.specs.Filings.{pairs_of}
+use Rattle.cmis_spec.specs.Repository.{Repository}
 use Rattle.cm_state.specs.declared.parts.Parts.TheInside.{Inside}
 use Rattle.cm_state.specs.declared.lists.Lists.{Lists}
 use Rattle.cm_state.specs.Kept.{repository_of, IsParts}
-use Rattle.cm_state.specs.Told.{folder_by, name_by, entry_by}
-use Rattle.cm_draft.proofs.Entries.{Agree, made, own_pair, filed_told, filed_typed}
+use Rattle.cm_state.specs.Told.{entry_by, entries_of}
+use Rattle.cm_draft.proofs.Entries.{made, own_pair, filed_typed}
 
 -- ---- other pairs
 
-module _ (s : Inside) (filing : List FilingEntry) (ps : List Filed) (e : filing ≡ map (entry_by (arc_value s.types) s.lists.series s.lists.objects) ps) where
-  pub refiled_is : repository_of (record s { filing = filing }) ≡ record (repository_of s) { filed = ps }
-  refiled_is = ap (λ filed. record (repository_of s) { filed = filed }) (made (entry_by (arc_value s.types) s.lists.series s.lists.objects) (own_pair (arc_value s.types) s.lists.series s.lists.objects) filing ps e).0
+module _ (r : Repository) (filing : List FilingEntry) (ps : List Filed) (e : filing ≡ map (entry_by r.types r.series r.objects) ps) where
+  both : (pairs_of filing ≡ ps) × (filing ≡ map (entry_by r.types r.series r.objects) (pairs_of filing))
+  both = made (entry_by r.types r.series r.objects) (own_pair r.types r.series r.objects) filing ps e
 
-  pub refiled_parts : IsParts s → IsParts (record s { filing = filing })
-  refiled_parts is = record {
-    told = (made (entry_by (arc_value s.types) s.lists.series s.lists.objects) (own_pair (arc_value s.types) s.lists.series s.lists.objects) filing ps e).1;
+  pub pairs_told : filing ≡ entries_of (record r { filed = pairs_of filing })
+  pairs_told = both.1
+
+  pub pairs_filed : record r { filed = pairs_of filing } ≡ record r { filed = ps }
+  pairs_filed = λ i. record r { filed = both.0 i }
+
+module _ (s : Inside) (r : Repository) (is : repository_of s ≡ r) (filing : List FilingEntry) where
+  pub refiled_is : repository_of (record s { filing = filing }) ≡ record r { filed = pairs_of filing }
+  refiled_is = λ i. record (is i) { filed = pairs_of filing }
+
+  pub refiled_parts : filing ≡ entries_of (record r { filed = pairs_of filing }) → IsParts (record s { filing = filing })
+  refiled_parts told = record { told = told ∙ (λ i. entries_of (record (sym is i) { filed = pairs_of filing })) }
+
+-- ---- other objects or series, of which the filing tells
+
+module _ (s : Inside) (r : Repository) (is : repository_of s ≡ r) (filing : List FilingEntry) (lists now : Lists) (at : lists ≡ now)
+    (told : filing ≡ map (entry_by r.types now.series now.objects) r.filed) where
+  settled : (pairs_of filing ≡ r.filed) × (filing ≡ map (entry_by r.types now.series now.objects) (pairs_of filing))
+  settled = made (entry_by r.types now.series now.objects) (own_pair r.types now.series now.objects) filing r.filed told
+
+  settled_is : repository_of (record s { filing = filing; lists = lists }) ≡ record (repository_of (record s { lists = now })) { filed = r.filed }
+  settled_is = λ i. record (repository_of (record s { lists = at i })) { filed = settled.0 i }
+
+  settled_parts : IsParts (record s { filing = filing; lists = lists })
+  settled_parts = record {
+    told = settled.1 ∙ ((λ i. map (entry_by (sym is i).types now.series now.objects) (pairs_of filing))
+        ∙ (λ i. map (entry_by (arc_value s.types) (sym at i).series (sym at i).objects) (pairs_of filing)));
   }
 
--- ---- lists with another object or series of one number, and its entries told anew
+module _ (s : Inside) (r : Repository) (is : repository_of s ≡ r) (filing : List FilingEntry) (lists : Lists) (objects : List Object)
+    (at : lists ≡ record s.lists { objects = objects }) (told : filing ≡ entries_of (record r { objects = objects })) where
+  told_objects : filing ≡ map (entry_by r.types s.lists.series objects) r.filed
+  told_objects = told ∙ (λ i. map (entry_by r.types (sym is i).series objects) r.filed)
 
-module _ (s : Inside) (types : List TypeDef) (here : types ≡ arc_value s.types) (new now : Lists) (at : new ≡ now) (next : ℕ) (filing : List FilingEntry) (n : Oid)
-    (e : filing ≡ retold s.filing n (folder_by types new.objects n) (name_by new.series new.objects n)) (is : IsParts s)
-    (others : (m : Oid) → same m n ≡ false → Agree (arc_value s.types) s.lists.series s.lists.objects (arc_value s.types) now.series now.objects m) where
-  settled : (pairs_of filing ≡ pairs_of s.filing) × (filing ≡ map (entry_by (arc_value s.types) now.series now.objects) (pairs_of filing))
-  settled = made (entry_by (arc_value s.types) now.series now.objects) (own_pair (arc_value s.types) now.series now.objects) filing (pairs_of s.filing)
-      (e ∙ ((λ i. retold (is.told i) n (folder_by (here i) (at i).objects n) (name_by (at i).series (at i).objects n))
-      ∙ filed_told (arc_value s.types) s.lists.series s.lists.objects now.series now.objects n others (pairs_of s.filing)))
+  pub objects_put : repository_of (record s { filing = filing; lists = lists }) ≡ record r { objects = objects }
+  objects_put = settled_is s r is filing lists (record s.lists { objects = objects }) at told_objects ∙ (λ i. record (is i) { objects = objects; filed = r.filed })
 
-  pub retold_is : repository_of (record s { filing = filing; lists = new; next = next }) ≡ repository_of (record s { lists = now; next = next })
-  retold_is = λ i. record (repository_of (record s { lists = at i; next = next })) { filed = settled.0 i }
+  pub objects_parts : IsParts (record s { filing = filing; lists = lists })
+  objects_parts = settled_parts s r is filing lists (record s.lists { objects = objects }) at told_objects
 
-  pub retold_parts : IsParts (record s { filing = filing; lists = new; next = next })
-  retold_parts = record {
-    told = settled.1 ∙ ap (λ l. map (entry_by (arc_value s.types) l.series l.objects) (pairs_of filing)) (sym at);
-  }
+module _ (s : Inside) (r : Repository) (is : repository_of s ≡ r) (filing : List FilingEntry) (lists : Lists) (series : List Series)
+    (at : lists ≡ record s.lists { series = series }) (told : filing ≡ entries_of (record r { series = series })) where
+  told_series : filing ≡ map (entry_by r.types series s.lists.objects) r.filed
+  told_series = told ∙ (λ i. map (entry_by r.types series (sym is i).objects) r.filed)
+
+  pub series_put : repository_of (record s { filing = filing; lists = lists }) ≡ record r { series = series }
+  series_put = settled_is s r is filing lists (record s.lists { series = series }) at told_series ∙ (λ i. record (is i) { series = series; filed = r.filed })
+
+  pub series_parts : IsParts (record s { filing = filing; lists = lists })
+  series_parts = settled_parts s r is filing lists (record s.lists { series = series }) at told_series
 
 -- ---- lists in which no object and no series is another
 

@@ -1,18 +1,17 @@
 //! The changes of which writes are made, but those of the filing. Each takes a draft and gives it back changed.
-ghost use Rattle.std.specs.Prelude.{◌≡◌, ◌+◌, ◌<◌, ◌^◌, [], ◌∷◌, ◌++◌, IfOk, map, All, is_some, true, if◌then◌else◌};
-ghost use Rattle.cmis_spec.specs.Repository.{same, object_at};
-ghost use Rattle.cm_state.specs.Told.{object_in};
+ghost use Rattle.std.specs.Prelude.{◌≡◌, ◌+◌, ◌<◌, ◌^◌, ◌++◌, IfOk, map, All, is_some, true};
+ghost use Rattle.cmis_spec.specs.Repository.{object_at};
 ghost use Rattle.cmis_spec.specs.Changes.{stepped, noted, with_object, edited};
 
 use crate::draft::Draft;
-use crate::told::retold;
+use crate::made::{counted, given_up, objects_of, put_log};
+use crate::told::with_objects;
 use cm_base::access::{AccessList, Aces};
 use cm_base::filing::Applied;
 use cm_base::log::{Change, ChangeKind, Marks};
 use cm_base::number::{Moment, Oid};
 use cm_base::object::Object;
-use cm_lists::sequence::Sequence;
-use cm_state::lists::Lists;
+use cm_map::sequence::Sequence;
 use cm_state::parts::Parts;
 use std::alloc::{AllocError, Global};
 
@@ -34,52 +33,6 @@ pub(crate) fn applied_with(
         all = all.with_last(alloc, pair)?;
     }
     Ok(all)
-}
-
-// The lists with an object more, its access list and its policies.
-fn lists_with(
-    alloc: Global,
-    lists: Lists,
-    object: Object,
-    aces: Aces,
-    policies: &[Oid],
-) -> Result<Lists, AllocError>
-    requires objects { All (λ x. x.id.0 < object.id.0) lists.objects }
-    requires access { All (λ l. l.at.0 < object.id.0) lists.access }
-    ensures { IfOk result (λ l. l ≡ record lists {
-      objects = lists.objects ++ object ∷ [];
-      access = lists.access ++ record { at = object.id; aces = aces } ∷ [];
-      applied = lists.applied ++ map (λ p. record { policy = p; object = object.id }) policies.now;
-    }) }
-{
-    let number = object.id;
-    let objects = lists.objects.with_last(alloc, object)?;
-    let list = AccessList { at: number, aces };
-    let access = lists.access.with_last(alloc, list)?;
-    let applied = applied_with(alloc, &lists.applied, policies, number)?;
-    Ok(Lists {
-        objects,
-        access,
-        applied,
-        ..lists
-    })
-}
-
-// The lists with the object in place of the one that has its number.
-fn lists_edited(alloc: Global, lists: Lists, object: Object) -> Result<Lists, AllocError>
-    requires there { is_some (object_in lists.objects object.id) ≡ true }
-    ensures { IfOk result (λ l. l ≡ record lists { objects = map (λ x. if same x.id object.id then object else x) lists.objects }) }
-{
-    let objects = lists.objects.with_member(alloc, object)?;
-    Ok(Lists { objects, ..lists })
-}
-
-// The lists with an event at the end.
-fn lists_noted(alloc: Global, lists: Lists, event: Change) -> Result<Lists, AllocError>
-    ensures { IfOk result (λ l. l ≡ record lists { log = lists.log ++ event ∷ [] }) }
-{
-    let log = lists.log.with_last(alloc, event)?;
-    Ok(Lists { log, ..lists })
 }
 
 impl Draft {
@@ -110,17 +63,16 @@ impl Draft {
     ) -> Result<Draft, AllocError>
         ensures { IfOk result (λ d. d ≡ noted self kind object moment readers) }
     {
-        let parts = self.parts;
         let event = Change {
             kind,
             object,
             moment,
             readers,
         };
-        let lists = lists_noted(alloc, parts.lists, event)?;
-        Ok(Draft {
-            parts: Parts { lists, ..parts },
-        })
+        match self.parts().log().with_last(alloc, event) {
+            Ok(log) => Ok(put_log(self, log)),
+            Err(short) => Err(given_up(self, short)),
+        }
     }
 
     /// A new object, with its access list and its policies. Its number is above those of all objects and lists.
@@ -136,19 +88,15 @@ impl Draft {
         requires access { All (λ l. l.at.0 < object.id.0) self.access }
         ensures { IfOk result (λ d. d ≡ with_object self object aces policies.now) }
     {
-        let parts = self.parts;
         let number = object.id;
-        let lists = lists_with(alloc, parts.lists, object, aces, policies)?;
-        let filing = retold(alloc, &parts.filing, &parts.types, &lists, number)?;
-        let next = parts.next + 1;
-        Ok(Draft {
-            parts: Parts {
-                filing,
-                lists,
-                next,
-                ..parts
-            },
-        })
+        let objects = match objects_of(self.parts()).with_last(alloc, object) {
+            Ok(objects) => objects,
+            Err(short) => return Err(given_up(self, short)),
+        };
+        let placed = with_objects(alloc, self, objects, number)?;
+        let listed = placed.with_list(alloc, AccessList { at: number, aces })?;
+        let applied = listed.with_policies(alloc, number, policies)?;
+        Ok(counted(applied))
     }
 
     /// The object in place of the one that has its number.
@@ -156,16 +104,10 @@ impl Draft {
         requires there { is_some (object_at self object.id) ≡ true }
         ensures { IfOk result (λ d. d ≡ edited self object.id (λ _. object)) }
     {
-        let parts = self.parts;
         let number = object.id;
-        let lists = lists_edited(alloc, parts.lists, object)?;
-        let filing = retold(alloc, &parts.filing, &parts.types, &lists, number)?;
-        Ok(Draft {
-            parts: Parts {
-                filing,
-                lists,
-                ..parts
-            },
-        })
+        match objects_of(self.parts()).with_member(alloc, object) {
+            Ok(objects) => with_objects(alloc, self, objects, number),
+            Err(short) => Err(given_up(self, short)),
+        }
     }
 }

@@ -8,6 +8,7 @@ pub mod change;
 pub mod documents;
 pub mod draft;
 pub mod filing;
+mod made;
 pub mod removal;
 pub mod series;
 mod told;

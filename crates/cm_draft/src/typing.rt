@@ -5,7 +5,7 @@ ghost use Rattle.cm_types.specs.Types.{is_of_base};
 ghost use Rattle.cmis_spec.specs.Changes.{with_types};
 
 use crate::draft::Draft;
-use cm_state::parts::Parts;
+use crate::made::{given_up, put_types};
 use cm_type_list::types::Types;
 use std::alloc::{AllocError, Global};
 use std::sync::Arc;
@@ -16,10 +16,9 @@ impl Draft {
         requires folders { All (λ x. is_of_base types bases.Folder x.kind ≡ is_of_base self.types bases.Folder x.kind) self.objects }
         ensures { IfOk result (λ d. d ≡ with_types self types) }
     {
-        let parts = self.parts;
-        let types = Arc::new(alloc, types)?;
-        Ok(Draft {
-            parts: Parts { types, ..parts },
-        })
+        match Arc::new(alloc, types) {
+            Ok(types) => Ok(put_types(self, types)),
+            Err(failed) => Err(given_up(self, failed.into())),
+        }
     }
 }

@@ -7,7 +7,7 @@ use Rattle.core.specs.FinMap.Entries.{put, find, is_sorted}
 use Rattle.std.proofs.lemmas.Bool.{eqb-true}
 use Rattle.cm_base.specs.declared.number.Oid.{Oid}
 use Rattle.cmis_spec.specs.Repository.{same}
-use Rattle.cm_lists.specs.Buckets.{find_in}
+use Rattle.cm_map.specs.Buckets.{find_in}
 use Rattle.cm_folder.specs.declared.entry.FilingEntry.{FilingEntry}
 use Rattle.cm_folder.specs.declared.edit.Edit.{Edit}
 use Rattle.cm_folder.specs.Filings.{edit_of, edit_child}

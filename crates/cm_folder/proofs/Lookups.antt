@@ -10,7 +10,7 @@ use Rattle.std.proofs.lemmas.Map.Text.{is_eq-slice_cmp}
 use Rattle.cm_base.specs.declared.number.Oid.{Oid}
 use Rattle.cm_base.specs.declared.filing.Filed.{Filed}
 use Rattle.cmis_spec.specs.Repository.{same, root, path_by}
-use Rattle.cm_lists.specs.Buckets.{find_in}
+use Rattle.cm_map.specs.Buckets.{find_in}
 use Rattle.cm_folder.specs.declared.entry.FilingEntry.{FilingEntry}
 use Rattle.cm_folder.specs.Filings.{pair_of, is_entry, is_filed_in, is_name_taken, child_named, children_in, folders_in, folder_of, folders_up_in}
 use Rattle.cm_folder.specs.Places.{placed, name_order, name_key, child_key, folder_key, is_folder_at, names_under, IsIndexed}

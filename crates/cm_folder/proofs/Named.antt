@@ -7,9 +7,9 @@ use Rattle.core.specs.FinMap.Entries.{put, find, find-put}
 use Rattle.std.proofs.lemmas.Bool.{eqb-true}
 use Rattle.std.proofs.lemmas.Slice.Eq.{bytes_eq-Decides}
 use Rattle.std.proofs.lemmas.Map.Text.{is_eq-slice_cmp}
-use Rattle.map_keys.specs.Parts.{without_key}
+use Rattle.cm_map.specs.Parts.{without_key}
 use Rattle.cm_base.specs.declared.number.Oid.{Oid}
-use Rattle.cm_lists.specs.Buckets.{find_in}
+use Rattle.cm_map.specs.Buckets.{find_in}
 use Rattle.cm_folder.specs.Places.{name_order, names_under, find_named}
 use Rattle.cm_folder.proofs.Placing.{by_test, find-without_at}
 use Rattle.cm_folder.proofs.Lookups.{tied_then}

@@ -8,9 +8,9 @@ use Rattle.core.specs.FinMap.Entries.{put, find, is_sorted, below_all, find-put,
 use Rattle.std.proofs.Math.Bool.{and-true}
 use Rattle.std.proofs.lemmas.Bool.{both_ways, eqb-true, ltb-true, ltb-false, and_right}
 use Rattle.std.proofs.lemmas.Map.Lookups.{exact_unsigned}
-use Rattle.map_keys.specs.Parts.{without_key}
+use Rattle.cm_map.specs.Parts.{without_key}
 use mathlib.Core.List.{map-append}
-use Rattle.cm_lists.specs.Buckets.{find_in, bucket_of}
+use Rattle.cm_map.specs.Buckets.{find_in, bucket_of}
 use Rattle.cm_folder.specs.Places.{placed, value_at}
 
 pub by_test : {A : Type 0} (b : Bool) → (b ≡ true → A) → (b ≡ false → A) → A

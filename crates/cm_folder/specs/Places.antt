@@ -5,7 +5,7 @@ use Rattle.core.specs.Cmp.Lexicographic.{slice_cmp}
 use Rattle.core.specs.declared.cmp.Ordering.{Ordering}
 use Rattle.core.specs.FinMap.Entries.{find, is_sorted}
 use Rattle.cm_base.specs.declared.number.Oid.{Oid}
-use Rattle.cm_lists.specs.Buckets.{find_in}
+use Rattle.cm_map.specs.Buckets.{find_in}
 use Rattle.cm_folder.specs.declared.entry.FilingEntry.{FilingEntry}
 
 -- the values of the entries that have the key, by their places

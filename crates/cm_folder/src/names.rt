@@ -3,14 +3,14 @@ ghost use Rattle.std.specs.Prelude.{◌≡◌, ℕ, ◌&&◌, [], None, Some, Li
 ghost use Rattle.core.specs.Ordering.{nat_cmp, eq_by_cmp};
 ghost use Rattle.core.specs.Cmp.Lexicographic.{slice_cmp};
 ghost use Rattle.core.specs.FinMap.Entries.{put};
-ghost use Rattle.map_keys.specs.Parts.{without_key};
-ghost use Rattle.cm_lists.specs.Buckets.{find_in};
+ghost use Rattle.cm_map.specs.Parts.{without_key};
+ghost use Rattle.cm_map.specs.Buckets.{find_in};
 ghost use Rattle.cm_folder.specs.Places.{name_order, names_under, find_named};
 
 use cm_base::copies::Copies;
 use cm_base::number::Oid;
 use cm_base::text::Text;
-use cm_lists::buckets::Buckets;
+use cm_map::buckets::Buckets;
 use cm_map::map::Map;
 use std::alloc::{AllocError, Global};
 use std::marker::Model;

@@ -12,7 +12,7 @@ use crate::edit::Edit;
 use crate::entry::FilingEntry;
 use crate::names::Names;
 use cm_base::number::Oid;
-use cm_lists::buckets::Buckets;
+use cm_map::buckets::Buckets;
 use cm_map::map::Map;
 use std::alloc::{AllocError, Global};
 

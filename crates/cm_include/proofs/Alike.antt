@@ -18,14 +18,14 @@ use Rattle.rd_access.specs.ReadAcl.{acl_reply, shown_aces}
 use Rattle.cm_actions.specs.Allowed.{actions_of}
 use Rattle.rd_lists.proofs.Among.{all_shown_alike}
 use Rattle.cm_relationships.specs.Found.{relationships_of}
-use Rattle.cm_show.specs.Shown.{shown_object}
+use Rattle.cm_see.specs.Shown.{shown_object}
 use Rattle.cm_actions.proofs.Alike.{actions_alike}
 use Rattle.cm_renditions.proofs.Alike.{renditions_alike}
 use Rattle.cm_include.proofs.Related.{relationships_alike}
 use Rattle.cm_include.specs.Included.{asks_for_some, if_asked, included_object, policy_ids, relationships_asked, renditions_asked, shown_beside, shown_relationships}
-use Rattle.seen_laws.proofs.Lists.{map_same}
-use Rattle.seen_laws.proofs.Shown.{shown_alike}
-use Rattle.seen_laws.proofs.Worlds.{AreAlike, IsAlike}
+use Rattle.cm_see.proofs.SeenLists.{map_same}
+use Rattle.cm_see.proofs.SeenShown.{shown_alike}
+use Rattle.cm_see.proofs.Worlds.{AreAlike, IsAlike}
 
 ids_by_numbers : (xs : List Object) → map (λ p. decimal p.id.0) xs ≡ map (λ n. decimal n.0) (map (λ p. p.id) xs)
 ids_by_numbers [] = refl

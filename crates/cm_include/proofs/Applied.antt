@@ -5,7 +5,7 @@ use Rattle.std.proofs.Common.{refl, sym, ap, ◌∙◌}
 use Rattle.std.proofs.lemmas.List.Elements.{All-head, All-tail}
 use Rattle.cm_base.specs.declared.number.Oid.{Oid}
 use Rattle.cm_base.specs.declared.filing.Applied.{Applied}
-use Rattle.cm_lists.specs.Keyed.{Rises}
+use Rattle.cm_map.specs.Keyed.{Rises}
 use Rattle.cm_types.specs.declared.definition.BaseType.TheVariants as bases
 use Rattle.cmis_spec.specs.Repository.{Repository, same, object_at}
 use Rattle.cmis_spec.specs.Access.{read_at, policies_of}

@@ -2,7 +2,7 @@
 use Rattle.std.proofs.Common.{◌≡◌, ◌∙◌, ℕ, ◌+◌, ◌<◌, List, [], ◌∷◌, ◌++◌, map, take, length, get_or, sym, ap}
 use Rattle.std.proofs.lemmas.List.{map-append, take_more}
 use denote.Ref.{Bor}
-use Rattle.map_keys.specs.Parts.{pointee}
+use Rattle.cm_map.specs.Parts.{pointee}
 use Rattle.cm_base.specs.declared.object.Object.{Object}
 
 seen_more : (xs : List (Bor Object)) (i : ℕ) (x : Bor Object) → i < length xs → x ≡ get_or xs i x → map pointee (take (i + 1) xs) ≡ map pointee (take i xs) ++ x.now ∷ []

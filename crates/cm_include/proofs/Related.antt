@@ -13,8 +13,8 @@ use Rattle.cmis_spec.specs.Access.{reads}
 use Rattle.cmis_spec.specs.Seen.{SeenObject, seen, seen_object}
 use Rattle.cmis_spec.specs.Well.{HasNumbers}
 use Rattle.cmis_laws.proofs.Entries.{all_there}
-use Rattle.seen_laws.proofs.Lists.{filter_seen}
-use Rattle.seen_laws.proofs.Worlds.{AreAlike, AreFound}
+use Rattle.cm_see.proofs.SeenLists.{filter_seen}
+use Rattle.cm_see.proofs.Worlds.{AreAlike, AreFound}
 use Rattle.rd_lists.proofs.Among.{numbered_alike, passing_here}
 use Rattle.cm_relationships.specs.Found.{has_end, is_related, relationships_of}
 

@@ -16,7 +16,7 @@ use Rattle.include_parts.specs.declared.replies.IncludedObject.{IncludedObject}
 use Rattle.include_parts.specs.declared.replies.ShownBeside.{ShownBeside}
 use Rattle.cmis_spec.specs.Repository.{Repository}
 use Rattle.cmis_spec.specs.Access.{policies_of}
-use Rattle.cm_show.specs.Shown.{shown_object}
+use Rattle.cm_see.specs.Shown.{shown_object}
 use Rattle.cm_actions.specs.Allowed.{actions_of}
 use Rattle.cm_relationships.specs.Found.{relationships_of}
 use Rattle.cm_renditions.specs.Shown.{shown_renditions}

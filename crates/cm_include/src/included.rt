@@ -1,7 +1,7 @@
 //! What is shown of an object: its properties, and of the rest what is asked for.
 ghost use Rattle.std.specs.Prelude.{◌≡◌, IfOk, Some, map};
-ghost use Rattle.map_keys.specs.Parts.{pointee};
-ghost use Rattle.cm_show.specs.Shown.{shown_object};
+ghost use Rattle.cm_map.specs.Parts.{pointee};
+ghost use Rattle.cm_see.specs.Shown.{shown_object};
 ghost use Rattle.cm_actions.specs.Allowed.{actions_of};
 ghost use Rattle.cm_include.specs.Included.{asks_for_some, if_asked, included_in, policy_ids, relationships_asked, renditions_asked, shown_beside, shown_relationships};
 ghost use Rattle.rd_access.specs.ReadAcl.{acl_reply};
@@ -16,7 +16,7 @@ use cm_base::object::Object;
 use cm_base::text::{Text, Texts};
 use cm_relationships::found::relationships_of;
 use cm_renditions::shown::shown_renditions;
-use cm_show::shown::shown_object;
+use cm_see::shown::shown_object;
 use cm_state::state::State;
 use include_parts::readings::{IncludeRelationships, Includes};
 use include_parts::replies::{IncludedObject, IncludedObjects, ShownBeside};

@@ -8,7 +8,7 @@ ghost use Rattle.cmis_spec.specs.Repository.{Repository};
 ghost use Rattle.cmis_spec.specs.Seen.{OfSeen};
 ghost use Rattle.cmis_spec.specs.Well.{IsWellFormed};
 ghost use Rattle.cm_include.specs.Included.{included_object};
-ghost use Rattle.cm_show.specs.Addressed.{addressed};
+ghost use Rattle.cm_see.specs.Addressed.{addressed};
 
 /// In two repositories in which the caller sees the same, an object that he reads is shown to him with the same things.
 pub fn included_of_seen()

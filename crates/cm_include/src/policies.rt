@@ -1,6 +1,6 @@
 //! The ids of the policies of an object (CMIS 1.1, section 2.2.1.2.3).
 ghost use Rattle.std.specs.Prelude.{◌≡◌, ◌++◌, ◌∷◌, [], IfOk, OnOk, decimal, filter, map};
-ghost use Rattle.map_keys.specs.Parts.{pointee};
+ghost use Rattle.cm_map.specs.Parts.{pointee};
 ghost use Rattle.cmis_spec.specs.Access.{policies_of};
 ghost use Rattle.cmis_spec.specs.Repository.{same};
 ghost use Rattle.cm_include.specs.Included.{policy_ids};
@@ -10,7 +10,7 @@ use cm_base::items::Items;
 use cm_base::number::Oid;
 use cm_base::object::Object;
 use cm_base::text::{Text, Texts};
-use cm_lists::sequence::Sequence;
+use cm_map::sequence::Sequence;
 use cm_state::state::State;
 use rd_lists::number::{read_among, rising};
 use std::alloc::{AllocError, Global};

@@ -3,8 +3,8 @@ ghost use Rattle.std.specs.Prelude.{◌≡◌, ◌≤◌, List, [], ◌∷◌, �
 ghost use Rattle.cm_map.specs.Rests.{rest};
 
 use cm_base::log::Change;
-use cm_lists::sequence::Sequence;
 use cm_map::iter::Iter;
+use cm_map::sequence::Sequence;
 use std::alloc::{AllocError, Global};
 use std::marker::Model;
 

@@ -4,7 +4,7 @@ use Rattle.core.specs.List.{AllByRecursion}
 use Rattle.core.specs.FinMap.Entries.{put, is_sorted, below_all, where_key, by_order}
 use Rattle.core.specs.Ordering.{eq_by_cmp, ordering_reverse}
 use Rattle.core.specs.Cmp.{IsTotalOrder, alike_right}
-use Rattle.map_keys.proofs.Parting.{first, second, is_less}
+use Rattle.cm_map.proofs.Parting.{first, second, is_less}
 use Rattle.cm_map.specs.Sets.{IsRising, has_key, with_key, all_but_key, key_of}
 
 -- `or` in another order

@@ -7,8 +7,8 @@ use Rattle.core.specs.Cmp.{IsTotalOrder}
 use Rattle.core.specs.Ordering.{eq_by_cmp}
 use Rattle.std.proofs.lemmas.List.Elements.{filter-append}
 use Rattle.std.proofs.lemmas.List.Concat.{flat_map-append}
-use Rattle.map_keys.specs.Parts.{HeadIs, first_of, without_key}
-use Rattle.map_keys.proofs.Parting.{Below, Above, put_below, put_above, find_below, find_above, without_key_below, without_key_above, parted, Parted, split_at, drop_at_split, sorted_left, sorted_right}
+use Rattle.cm_map.specs.Parts.{HeadIs, first_of, without_key}
+use Rattle.cm_map.proofs.Parting.{Below, Above, put_below, put_above, find_below, find_above, without_key_below, without_key_above, parted, Parted, split_at, drop_at_split, sorted_left, sorted_right}
 use Rattle.cm_map.specs.Rows.{Spaced, change}
 
 pub all_left : {X : Type 0} (P : X → Type 0) (xs ys : List X) → AllByRecursion P (xs ++ ys) → AllByRecursion P xs

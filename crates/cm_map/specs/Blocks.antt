@@ -2,7 +2,7 @@
 use Rattle.std.specs.Prelude.{ℕ, ◌≤◌, List, map, length, Option}
 use Rattle.std.specs.Arc.{arc_value}
 use Rattle.core.specs.List.{AllByRecursion, flat_map}
-use Rattle.map_keys.specs.Parts.{first_of}
+use Rattle.cm_map.specs.Parts.{first_of}
 use Rattle.cm_map.specs.declared.blocks.Leaf.{Leaf}
 use Rattle.cm_map.specs.declared.blocks.Middle.{Middle}
 use Rattle.cm_map.specs.Rows.{Spaced, first_block}

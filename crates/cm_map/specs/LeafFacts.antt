@@ -2,7 +2,7 @@
 use Rattle.std.proofs.Common.{◌≡◌, ◌≤◌, List, [], ◌∷◌, map, length, refl, IsSome, sym, arith, ◌++◌, true≢false}
 use Rattle.std.specs.Arc.{arc_value}
 use Rattle.std_alloc.specs.declared.arc.Arc.{Arc}
-use Rattle.map_keys.specs.Parts.{first_of}
+use Rattle.cm_map.specs.Parts.{first_of}
 use Rattle.cm_map.specs.declared.blocks.Leaf.{Leaf}
 use Rattle.cm_map.specs.declared.blocks.Middle.{Middle}
 use Rattle.core.specs.List.{AllByRecursion, flat_map}

@@ -2,7 +2,7 @@
 use Rattle.std.specs.Prelude.{ℕ, ◌+◌, ◌<◌, ◌≤◌, List, [], ◌∷◌, Option, None, Some}
 use Rattle.core.specs.declared.cmp.Ordering.{Ordering}
 use Rattle.core.specs.FinMap.Entries.{put}
-use Rattle.map_keys.specs.Parts.{HeadIs, without_key}
+use Rattle.cm_map.specs.Parts.{HeadIs, without_key}
 
 -- no block of these sizes is empty or above 128, and two neighbours have more than 64 together
 abbrev pub Spaced : List ℕ → Type 0

@@ -3,10 +3,10 @@ ghost use Rattle.std.specs.Prelude.{◌≡◌, ℕ, ◌+◌, ◌≤◌, ◌++◌
 ghost use Rattle.std.specs.Arc.{arc_value};
 ghost use Rattle.core.specs.List.{AllByRecursion, flat_map};
 ghost use Rattle.core.specs.FinMap.Entries.{find, is_sorted, where_key};
-ghost use Rattle.map_keys.specs.Parts.{first_of, pointee, within};
+ghost use Rattle.cm_map.specs.Parts.{first_of, pointee, within};
 ghost use Rattle.cm_map.specs.Rows.{Spaced, change};
 
-use map_keys::key::{Headed, Key};
+use crate::key::{Headed, Key};
 use std::alloc::{AllocError, Global};
 use std::sync::Arc;
 

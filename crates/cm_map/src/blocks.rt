@@ -1,5 +1,5 @@
 //! Leaves and middle blocks.
-use map_keys::key::Key;
+use crate::key::Key;
 use std::sync::Arc;
 
 /// A block of entries in the order of their keys. In a map it has 1 to 128 of them.

@@ -4,7 +4,7 @@ ghost use Rattle.std.specs.Iterator.{YieldsFirstRef, item_count};
 ghost use Rattle.cm_map.specs.Rests.{rest};
 
 use crate::blocks::{Leaf, Middle};
-use map_keys::key::Key;
+use crate::key::Key;
 use std::sync::Arc;
 
 /// An iterator over a map's entries in the order of their keys.

@@ -3,16 +3,16 @@ ghost use Rattle.std.specs.Prelude.{◌≡◌, ◌+◌, ◌≤◌, ◌++◌, map
 ghost use Rattle.std.specs.Arc.{arc_value};
 ghost use Rattle.core.specs.List.{AllByRecursion, flat_map};
 ghost use Rattle.core.specs.FinMap.Entries.{find, is_sorted, where_key};
-ghost use Rattle.map_keys.specs.Parts.{pointee, within};
+ghost use Rattle.cm_map.specs.Parts.{pointee, within};
 ghost use Rattle.cm_map.specs.Rows.{Spaced, change};
 ghost use Rattle.cm_map.specs.Blocks.{leaf_entries, leaf_count, leaf_first, IsLeaf, middle_entries, middle_count, middle_first, IsMiddle};
 
 use crate::block::Block;
 use crate::blocks::{Leaf, Middle};
+use crate::key::{Headed, Key};
+use crate::leaf::{find_in, gap, range_in};
 use crate::row::{joined, row_changed, row_found, row_ranged};
-use map_keys::key::{Headed, Key};
-use map_keys::leaf::{find_in, gap, range_in};
-use map_keys::rows::{push_all, spliced};
+use crate::rows::{push_all, spliced};
 use std::alloc::{AllocError, Global};
 use std::sync::Arc;
 

@@ -3,7 +3,7 @@ ghost use Rattle.std.specs.Prelude.{◌≡◌, ◌↔◌, ℕ, ◌+◌, ◌*◌,
 ghost use Rattle.std.specs.Arc.{arc_value};
 ghost use Rattle.core.specs.List.{AllByRecursion, flat_map};
 ghost use Rattle.core.specs.FinMap.Entries.{put, find, is_sorted, where_key};
-ghost use Rattle.map_keys.specs.Parts.{without_key, pointee, within};
+ghost use Rattle.cm_map.specs.Parts.{without_key, pointee, within};
 ghost use Rattle.cm_map.specs.Rows.{Spaced, change};
 ghost use Rattle.cm_map.specs.Blocks.{middle_entries, middle_count, IsMiddle};
 ghost use Rattle.cm_map.specs.Maps.{IsMap, IsWidth};
@@ -11,9 +11,9 @@ ghost use Rattle.cm_map.specs.Rests.{rest};
 
 use crate::blocks::Middle;
 use crate::iter::Iter;
+use crate::key::Key;
 use crate::levels::{leaf_pieces, middle_pieces, shared};
 use crate::row::{row_changed, row_found, row_ranged};
-use map_keys::key::Key;
 use std::alloc::{AllocError, Global};
 use std::marker::Model;
 use std::sync::Arc;

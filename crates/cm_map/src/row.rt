@@ -3,13 +3,13 @@ ghost use Rattle.std.specs.Prelude.{◌≡◌, ◌+◌, ◌<◌, ◌≤◌, ◌+
 ghost use Rattle.std.specs.Arc.{arc_value};
 ghost use Rattle.core.specs.List.{AllByRecursion, flat_map};
 ghost use Rattle.core.specs.FinMap.Entries.{find, is_sorted, where_key};
-ghost use Rattle.map_keys.specs.Parts.{pointee, within};
+ghost use Rattle.cm_map.specs.Parts.{pointee, within};
 ghost use Rattle.cm_map.specs.Rows.{Spaced, change};
 
 use crate::block::Block;
-use map_keys::key::Key;
-use map_keys::places::{between, place};
-use map_keys::rows::push_all;
+use crate::key::Key;
+use crate::places::{between, place};
+use crate::rows::push_all;
 use std::alloc::{AllocError, Global};
 use std::sync::Arc;
 

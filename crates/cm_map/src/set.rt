@@ -1,13 +1,13 @@
 //! Sets of keys.
 ghost use Rattle.std.specs.Prelude.{◌≡◌, ◌||◌, ◌&&◌, not, List, [], map, filter, length, IfOk};
 ghost use Rattle.core.specs.Ordering.{eq_by_cmp};
-ghost use Rattle.map_keys.specs.Parts.{pointee, within};
+ghost use Rattle.cm_map.specs.Parts.{pointee, within};
 ghost use Rattle.cm_map.specs.Sets.{IsRising, has_key, with_key, all_but_key, key_of};
 ghost use Rattle.cm_map.specs.Rests.{rest};
 
 use crate::iter::Iter;
+use crate::key::Key;
 use crate::map::Map;
-use map_keys::key::Key;
 use std::alloc::{AllocError, Global};
 use std::marker::Model;
 

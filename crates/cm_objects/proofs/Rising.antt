@@ -10,7 +10,7 @@ use Rattle.core.specs.Ordering.{nat_cmp, MatchOrdering}
 use Rattle.core.specs.Cmp.{ranks}
 use Rattle.cm_base.specs.declared.number.Oid.{Oid}
 use Rattle.cm_base.specs.declared.object.Object.{Object}
-use Rattle.cm_lists.specs.Keyed.{Rises}
+use Rattle.cm_map.specs.Keyed.{Rises}
 use Rattle.cm_map.specs.Sets.{IsRising}
 use Rattle.cmis_spec.specs.Repository.{same}
 

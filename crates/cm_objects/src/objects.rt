@@ -2,8 +2,8 @@
 ghost use Rattle.std.specs.Prelude.{◌≡◌, ◌==◌, ◌<◌, ◌||◌, ◌&&◌, List, [], ◌∷◌, ◌++◌, All, map, find, filter, not, is_some, length, if◌then◌else◌, true, IfOk};
 ghost use Rattle.std.specs.Option.{option_copied};
 ghost use Rattle.std.specs.List.{list_any};
-ghost use Rattle.cm_lists.specs.Keyed.{Rises};
-ghost use Rattle.cm_index.specs.Pairs.{has_pair};
+ghost use Rattle.cm_map.specs.Keyed.{Rises};
+ghost use Rattle.cm_map.specs.Pairs.{has_pair};
 ghost use Rattle.cmis_spec.specs.Repository.{is_of_type};
 ghost use Rattle.cmis_spec.specs.Removal.{ends_of, is_id_of};
 ghost use Rattle.cm_objects.specs.Indexed.{keys_at, is_pair_of, is_keyed};
@@ -15,9 +15,9 @@ use cm_base::items::Items;
 use cm_base::number::{Oid, Oids};
 use cm_base::object::Object;
 use cm_base::text::Text;
-use cm_index::index::Index;
-use cm_index::index_key::IndexKey;
-use cm_lists::table::Table;
+use cm_map::index::Index;
+use cm_map::index_key::IndexKey;
+use cm_map::table::Table;
 use std::alloc::{AllocError, Global};
 use std::marker::Model;
 

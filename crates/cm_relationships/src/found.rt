@@ -2,7 +2,7 @@
 ghost use Rattle.std.specs.Prelude.{◌≡◌, ◌++◌, map, IfOk, OnOk};
 ghost use Rattle.std.specs.List.{filter_map};
 ghost use Rattle.std.specs.Option.{option_copied, option_to_list};
-ghost use Rattle.map_keys.specs.Parts.{pointee};
+ghost use Rattle.cm_map.specs.Parts.{pointee};
 ghost use Rattle.cm_relationships.specs.Found.{is_related, related_at, relationships_of};
 
 use crate::ends::has_end;

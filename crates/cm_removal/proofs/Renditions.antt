@@ -5,7 +5,7 @@ use Rattle.std.proofs.Common.{refl, sym, ap, ◌∙◌, arith}
 use Rattle.std.proofs.lemmas.List.Elements.{All-nil, All-cons, All-head, All-tail, All-weaker}
 use Rattle.cm_base.specs.declared.number.Oid.{Oid}
 use Rattle.cm_base.specs.declared.content.Rendition.{Rendition}
-use Rattle.cm_lists.specs.Keyed.{Rises}
+use Rattle.cm_map.specs.Keyed.{Rises}
 use Rattle.cmis_spec.specs.Repository.{same}
 use Rattle.cmis_laws.proofs.Lists.{all_zip, same_refl, differ}
 use Rattle.cm_removal.specs.Steps.{is_going}

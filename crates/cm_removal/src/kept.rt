@@ -10,8 +10,8 @@ use cm_base::copies::Copies;
 use cm_base::filing::Applied;
 use cm_base::items::Items;
 use cm_base::series::{DocumentVersion, DocumentVersions, Series, WorkingCopy};
-use cm_lists::sequence::Sequence;
-use cm_lists::table::Table;
+use cm_map::sequence::Sequence;
+use cm_map::table::Table;
 use std::alloc::{AllocError, Global};
 
 // ---- series

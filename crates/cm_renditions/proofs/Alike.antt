@@ -4,7 +4,7 @@ use Rattle.std.proofs.Common.{ap}
 use Rattle.cm_base.specs.declared.object.Object.{Object}
 use Rattle.cmis_spec.specs.Repository.{Repository}
 use Rattle.rendition_parts.specs.declared.filter.RenditionFilter.{RenditionFilter}
-use Rattle.seen_laws.proofs.Worlds.{IsAlike}
+use Rattle.cm_see.proofs.Worlds.{IsAlike}
 use Rattle.cm_renditions.specs.Shown.{is_kept, kept_renditions, shown_rendition, shown_renditions}
 
 pub kept_alike : (r other : Repository) (u : List ℕ) (f : RenditionFilter) (x : Object) → IsAlike r other u x → kept_renditions r f x ≡ kept_renditions other f x

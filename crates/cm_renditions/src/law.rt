@@ -5,7 +5,7 @@ ghost use Rattle.call_parts.specs.declared.place.Place.{Place};
 ghost use Rattle.cmis_spec.specs.Repository.{Repository};
 ghost use Rattle.cmis_spec.specs.Seen.{OfSeen};
 ghost use Rattle.cmis_spec.specs.Well.{IsWellFormed};
-ghost use Rattle.cm_show.specs.Addressed.{addressed};
+ghost use Rattle.cm_see.specs.Addressed.{addressed};
 ghost use Rattle.rendition_parts.specs.declared.filter.RenditionFilter.{RenditionFilter};
 ghost use Rattle.cm_renditions.specs.Shown.{shown_renditions};
 

@@ -1,6 +1,6 @@
 //! The renditions of an object that a filter keeps.
 ghost use Rattle.std.specs.Prelude.{◌≡◌, ◌++◌, ◌∷◌, [], IfOk, OnOk, filter, map};
-ghost use Rattle.map_keys.specs.Parts.{pointee};
+ghost use Rattle.cm_map.specs.Parts.{pointee};
 ghost use Rattle.cmis_spec.specs.Repository.{same};
 ghost use Rattle.cm_renditions.specs.Shown.{is_kept, kept_renditions, shown_rendition, shown_renditions};
 
@@ -9,7 +9,7 @@ use cm_base::copies::Copies;
 use cm_base::items::Items;
 use cm_base::number::Oid;
 use cm_base::object::Object;
-use cm_lists::table::Table;
+use cm_map::table::Table;
 use cm_state::parts::Parts;
 use cm_state::state::State;
 use rendition_parts::filter::RenditionFilter;

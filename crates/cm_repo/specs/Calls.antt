@@ -14,7 +14,7 @@ use Rattle.cm_call.specs.declared.question.Question.TheVariants as questions
 use Rattle.cm_call.specs.declared.reply.Reply.{Reply}
 use Rattle.cm_call.specs.declared.reply.Reply.TheVariants as replies
 use Rattle.cmis_spec.specs.Repository.{Repository, is_a}
-use Rattle.cm_show.specs.Addressed.{addressed}
+use Rattle.cm_see.specs.Addressed.{addressed}
 use Rattle.desk_model.specs.declared.entry.Entry.{Entry}
 use Rattle.wr_object.specs.CreateFolder.{cost_create_folder, refusal_create_folder, after_create_folder, acknowledgement_create_folder}
 use Rattle.wr_object.specs.CreateDocument.{cost_create_document, refusal_create_document, after_create_document, acknowledgement_create_document}

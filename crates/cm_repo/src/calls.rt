@@ -14,7 +14,7 @@ use cm_call::question::Question;
 use cm_call::reply::Reply;
 use cm_call::write::Write;
 use cm_include::included::View;
-use cm_show::address::addressed;
+use cm_see::address::addressed;
 use cm_state::state::State;
 use cm_types::definition::BaseType;
 use desk_model::{Entry, Halt};

@@ -9,7 +9,7 @@ use Rattle.std.proofs.lemmas.List.Elements.{All-nil, All-cons, All-head, All-tai
 use Rattle.cm_base.specs.declared.number.Oid.{Oid}
 use Rattle.cm_base.specs.declared.object.Object.{Object}
 use Rattle.cm_base.specs.declared.filing.Filed.{Filed}
-use Rattle.cm_lists.specs.Keyed.{Rises}
+use Rattle.cm_map.specs.Keyed.{Rises}
 use Rattle.cmis_spec.specs.Repository.{Repository, same, object_at, is_filed, entry_of, entry_name}
 use Rattle.cmis_spec.specs.Access.{stands}
 use Rattle.cmis_spec.specs.Well.{Apart, Differ, IsWellFormed}

@@ -9,7 +9,7 @@ use Rattle.std.proofs.lemmas.List.Elements.{All-nil, All-cons, All-head, All-tai
 use Rattle.cm_base.specs.declared.number.Oid.{Oid}
 use Rattle.cmis_spec.specs.Repository.{same}
 use Rattle.cmis_laws.proofs.Lists.{by_test}
-use Rattle.cm_lists.specs.Keyed.{Rises}
+use Rattle.cm_map.specs.Keyed.{Rises}
 
 pub flip : (a b : ℕ) → (b == a) ≡ (a == b)
 flip a b = grind arith

@@ -10,8 +10,8 @@ use cm_base::log::Change;
 use cm_base::number::Oid;
 use cm_base::object::Object;
 use cm_base::series::Series;
-use cm_lists::sequence::Sequence;
-use cm_lists::table::Table;
+use cm_map::sequence::Sequence;
+use cm_map::table::Table;
 use cm_objects::objects::Objects;
 use std::alloc::{AllocError, Global};
 

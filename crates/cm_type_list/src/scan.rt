@@ -1,7 +1,7 @@
 //! What holds of some type in the list.
 ghost use Rattle.std.specs.Prelude.{◌≡◌, ◌||◌, bytes_eq, map, IfOk};
 ghost use Rattle.std.specs.List.{list_any};
-ghost use Rattle.map_keys.specs.Parts.{pointee};
+ghost use Rattle.cm_map.specs.Parts.{pointee};
 ghost use Rattle.cm_types.specs.Types.{is_child_type};
 ghost use Rattle.cm_types.specs.Changes.{clashes};
 ghost use Rattle.type_requests.specs.Keys.{values_of};

@@ -4,7 +4,7 @@ ghost use Rattle.std.specs.Option.{option_copied};
 ghost use Rattle.std.specs.List.{list_any, flat_map};
 ghost use Rattle.cm_types.specs.Types.{type_in, chain_of, chain, is_below, is_below_any, longest_chain, first_of_each, types_of, props_of};
 ghost use denote.Ref.{Bor};
-ghost use Rattle.map_keys.specs.Parts.{pointee};
+ghost use Rattle.cm_map.specs.Parts.{pointee};
 ghost use Rattle.cm_type_list.specs.Firsts.{with_first};
 ghost use Rattle.type_requests.specs.Keys.{IsKeyed, values_of};
 

@@ -8,5 +8,3 @@ pub mod fault;
 pub mod given;
 pub mod property;
 pub mod request;
-#[cfg(test)]
-mod tests;

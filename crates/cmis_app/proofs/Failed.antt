@@ -8,13 +8,13 @@ use Rattle.talk.specs.declared.end.End.{End}
 use Rattle.talk.specs.declared.end.End.TheVariants.{Ended, Bad, ReadFault, WriteFault, Starved}
 use Rattle.talk.specs.Wire.{Wire}
 use Rattle.talk.specs.Session.{Turn, Ends}
-use Rattle.cmis_load.specs.Loads.{Loaded}
+use Rattle.cmis_app.specs.Loads.{Loaded}
 use Rattle.cmis_words.specs.declared.words.Words.{Words as Asked}
 use Rattle.cmis_words.specs.declared.words.Words.TheVariants.{Pipe}
 use Rattle.cmis_app.specs.Runs.{status_of, Ran, OnlyWhereFailed}
 
 -- the numbers differ
-apart : {G : Type 0} (p : ℕ → Bool) (m n : ℕ) → p m ≡ true → p n ≡ false → m ≡ n → G
+pub apart : {G : Type 0} (p : ℕ → Bool) (m n : ℕ) → p m ≡ true → p n ≡ false → m ≡ n → G
 apart p m n h k e = absurd (both_ways false refl (sym k ∙ (sym (ap p e) ∙ h)))
 
 input_of : {C : Type 0} (w : Wire) (ts : List (Turn C)) (rest : List ℕ) (over : Bool) (output : List ℕ) (r f : Bool) (end : End) → Ends w ts rest over output r f end → status_of end ≡ 3 → r ≡ true

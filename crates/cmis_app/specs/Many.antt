@@ -17,7 +17,7 @@ use Rattle.desk_serve.specs.declared.ended.HostEnd.{HostEnd}
 use Rattle.desk_serve.specs.declared.ended.HostEnd.TheVariants.{Empty, Fault, Many, Memory}
 use Rattle.desk_serve.specs.Sessions.{Taken, EndsFor, Closed}
 use Rattle.cmis_words.specs.declared.serve.Serve.{Serve}
-use Rattle.cm_face.specs.Served.{repository}
+use Rattle.cm_repo.specs.Served.{repository}
 
 -- The links that were served, over one history of the repository with the root alone, which was made at the clock's first word.
 pub record ServedAll {L : Type 0} (source : L → SourceTold) (sink : L → SinkTold) (users : List User) (groups : List Group) (clock : Option Words) (links : Option (List L)) (last : History Repository Write) (ended : List (Ended L)) : Type 0 where

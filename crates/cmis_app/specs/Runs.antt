@@ -9,7 +9,7 @@ use Rattle.cm_base.specs.declared.user.Group.{Group}
 use Rattle.cm_types.specs.BaseTypes.{base_types}
 use Rattle.cm_call.specs.declared.write.Write.{Write}
 use Rattle.cmis_spec.specs.Repository.{Repository, opening}
-use Rattle.cm_face.specs.Served.{repository}
+use Rattle.cm_repo.specs.Served.{repository}
 use Rattle.desk_model.specs.declared.entry.Entry.{Entry}
 use Rattle.desk_model.specs.Clocks.{moment_of}
 use Rattle.talk.specs.declared.end.End.{End}

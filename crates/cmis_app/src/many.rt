@@ -4,8 +4,8 @@ ghost use Rattle.cmis_spec.specs.Well.{HasGroups};
 ghost use Rattle.desk_serve.specs.Sessions.{Taken, EndsFor};
 ghost use Rattle.cmis_app.specs.Many.{ServedAll};
 
-use cm_face::face::Face;
 use cm_opening::open::open;
+use cm_repo::face::Face;
 use cmis_words::serve::Serve;
 use desk_model::moment_of_word;
 use desk_serve::Closing;

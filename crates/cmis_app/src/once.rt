@@ -6,18 +6,20 @@ ghost use Rattle.cmis_spec.specs.Well.{HasGroups};
 ghost use Rattle.desk_model.specs.Clocks.{moment_of};
 ghost use Rattle.cmis_words.specs.Programs.{words_of};
 ghost use Rattle.cmis_words.specs.Bounds.{IsMoment};
-ghost use Rattle.cmis_app.specs.Once.{RunsOnce};
+ghost use Rattle.cmis_app.specs.Once.{LoadsOrServes, RunsOnce};
 ghost use Rattle.cmis_app.specs.Runs.{status_of, OnlyWhereFailed, always, Refused, Unbegun, Served, Piped, Ran};
 
 use crate::lent::Lent;
+use crate::load;
+use crate::scheduled::schedule;
 use cm_base::number::Moment;
 use cm_base::user::{Groups, Users};
-use cm_face::face::Face;
 use cm_opening::open::open;
+use cm_repo::face::Face;
 use cm_state::state::State;
-use cmis_load::load;
 use cmis_words::laws::words_are_bounded;
 use cmis_words::load::read_load;
+use cmis_words::schedule::are_schedule;
 use cmis_words::words::{Pipe, Words, WordsStop, read_words};
 use desk_model::moment_of_word;
 use http_reply::send;
@@ -209,10 +211,29 @@ fn run_lent<I: Source, O: Sink, C: Clock>(
     run_link(alloc, words, &mut link, clock)
 }
 
+// Runs words that are not that of a schedule.
+fn load_or_serve<I: Source, O: Sink, C: Clock>(
+    alloc: Global,
+    words: &[String],
+    input: &mut I,
+    output: &mut O,
+    clock: &mut C,
+) -> u8
+    ensures ran { LoadsOrServes (map string_bytes words.now) (C.words clock.old)
+        (I.told input.old) (O.told output.old) (I.told input.new) (O.told output.new) result }
+    ensures failed { OnlyWhereFailed (I.told input.old) (O.told output.old)
+        (I.told input.new) (O.told output.new) result }
+{
+    match read_load(words) {
+        Some(n) => load(alloc, n, output),
+        None => run_lent(alloc, words, input, output, clock),
+    }
+}
+
 /// Runs the program with these words, and answers its status.
 ///
-/// 0: the session ended well, or the load's line was written. 2: the words are not valid. 3, 4: the input, the output failed.
-/// 7: memory was wanted. 8: the bytes of a request have a fault.
+/// 0: the session ended well, or the script was read to its end, or the load's line was written. 2: the words are not valid.
+/// 3, 4: the input, the output failed. 6: a line of the script is not valid. 7: memory was wanted. 8: the bytes of a request have a fault.
 pub fn run_once<I: Source, O: Sink, C: Clock>(
     alloc: Global,
     words: &[String],
@@ -225,8 +246,8 @@ pub fn run_once<I: Source, O: Sink, C: Clock>(
     ensures failed { OnlyWhereFailed (I.told input.old) (O.told output.old)
         (I.told input.new) (O.told output.new) result }
 {
-    match read_load(words) {
-        Some(n) => load(alloc, n, output),
-        None => run_lent(alloc, words, input, output, clock),
+    if are_schedule(words) {
+        return schedule(alloc, input, output);
     }
+    load_or_serve(alloc, words, input, output, clock)
 }

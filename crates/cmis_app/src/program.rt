@@ -2,7 +2,7 @@
 ghost use Rattle.std.specs.Prelude.{◌≡◌, ◌⊎◌, map, string_bytes, length, Some, None, IfSome, MatchOption};
 ghost use Rattle.cmis_spec.specs.Well.{HasGroups};
 ghost use Rattle.desk_model.specs.Histories.{state_of};
-ghost use Rattle.cm_face.specs.Faces.{shown_step};
+ghost use Rattle.cm_repo.specs.Faces.{shown_step};
 ghost use Rattle.cmis_words.specs.Serving.{serve_of};
 ghost use Rattle.cmis_app.specs.Once.{RunsOnce};
 ghost use Rattle.cmis_app.specs.Runs.{OnlyWhereFailed};
@@ -11,7 +11,7 @@ ghost use Rattle.cmis_app.specs.Many.{ServedAll, Hosted, Summed, Unserved, summa
 use crate::line::summary;
 use crate::many::serve;
 use crate::once::run_once;
-use cm_face::face::Face;
+use cm_repo::face::Face;
 use cmis_words::serve::{Serve, read_serve};
 use cmis_words::words::WordsStop;
 use desk_serve::{Closing, HostEnd};

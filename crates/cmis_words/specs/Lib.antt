@@ -4,3 +4,4 @@ pub mod Options
 pub mod Programs
 pub mod Serving
 pub mod Loading
+pub mod Scheduling

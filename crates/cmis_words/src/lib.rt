@@ -7,5 +7,6 @@ pub mod groups;
 pub mod laws;
 pub mod load;
 mod options;
+pub mod schedule;
 pub mod serve;
 pub mod words;

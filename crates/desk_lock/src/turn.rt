@@ -13,7 +13,24 @@ use crate::board::{COUNT, HOME, Place, TURN, Top};
 use crate::plays::{Claim, Commit, Learn, Release};
 use crate::shelf::show;
 use desk_model::{Machine, Version};
+use std::hint::spin_loop;
 use std::sync::{Arc, Wait};
+
+/// How often a thread looks at the turn before it sleeps. A look and its pause take about 50 nanoseconds, and a short write as long as all.
+const LOOKS: u32 = 1000;
+
+// Whether the turn is seen free within so many looks. To wake a thread that sleeps takes longer than a short write.
+fn comes_free<M: Machine>(top: &Top<M>) -> bool
+    requires { IsSized top.now.table_id }
+{
+    for _ in 0..LOOKS {
+        if top.peek(TURN) == 0 {
+            return true;
+        }
+        spin_loop();
+    }
+    false
+}
 
 // Takes the turn, with the version at home.
 fn claim<M: Machine, R: Wait>(rt: &R, top: &Top<M>, place: &mut Place<M>)
@@ -26,7 +43,9 @@ fn claim<M: Machine, R: Wait>(rt: &R, top: &Top<M>, place: &mut Place<M>)
         if top.compare_exchange::<Claim<M>>(place, TURN, 0, 1) == 0 {
             return;
         }
-        top.park(rt, TURN, 1);
+        if !comes_free(top) {
+            top.park(rt, TURN, 1);
+        }
     }
     unreachable!()
 }

@@ -5,7 +5,7 @@ ghost use Rattle.desk_model.specs.Histories.{History, IsLegal, state_of, grown, 
 
 use crate::entry::Entry;
 use crate::machine::{Halt, Machine};
-use cm_lists::sequence::Sequence;
+use cm_map::sequence::Sequence;
 use std::alloc::{AllocError, Global};
 use std::marker::Model;
 use std::sync::Arc;

@@ -1,140 +1,93 @@
-//! A machine that adds numbers, and sessions that take turns over it.
+//! Sessions that take turns.
+use crate::sums::Sums;
 use cm_base::items::Items;
 use cm_base::number::Moment;
 use cm_base::text::Text;
 use desk_core::{Core, CoreStop, Done, Event, run_events};
-use desk_model::{Entry, Halt, Machine, Version};
-use std::alloc::Global;
+use desk_model::Version;
+use std::alloc::{AllocError, Global};
 use std::test::Fail;
 
-/// A sum that stays below 100. A call adds to it; a question asks whether it is a number.
-pub struct Sums;
-
-impl Machine for Sums {
-    type State = u64;
-
-    type Call = u64;
-
-    type Question = u64;
-
-    type Shown = u64;
-
-    type Cause = u64;
-
-    ghost use Rattle.std.specs.Prelude.{Ok, Err, ◌+◌, ◌==◌, nat_lt, if◌then◌else◌};
-
-    ghost next = { λ s e. if nat_lt e.call 100
-        then (if nat_lt (s + e.call) 100 then Ok (s + e.call, s + e.call) else Err s)
-        else Err 100 };
-
-    ghost answer = { λ s u q. if s == q then Ok s else Err q };
-
-    ghost number = { λ s. s };
-
-    fn next(_alloc: Global, state: &u64, entry: &Entry<u64>) -> Result<(u64, u64), Halt<u64>> {
-        if entry.call >= 100 {
-            return Err(Halt::Refused(100));
-        }
-        match state.checked_add(entry.call) {
-            Some(sum) if sum < 100 => Ok((sum, sum)),
-            _ => Err(Halt::Refused(*state)),
-        }
-    }
-
-    fn answer(_alloc: Global, state: &u64, _user: &Text, question: &u64) -> Result<u64, Halt<u64>> {
-        if *state == *question {
-            Ok(*state)
-        } else {
-            Err(Halt::Refused(*question))
-        }
-    }
-
-    fn number(state: &u64) -> u64 {
-        *state
-    }
+/// What a session does.
+#[derive(Clone, Copy)]
+enum Turn {
+    Enter,
+    Look,
+    Write(u64),
+    Ask(u64),
 }
 
-fn write(alloc: Global, session: u32, call: u64) -> Result<Event<u64, u64>, Fail> {
-    Ok(Event::Write {
-        session,
-        user: Text::from_str(alloc, "ann")?,
-        moment: Moment(7),
-        call,
+fn event(alloc: Global, session: u32, turn: Turn) -> Result<Event<u64, u64>, AllocError> {
+    let user = Text::from_str(alloc, "ann")?;
+    Ok(match turn {
+        Turn::Enter => Event::Enter { session },
+        Turn::Look => Event::Look { session },
+        Turn::Write(call) => Event::Write {
+            session,
+            user,
+            moment: Moment(7),
+            call,
+        },
+        Turn::Ask(question) => Event::Ask {
+            session,
+            user,
+            question,
+        },
     })
 }
 
-fn ask(alloc: Global, session: u32, question: u64) -> Result<Event<u64, u64>, Fail> {
-    Ok(Event::Ask {
-        session,
-        user: Text::from_str(alloc, "ann")?,
-        question,
-    })
+// What a step did, what it shows or is refused by, and the number of the version.
+fn told(done: &Result<Done<u64>, CoreStop<u64>>) -> (&'static str, u64, u64) {
+    match done {
+        Ok(Done::Entered(n)) => ("entered", 0, *n),
+        Ok(Done::Wrote(shown, n)) => ("wrote", *shown, *n),
+        Ok(Done::Looked(n)) => ("looked", 0, *n),
+        Ok(Done::Said(shown, n)) => ("said", *shown, *n),
+        Err(CoreStop::Refused { cause, number }) => ("refused", *cause, *number),
+        Err(CoreStop::Known) => ("known", 0, 0),
+        Err(CoreStop::Unknown) => ("unknown", 0, 0),
+        Err(CoreStop::Memory) => ("memory", 0, 0),
+    }
 }
 
 // Two sessions of which the second holds the beginning until it looks.
-fn script(alloc: Global) -> Result<Items<Event<u64, u64>>, Fail> {
-    let mut events = Items::new(alloc);
-    events.push(Event::Enter { session: 3 })?;
-    events.push(Event::Enter { session: 4 })?;
-    events.push(write(alloc, 3, 40)?)?;
-    events.push(ask(alloc, 4, 1)?)?;
-    events.push(Event::Look { session: 4 })?;
-    events.push(ask(alloc, 4, 1)?)?;
-    events.push(write(alloc, 4, 59)?)?;
-    events.push(Event::Enter { session: 3 })?;
-    events.push(Event::Look { session: 5 })?;
-    Ok(events)
-}
-
-fn is_done(done: &Result<Done<u64>, CoreStop<u64>>, number: u64) -> bool {
-    match done {
-        Ok(Done::Entered(n)) => *n == number,
-        Ok(Done::Wrote(shown, n)) => *shown == number && *n == number,
-        Ok(Done::Looked(n)) => *n == number,
-        Ok(Done::Said(shown, n)) => *shown == number && *n == number,
-        Err(_) => false,
-    }
-}
-
-fn is_refused(done: &Result<Done<u64>, CoreStop<u64>>, by: u64, at: u64) -> bool {
-    match done {
-        Err(CoreStop::Refused { cause, number }) => *cause == by && *number == at,
-        _ => false,
-    }
-}
-
 #[test]
 fn sessions_take_turns(rt: HostRuntime) -> Result<(), Fail> {
     let alloc = rt.alloc();
     let version: Version<Sums> = Version::opening(alloc, 1)?;
     let mut core = Core::new(alloc, version)?;
-    let events = script(alloc)?;
-    let dones = run_events(alloc, &mut core, events)?;
-    let all = dones.as_slice();
-    assert_eq!(rt; all.len(), 9);
-    assert!(rt; all.iter().take(4).filter(|d| is_done(d, 1)).count() == 3);
-    assert!(rt; all.get(2).is_some_and(|d| is_done(d, 41)));
-    assert!(rt; all.get(4).is_some_and(|d| is_done(d, 41)));
-    assert!(rt; all.get(5).is_some_and(|d| is_refused(d, 1, 41)));
-    assert!(rt; all.get(6).is_some_and(|d| is_refused(d, 41, 41)));
-    assert!(rt;
-        all.get(7)
-            .is_some_and(|d| matches!(d, Err(CoreStop::Known)))
-    );
-    assert!(rt;
-        all.get(8)
-            .is_some_and(|d| matches!(d, Err(CoreStop::Unknown)))
-    );
-    assert_eq!(rt; core.snapshot()?.len(), 1);
+    let script = [
+        (3, Turn::Enter, ("entered", 0, 1)),
+        (4, Turn::Enter, ("entered", 0, 1)),
+        (3, Turn::Write(40), ("wrote", 41, 41)),
+        (4, Turn::Ask(1), ("said", 1, 1)),
+        (4, Turn::Look, ("looked", 0, 41)),
+        (4, Turn::Ask(1), ("refused", 1, 41)),
+        (4, Turn::Write(59), ("refused", 41, 41)),
+        (3, Turn::Enter, ("known", 0, 0)),
+        (5, Turn::Look, ("unknown", 0, 0)),
+    ];
+    for (session, turn, want) in script {
+        let event = event(alloc, session, turn)?;
+        let done = core.step(alloc, event);
+        assert_eq!(rt; told(&done), want);
+    }
     Ok(())
 }
 
-#[test]
-fn one_step(rt: HostRuntime) -> Result<(), Fail> {
-    let alloc = rt.alloc();
-    let version: Version<Sums> = Version::opening(alloc, 2)?;
+// How many answers there are to two events, and how long the journal is then.
+fn ran(alloc: Global) -> Result<(usize, u64), AllocError> {
+    let version: Version<Sums> = Version::opening(alloc, 1)?;
     let mut core = Core::new(alloc, version)?;
-    let done = core.step(alloc, Event::Enter { session: 0 });
-    assert!(rt; is_done(&done, 2));
+    let mut events = Items::new(alloc);
+    events.push(event(alloc, 3, Turn::Enter)?)?;
+    events.push(event(alloc, 3, Turn::Write(40))?)?;
+    let dones = run_events(alloc, &mut core, events)?;
+    Ok((dones.len(), core.snapshot()?.len()))
+}
+
+#[test]
+fn each_event_is_answered(rt: HostRuntime) -> Result<(), Fail> {
+    assert_eq!(rt; ran(rt.alloc())?, (2, 1));
     Ok(())
 }

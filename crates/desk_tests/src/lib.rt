@@ -4,8 +4,12 @@
 #[cfg(test)]
 mod events;
 #[cfg(test)]
+mod gates;
+#[cfg(test)]
 mod locks;
 #[cfg(test)]
-mod machines;
+mod passes;
 #[cfg(test)]
-mod sessions;
+mod replies;
+#[cfg(test)]
+mod sums;

@@ -34,8 +34,8 @@ impl Flags {
     }
 }
 
-// Waits for the flag, for a bounded number of turns.
-fn waited(flag: &Arc<AtomicU64>) -> bool {
+/// Waits for the flag, for a bounded number of turns.
+pub fn waited(flag: &Arc<AtomicU64>) -> bool {
     for _ in 0..TURNS {
         if flag.load(SeqCst) == 1 {
             return true;

@@ -21,8 +21,8 @@ use Rattle.include_parts.specs.declared.readings.ShowChildren.{ShowChildren}
 use Rattle.include_parts.specs.declared.readings.ShowObject.{ShowObject}
 use Rattle.cmis_spec.specs.Repository.{Repository, is_a}
 use Rattle.cmis_spec.specs.Access.{children_of}
-use Rattle.cm_show.specs.Addressed.{addressed}
-use Rattle.cm_show.specs.Shown.{shown_object}
+use Rattle.cm_see.specs.Addressed.{addressed}
+use Rattle.cm_see.specs.Shown.{shown_object}
 use Rattle.cm_include.specs.declared.included.View.{View}
 use Rattle.cm_include.specs.Included.{included_object, shown_beside}
 use Rattle.object_json.specs.Objects.{shown_data}

@@ -6,8 +6,6 @@ ghost use Rattle.std.specs.Prelude.{◌≡◌};
 
 pub mod cause;
 pub mod read;
-#[cfg(test)]
-mod tests;
 pub mod tree;
 pub mod values;
 pub mod write;

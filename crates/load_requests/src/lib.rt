@@ -4,7 +4,5 @@
 ghost use Rattle.std.specs.Prelude.{◌≡◌};
 
 mod posts;
-#[cfg(test)]
-mod tests;
 
 pub use posts::{request, requests};

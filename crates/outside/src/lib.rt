@@ -10,8 +10,6 @@ mod mem_host;
 mod mem_link;
 mod mem_sink;
 mod mem_source;
-#[cfg(test)]
-mod tests;
 mod traits;
 
 pub use clock::{Clock, FixedClock, ListClock};

@@ -2,7 +2,7 @@
 ghost use Rattle.std.specs.Prelude.{◌≡◌, IfOk, bytes_eq, find, map};
 ghost use Rattle.std.specs.Option.{option_copied};
 ghost use Rattle.std.specs.List.{list_any};
-ghost use Rattle.map_keys.specs.Parts.{pointee};
+ghost use Rattle.cm_map.specs.Parts.{pointee};
 ghost use Rattle.cm_base.specs.declared.cause.Cause.TheVariants as causes;
 ghost use Rattle.cm_base.specs.Judged.{Meets};
 ghost use Rattle.ql_bind.specs.Tables.{column_in, judge_qualified, judge_qualifier};
@@ -28,7 +28,7 @@ pub(crate) struct Scope<'a> {
 impl<'a> Model for Scope<'a> {
     ghost use Rattle.std.specs.Prelude.{map};
     ghost use Rattle.std.specs.Option.{option_copied};
-    ghost use Rattle.map_keys.specs.Parts.{pointee};
+    ghost use Rattle.cm_map.specs.Parts.{pointee};
     ghost use Rattle.ql_bind.specs.Tables.{Scope as Seen, names_of};
 
     ghost Value = { Seen };

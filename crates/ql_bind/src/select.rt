@@ -1,6 +1,6 @@
 //! What a query shows, and what its rows are ordered by.
 ghost use Rattle.std.specs.Prelude.{◌≡◌, [], ◌∷◌, ◌++◌, map, IfOk, OnOk, unwrap_or};
-ghost use Rattle.map_keys.specs.Parts.{pointee};
+ghost use Rattle.cm_map.specs.Parts.{pointee};
 ghost use Rattle.cm_base.specs.Judged.{Meets};
 ghost use Rattle.ql_bind.specs.Binding.{all_onto, bind_item, bind_key, bind_selection, each_onto, named_column, whole_column};
 

@@ -1,7 +1,7 @@
 //! Tables: the type that one is, its columns, and the types whose objects are its rows.
 ghost use Rattle.std.specs.Prelude.{◌≡◌, ◌∷◌, ◌++◌, [], ◌&&◌, IfOk, OnOk, bytes_eq, map};
 ghost use Rattle.std.specs.Option.{option_copied};
-ghost use Rattle.map_keys.specs.Parts.{pointee};
+ghost use Rattle.cm_map.specs.Parts.{pointee};
 ghost use Rattle.cm_types.specs.Types.{chain, chain_of, longest_chain, types_of};
 ghost use Rattle.ql_bind.specs.Tables.{columns_among, columns_of, counts_up, kinds_among, properties_in, properties_of, row_kinds, table_named};
 

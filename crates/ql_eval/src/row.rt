@@ -7,7 +7,7 @@ use cm_base::value::Values;
 #[derive(Drop)]
 pub struct Row {
     pub id: Oid,
-    /// The queryable properties as the caller sees them.
+    /// The queryable properties as the caller sees them, or those of them that a condition names.
     pub values: Values,
     /// The folders that the caller reads in which it is filed; of a folder, its parent.
     pub folders: Oids,

@@ -105,39 +105,3 @@ pub fn tokens<'a>(alloc: Global, text: &'a str, limit: usize) -> Result<Vec<Toke
 pub fn tokens_are_one()
     ensures { (limit n : ℕ) (text : List ℕ) (ts us : List Token) → spec.Lexes limit n text ts → spec.Lexes limit n text us → ts ≡ us }
 {}
-
-#[cfg(test)]
-mod tests {
-    use super::*;
-    use crate::word::{Word, is_left_out, keyword_of};
-    use std::test::Fail;
-
-    #[test]
-    fn a_text_has_its_tokens(rt: HostRuntime) -> Result<(), Fail> {
-        let all = tokens(rt.alloc(), "select a.b FROM 'c\\'' <> -1.5", 65_536)?;
-        assert_eq!(rt; all.len(), 8);
-        assert_eq!(rt; all[4].at, 11);
-        assert_eq!(rt; all[5].at, 16);
-        assert_eq!(rt; all[7].at, 25);
-        Ok(())
-    }
-
-    #[test]
-    fn nothing_is_read_behind_a_wrong_backslash(rt: HostRuntime) -> Result<(), Fail> {
-        let all = tokens(rt.alloc(), " 'a\\b' c", 65_536)?;
-        assert_eq!(rt; all.len(), 2);
-        assert_eq!(rt; all[0].at, 1);
-        assert_eq!(rt; all[1].at, 3);
-        Ok(())
-    }
-
-    #[test]
-    fn keywords_have_any_case(rt: HostRuntime) -> Result<(), Fail> {
-        assert_eq!(rt; keyword_of(b"In_Tree"), Some(Word::InTree));
-        assert_eq!(rt; keyword_of(b"score"), None);
-        assert_eq!(rt; Word::InTree.text(), "IN_TREE");
-        assert!(rt; is_left_out(b"Score"));
-        tokens_are_one();
-        Ok(())
-    }
-}

@@ -13,7 +13,7 @@ use Rattle.cmis_spec.specs.Repository.{Repository, same, object_at, is_filed}
 use Rattle.cmis_spec.specs.Access.{reads}
 use Rattle.cmis_laws.proofs.Lists.{by_test, same_eq}
 use Rattle.cmis_laws.proofs.Kept.{bytes_true}
-use Rattle.cm_show.specs.Shown.{shown_slot, property_value}
+use Rattle.cm_see.specs.Shown.{shown_slot, property_value}
 use Rattle.row_store.specs.Rows.{is_row, row_of, row_at, numbers}
 
 -- a row has the value of a property, or does not have the property

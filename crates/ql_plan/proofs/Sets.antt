@@ -16,7 +16,7 @@ use Rattle.cmis_spec.specs.Access.{reads, stands, oid_named}
 use Rattle.cmis_spec.specs.Well.{Apart, IsWellFormed}
 use Rattle.cmis_laws.proofs.Lists.{by_test, same_eq, same_refl, differ, find_yes, find_no, all_zip}
 use Rattle.cmis_laws.proofs.Entries.{all_there}
-use Rattle.cm_show.specs.Shown.{property_value}
+use Rattle.cm_see.specs.Shown.{property_value}
 use Rattle.ql_bind.specs.declared.bound.Bound.{Bound}
 use Rattle.ql_eval.specs.declared.row.Row.{Row}
 use Rattle.ql_eval.specs.Conditions.{keeps}

@@ -1,5 +1,2 @@
-//! Worked rows of queries: a small repository, and what is found in it, computed; and texts that are read, bound and run.
+//! Worked rows of queries: a small repository, and what is found in it. Each row is computed.
 #![tactic(auto)]
-
-#[cfg(test)]
-mod tests;

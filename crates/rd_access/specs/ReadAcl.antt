@@ -9,7 +9,7 @@ use Rattle.cm_base.specs.Judged.{Judged, ◌>>=◌, find_or}
 use Rattle.call_parts.specs.declared.readings.ReadAcl.{ReadAcl}
 use Rattle.call_parts.specs.declared.replies.ShownAce.{ShownAce}
 use Rattle.call_parts.specs.declared.replies.AclReply.{AclReply}
-use Rattle.cm_show.specs.Addressed.{addressed}
+use Rattle.cm_see.specs.Addressed.{addressed}
 use Rattle.cmis_spec.specs.Repository.{Repository, entry_of}
 use Rattle.cmis_spec.specs.Access.{aces_at}
 

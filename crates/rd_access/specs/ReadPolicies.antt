@@ -5,7 +5,7 @@ use Rattle.cm_base.specs.Judged.{Judged, ◌>>=◌, find_or}
 use Rattle.call_parts.specs.declared.readings.PropertyFilter.TheVariants as filters
 use Rattle.call_parts.specs.declared.readings.ReadPolicies.{ReadPolicies}
 use Rattle.call_parts.specs.declared.replies.ObjectsReply.{ObjectsReply}
-use Rattle.cm_show.specs.Addressed.{addressed}
+use Rattle.cm_see.specs.Addressed.{addressed}
 use Rattle.cmis_spec.specs.Repository.{Repository}
 use Rattle.cmis_spec.specs.Access.{policies_of}
 use Rattle.rd_lists.specs.Listed.{objects_reply}

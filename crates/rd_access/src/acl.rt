@@ -16,7 +16,7 @@ use cm_base::items::Items;
 use cm_base::number::Oid;
 use cm_base::object::Object;
 use cm_base::text::Text;
-use cm_show::address::addressed;
+use cm_see::address::addressed;
 use cm_state::look::entry_of;
 use cm_state::state::State;
 use std::alloc::{AllocError, Global};

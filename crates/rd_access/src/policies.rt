@@ -1,6 +1,6 @@
 //! The policies that are applied to an object (CMIS 1.1, section 2.2.9.3).
 ghost use Rattle.std.specs.Prelude.{◌≡◌, ◌++◌, ◌∷◌, [], IfOk, OnOk, filter, map};
-ghost use Rattle.map_keys.specs.Parts.{pointee};
+ghost use Rattle.cm_map.specs.Parts.{pointee};
 ghost use Rattle.cm_base.specs.Judged.{Meets};
 ghost use Rattle.call_parts.specs.declared.readings.PropertyFilter.TheVariants as filters;
 ghost use Rattle.cmis_spec.specs.Access.{policies_of};
@@ -16,8 +16,8 @@ use cm_base::filing::Applied;
 use cm_base::number::Oid;
 use cm_base::object::Object;
 use cm_base::text::Text;
-use cm_lists::sequence::Sequence;
-use cm_show::address::addressed;
+use cm_map::sequence::Sequence;
+use cm_see::address::addressed;
 use cm_state::state::State;
 use rd_lists::listed::objects_reply;
 use rd_lists::number::{read_among, rising};

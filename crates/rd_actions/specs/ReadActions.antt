@@ -5,7 +5,7 @@ use Rattle.cm_base.specs.declared.cause.Cause.TheVariants as causes
 use Rattle.cm_base.specs.Judged.{Judged, ◌>>=◌, find_or}
 use Rattle.action_parts.specs.declared.readings.ReadActions.{ReadActions}
 use Rattle.action_parts.specs.declared.replies.ActionsReply.{ActionsReply}
-use Rattle.cm_show.specs.Addressed.{addressed}
+use Rattle.cm_see.specs.Addressed.{addressed}
 use Rattle.cmis_spec.specs.Repository.{Repository}
 use Rattle.cm_actions.specs.Allowed.{actions_of}
 

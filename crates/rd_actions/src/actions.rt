@@ -10,7 +10,7 @@ use cm_base::cause::Cause;
 use cm_base::fail::Fail;
 use cm_base::object::Object;
 use cm_base::text::Text;
-use cm_show::address::addressed;
+use cm_see::address::addressed;
 use cm_state::state::State;
 use std::alloc::{AllocError, Global};
 

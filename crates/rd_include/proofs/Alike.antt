@@ -10,8 +10,8 @@ use Rattle.cmis_spec.specs.Repository.{Repository, last_of, series_of}
 use Rattle.cmis_spec.specs.Access.{read_at}
 use Rattle.cmis_spec.specs.Seen.{SeenSeries, seen_series}
 use Rattle.cmis_laws.proofs.Lists.{none_some, some_eq}
-use Rattle.cm_show.specs.Shown.{last_major}
-use Rattle.seen_laws.proofs.Worlds.{AreAlike, IsAlike, IsFound, read_at_alike}
+use Rattle.cm_see.specs.Shown.{last_major}
+use Rattle.cm_see.proofs.Worlds.{AreAlike, IsAlike, IsFound, read_at_alike}
 use Rattle.rd_include.specs.ShowObject.{in_series, version_asked}
 
 -- the version of what is seen of a series

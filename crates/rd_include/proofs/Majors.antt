@@ -4,7 +4,7 @@ use Rattle.std.proofs.Common.{refl, sym, ap, ◌∙◌}
 use Rattle.std.proofs.lemmas.List.{take_more}
 use Rattle.cm_base.specs.declared.series.DocumentVersion.{DocumentVersion}
 use Rattle.cmis_laws.proofs.Lists.{by_test}
-use Rattle.cm_show.specs.Shown.{is_major, last_major}
+use Rattle.cm_see.specs.Shown.{is_major, last_major}
 
 last_pushed : (vs : List DocumentVersion) (v : DocumentVersion) → last_major (vs ++ v ∷ []) ≡ if is_major v then Some v else last_major vs
 last_pushed [] v = refl

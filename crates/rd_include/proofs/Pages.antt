@@ -12,8 +12,8 @@ use Rattle.include_parts.specs.declared.readings.ShowParents.{ShowParents}
 use Rattle.cmis_spec.specs.Repository.{Repository}
 use Rattle.cm_include.specs.Included.{included_object}
 use Rattle.cm_include.proofs.Alike.{all_included_alike, included_alike}
-use Rattle.seen_laws.proofs.Lists.{map_same}
-use Rattle.seen_laws.proofs.Worlds.{AreAlike, AreFound, IsAlike}
+use Rattle.cm_see.proofs.SeenLists.{map_same}
+use Rattle.cm_see.proofs.Worlds.{AreAlike, AreFound, IsAlike}
 use Rattle.rd_lists.specs.Listed.{is_too_long}
 use Rattle.rd_lists.proofs.Seen.{segment_alike}
 use Rattle.rd_nav.specs.ReadChildren.{has_more, page}

@@ -10,7 +10,7 @@ use Rattle.include_parts.specs.declared.replies.IncludedMember.{IncludedMember}
 use Rattle.include_parts.specs.declared.replies.IncludedChildrenReply.{IncludedChildrenReply}
 use Rattle.cmis_spec.specs.Repository.{Repository, is_a}
 use Rattle.cmis_spec.specs.Access.{children_of}
-use Rattle.cm_show.specs.Addressed.{addressed}
+use Rattle.cm_see.specs.Addressed.{addressed}
 use Rattle.cm_include.specs.Included.{included_object}
 use Rattle.rd_lists.specs.Folders.{segment_of}
 use Rattle.rd_nav.specs.ReadChildren.{page, has_more}

@@ -15,8 +15,8 @@ use Rattle.include_parts.specs.declared.readings.ShowProperties.{ShowProperties}
 use Rattle.include_parts.specs.declared.replies.IncludedReply.{IncludedReply}
 use Rattle.cmis_spec.specs.Repository.{Repository, last_of, series_of}
 use Rattle.cmis_spec.specs.Access.{read_at}
-use Rattle.cm_show.specs.Addressed.{addressed}
-use Rattle.cm_show.specs.Shown.{last_major, shown_object}
+use Rattle.cm_see.specs.Addressed.{addressed}
+use Rattle.cm_see.specs.Shown.{last_major, shown_object}
 use Rattle.cm_include.specs.declared.included.View.{View}
 use Rattle.cm_include.specs.Included.{included_object}
 

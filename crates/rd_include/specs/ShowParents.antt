@@ -7,7 +7,7 @@ use Rattle.include_parts.specs.declared.readings.ShowParents.{ShowParents}
 use Rattle.include_parts.specs.declared.replies.IncludedMember.{IncludedMember}
 use Rattle.include_parts.specs.declared.replies.IncludedParentsReply.{IncludedParentsReply}
 use Rattle.cmis_spec.specs.Repository.{Repository}
-use Rattle.cm_show.specs.Addressed.{addressed}
+use Rattle.cm_see.specs.Addressed.{addressed}
 use Rattle.cm_include.specs.Included.{included_object}
 use Rattle.rd_lists.specs.Folders.{folders_of, is_fileable, segment_of}
 use Rattle.rd_lists.specs.Listed.{is_too_long}

@@ -8,7 +8,7 @@ use Rattle.include_parts.specs.declared.readings.ShowVersions.{ShowVersions}
 use Rattle.include_parts.specs.declared.replies.IncludedObject.{IncludedObject}
 use Rattle.include_parts.specs.declared.replies.IncludedObjectsReply.{IncludedObjectsReply}
 use Rattle.cmis_spec.specs.Repository.{Repository, is_a}
-use Rattle.cm_show.specs.Addressed.{addressed}
+use Rattle.cm_see.specs.Addressed.{addressed}
 use Rattle.cm_include.specs.Included.{included_object}
 use Rattle.rd_lists.specs.Versions.{versions_of}
 use Rattle.rd_include.specs.Listed.{list_of}

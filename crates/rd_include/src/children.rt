@@ -1,6 +1,6 @@
 //! The children of a folder, with what is shown beside their properties (CMIS 1.1, section 2.2.3.1).
 ghost use Rattle.std.specs.Prelude.{◌≡◌, IfOk, map};
-ghost use Rattle.map_keys.specs.Parts.{pointee};
+ghost use Rattle.cm_map.specs.Parts.{pointee};
 ghost use Rattle.cm_base.specs.Judged.{Meets};
 ghost use Rattle.cmis_spec.specs.Access.{children_of};
 ghost use Rattle.rd_include.specs.ShowChildren.{answer_ordered_children, answer_show_children, answer_show_children_in, included_child, included_children};
@@ -12,8 +12,8 @@ use cm_base::number::Oid;
 use cm_base::object::Object;
 use cm_base::text::Text;
 use cm_include::included::{View, included_object};
+use cm_see::address::addressed;
 use cm_see::child::children_of;
-use cm_show::address::addressed;
 use cm_state::state::State;
 use cm_types::definition::BaseType;
 use include_parts::readings::ShowChildren;

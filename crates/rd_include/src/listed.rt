@@ -1,6 +1,6 @@
 //! Lists and pages of objects, with what is asked for beside their properties.
 ghost use Rattle.std.specs.Prelude.{◌≡◌, IfOk, map};
-ghost use Rattle.map_keys.specs.Parts.{pointee};
+ghost use Rattle.cm_map.specs.Parts.{pointee};
 ghost use Rattle.cm_base.specs.Judged.{Meets};
 ghost use Rattle.cm_include.specs.Included.{included_in};
 ghost use Rattle.rd_include.specs.Listed.{list_of, page_of};

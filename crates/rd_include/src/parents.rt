@@ -1,6 +1,6 @@
 //! The folders of an object (CMIS 1.1, section 2.2.3.5).
 ghost use Rattle.std.specs.Prelude.{◌≡◌, IfOk, map};
-ghost use Rattle.map_keys.specs.Parts.{pointee};
+ghost use Rattle.cm_map.specs.Parts.{pointee};
 ghost use Rattle.cm_base.specs.Judged.{Meets};
 ghost use Rattle.rd_include.specs.ShowParents.{answer_show_parents, answer_show_parents_of, included_parent, included_parents};
 
@@ -11,7 +11,7 @@ use cm_base::items::Items;
 use cm_base::object::Object;
 use cm_base::text::Text;
 use cm_include::included::{View, included_object};
-use cm_show::address::addressed;
+use cm_see::address::addressed;
 use cm_state::state::State;
 use include_parts::readings::ShowParents;
 use include_parts::replies::{IncludedMember, IncludedMembers, IncludedParentsReply};

@@ -3,7 +3,7 @@ ghost use Rattle.std.specs.Prelude.{◌≡◌, if◌then◌else◌, Option, Some
 ghost use Rattle.std.specs.Option.{option_copied};
 ghost use Rattle.cmis_spec.specs.Access.{read_at};
 ghost use Rattle.cmis_spec.specs.Repository.{last_of};
-ghost use Rattle.cm_show.specs.Shown.{is_major, last_major};
+ghost use Rattle.cm_see.specs.Shown.{is_major, last_major};
 ghost use Rattle.rd_include.specs.ShowObject.{in_series, version_asked};
 
 use cm_base::object::Object;

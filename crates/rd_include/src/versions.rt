@@ -1,6 +1,6 @@
 //! The versions of a document (CMIS 1.1, section 2.2.7.6).
 ghost use Rattle.std.specs.Prelude.{◌≡◌, map};
-ghost use Rattle.map_keys.specs.Parts.{pointee};
+ghost use Rattle.cm_map.specs.Parts.{pointee};
 ghost use Rattle.cm_base.specs.Judged.{Meets};
 ghost use Rattle.rd_include.specs.Listed.{list_of};
 ghost use Rattle.rd_include.specs.ShowVersions.{answer_show_versions, answer_show_versions_of, included_version};
@@ -11,7 +11,7 @@ use cm_base::fail::Fail;
 use cm_base::object::Object;
 use cm_base::text::Text;
 use cm_include::included::View;
-use cm_show::address::addressed;
+use cm_see::address::addressed;
 use cm_state::state::State;
 use cm_types::definition::BaseType;
 use include_parts::readings::ShowVersions;

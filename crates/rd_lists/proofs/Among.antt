@@ -15,11 +15,11 @@ use Rattle.cmis_spec.specs.Access.{reads, read_at}
 use Rattle.cmis_spec.specs.Well.{HasNumbers}
 use Rattle.cmis_laws.proofs.Lists.{all_zip}
 use Rattle.cmis_laws.proofs.Entries.{all_there}
-use Rattle.cm_show.specs.Shown.{shown_object}
-use Rattle.seen_laws.proofs.Lists.{map_same}
-use Rattle.seen_laws.proofs.Objects.{IsHere, here_read}
-use Rattle.seen_laws.proofs.Shown.{shown_alike}
-use Rattle.seen_laws.proofs.Worlds.{AreAlike, AreFound, IsAlike, IsFound, read_at_alike}
+use Rattle.cm_see.specs.Shown.{shown_object}
+use Rattle.cm_see.proofs.SeenLists.{map_same}
+use Rattle.cm_see.proofs.Objects.{IsHere, here_read}
+use Rattle.cm_see.proofs.SeenShown.{shown_alike}
+use Rattle.cm_see.proofs.Worlds.{AreAlike, AreFound, IsAlike, IsFound, read_at_alike}
 use Rattle.rd_lists.specs.Listed.{is_too_long, objects_reply}
 
 -- what is read is found by its number

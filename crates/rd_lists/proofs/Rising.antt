@@ -7,14 +7,14 @@ use Rattle.std.proofs.lemmas.List.Folds.{list_any_none}
 use Rattle.std.proofs.lemmas.List.Elements.{All-nil, All-cons, All-head, All-tail, All-weaker}
 use Rattle.cm_base.specs.declared.number.Oid.{Oid}
 use Rattle.cm_base.specs.declared.object.Object.{Object}
-use Rattle.cm_lists.specs.Keyed.{Rises}
+use Rattle.cm_map.specs.Keyed.{Rises}
 use Rattle.cmis_spec.specs.Repository.{Repository, same, object_at}
 use Rattle.cmis_spec.specs.Access.{reads, read_at}
 use Rattle.cmis_spec.specs.Well.{Apart, HasNumbers}
 use Rattle.cmis_laws.proofs.Lists.{by_test, found_holds, found_passes, same_eq, same_refl, differ}
 use Rattle.cmis_laws.proofs.Entries.{all_there}
 use Rattle.cm_state.proofs.Numbers.{flip}
-use Rattle.seen_laws.proofs.Lists.{any_numbered}
+use Rattle.cm_see.proofs.SeenLists.{any_numbered}
 
 -- ---- numbers that rise
 

@@ -15,10 +15,10 @@ use Rattle.cmis_spec.specs.Repository.{Repository, same, root, is_a, series_of, 
 use Rattle.cmis_spec.specs.Access.{read_at, parents_of}
 use Rattle.cmis_spec.specs.Seen.{SeenSeries, seen_series, is_read}
 use Rattle.cmis_laws.proofs.Lists.{by_test, none_some, same_eq}
-use Rattle.seen_laws.proofs.Looks.{first_of, seen_name}
-use Rattle.seen_laws.proofs.Objects.{IsHere, here_read, sees_name}
-use Rattle.seen_laws.proofs.Paths.{sees_up}
-use Rattle.seen_laws.proofs.Worlds.{AreAlike, AreFound, IsAlike, IsFound, read_at_alike}
+use Rattle.cm_see.proofs.Looks.{first_of, seen_name}
+use Rattle.cm_see.proofs.Objects.{IsHere, here_read, sees_name}
+use Rattle.cm_see.proofs.SeenPaths.{sees_up}
+use Rattle.cm_see.proofs.Worlds.{AreAlike, AreFound, IsAlike, IsFound, read_at_alike}
 use Rattle.rd_lists.specs.Folders.{folders_of, segment_of}
 use Rattle.rd_lists.specs.ReadParent.{parent_of}
 use Rattle.rd_lists.specs.Versions.{latest_first, versions_of}

@@ -5,7 +5,7 @@ use Rattle.cm_base.specs.declared.cause.Cause.TheVariants as causes
 use Rattle.cm_base.specs.Judged.{Judged, ◌>>◌, refuse}
 use Rattle.call_parts.specs.declared.readings.PropertyFilter.{PropertyFilter}
 use Rattle.call_parts.specs.declared.replies.ObjectsReply.{ObjectsReply}
-use Rattle.cm_show.specs.Shown.{shown_object}
+use Rattle.cm_see.specs.Shown.{shown_object}
 use Rattle.cmis_spec.specs.Repository.{Repository}
 
 -- the most objects of such a list

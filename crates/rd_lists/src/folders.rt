@@ -1,7 +1,7 @@
 //! The folders of an object, and the name that it has in them (CMIS 1.1, section 2.2.3.5).
 ghost use Rattle.std.specs.Prelude.{◌≡◌, [], IfOk, map, unwrap_or};
 ghost use Rattle.std.specs.Option.{option_copied};
-ghost use Rattle.map_keys.specs.Parts.{pointee};
+ghost use Rattle.cm_map.specs.Parts.{pointee};
 ghost use Rattle.cmis_spec.specs.Access.{parents_of};
 ghost use Rattle.rd_lists.specs.Folders.{folders_of, is_fileable, segment_of};
 

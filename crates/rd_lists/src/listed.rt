@@ -1,8 +1,8 @@
 //! Lists of objects that are not cut into pages.
 ghost use Rattle.std.specs.Prelude.{◌≡◌, IfOk, map};
-ghost use Rattle.map_keys.specs.Parts.{pointee};
+ghost use Rattle.cm_map.specs.Parts.{pointee};
 ghost use Rattle.cm_base.specs.Judged.{Meets};
-ghost use Rattle.cm_show.specs.Shown.{shown_object};
+ghost use Rattle.cm_see.specs.Shown.{shown_object};
 ghost use Rattle.rd_lists.specs.Listed.{is_too_long, most_listed, objects_reply};
 
 use call_parts::readings::PropertyFilter;
@@ -12,7 +12,7 @@ use cm_base::fail::Fail;
 use cm_base::items::Items;
 use cm_base::object::Object;
 use cm_base::text::Text;
-use cm_show::shown::shown_object;
+use cm_see::shown::shown_object;
 use cm_state::state::State;
 use std::alloc::{AllocError, Global};
 

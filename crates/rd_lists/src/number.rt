@@ -4,9 +4,9 @@ ghost use Rattle.std.specs.List.{filter_map, list_any};
 ghost use Rattle.std.specs.Option.{option_to_list};
 ghost use Rattle.core.specs.Ordering.{nat_cmp};
 ghost use Rattle.core.specs.FinMap.Entries.{find};
-ghost use Rattle.map_keys.specs.Parts.{pointee};
+ghost use Rattle.cm_map.specs.Parts.{pointee};
 ghost use Rattle.cm_base.specs.declared.number.Oid.{Oid};
-ghost use Rattle.cm_lists.specs.Keyed.{Rises};
+ghost use Rattle.cm_map.specs.Keyed.{Rises};
 ghost use Rattle.cmis_spec.specs.Repository.{same};
 ghost use Rattle.cmis_spec.specs.Access.{read_at};
 

@@ -1,7 +1,7 @@
 //! The versions of a document (CMIS 1.1, section 2.2.7.6).
 ghost use Rattle.std.specs.Prelude.{◌≡◌, ◌++◌, IfOk, OnOk, map};
 ghost use Rattle.std.specs.List.{filter_map};
-ghost use Rattle.map_keys.specs.Parts.{pointee};
+ghost use Rattle.cm_map.specs.Parts.{pointee};
 ghost use Rattle.cmis_spec.specs.Access.{read_at};
 ghost use Rattle.cmis_spec.specs.Well.{copy_in};
 ghost use Rattle.rd_lists.specs.Versions.{latest_first, versions_of};

@@ -2,7 +2,7 @@
 use Rattle.std.specs.Prelude.{◌≡◌, ℕ, List, map, take, drop, All}
 use Rattle.std.proofs.Common.{sym, ap, ◌∙◌}
 use Rattle.std.proofs.lemmas.List.{take-map, drop-map}
-use Rattle.seen_laws.proofs.Lists.{map_same}
+use Rattle.cm_see.proofs.SeenLists.{map_same}
 use Rattle.rd_nav.specs.ReadChildren.{page, page_size}
 
 pub page_mapped : {A B : Type 0} (f : A → B) (skip asked : ℕ) (xs : List A) → map f (page skip asked xs) ≡ page skip asked (map f xs)

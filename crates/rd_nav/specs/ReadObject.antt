@@ -5,8 +5,8 @@ use Rattle.cm_base.specs.Judged.{Judged, ◌>>=◌, find_or}
 use Rattle.call_parts.specs.declared.place.Place.{Place}
 use Rattle.call_parts.specs.declared.readings.PropertyFilter.{PropertyFilter}
 use Rattle.call_parts.specs.declared.replies.ObjectReply.{ObjectReply}
-use Rattle.cm_show.specs.Addressed.{addressed}
-use Rattle.cm_show.specs.Shown.{shown_object}
+use Rattle.cm_see.specs.Addressed.{addressed}
+use Rattle.cm_see.specs.Shown.{shown_object}
 use Rattle.cmis_spec.specs.Repository.{Repository}
 
 -- the addressed object as the caller sees it

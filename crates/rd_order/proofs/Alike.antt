@@ -7,8 +7,8 @@ use Rattle.cm_base.specs.declared.object.Object.{Object}
 use Rattle.call_parts.specs.declared.readings.PropertyFilter.{PropertyFilter}
 use Rattle.order_parts.specs.declared.readings.SortSpecification.{SortSpecification}
 use Rattle.cmis_spec.specs.Repository.{Repository}
-use Rattle.seen_laws.proofs.Shown.{shown_alike}
-use Rattle.seen_laws.proofs.Worlds.{AreAlike, AreFound, IsAlike}
+use Rattle.cm_see.proofs.SeenShown.{shown_alike}
+use Rattle.cm_see.proofs.Worlds.{AreAlike, AreFound, IsAlike}
 use Rattle.ql_bind.specs.declared.bound.OrderKey.{OrderKey}
 use Rattle.ql_eval.specs.Order.{row_order}
 use Rattle.rd_order.specs.Ordered.{object_order, ordered, sort_filter, sort_keys, sort_row, sorted_by, values_in}

@@ -15,7 +15,7 @@ use Rattle.call_parts.specs.declared.replies.Properties.{Properties}
 use Rattle.call_parts.specs.declared.replies.Properties.TheVariants as forms
 use Rattle.order_parts.specs.declared.readings.SortSpecification.{SortSpecification}
 use Rattle.cmis_spec.specs.Repository.{Repository}
-use Rattle.cm_show.specs.Shown.{shown_properties}
+use Rattle.cm_see.specs.Shown.{shown_properties}
 use Rattle.ql_bind.specs.declared.bound.OrderKey.{OrderKey}
 use Rattle.ql_bind.specs.Binding.{each_onto}
 use Rattle.ql_bind.specs.Tables.{properties_in}

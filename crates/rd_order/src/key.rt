@@ -1,7 +1,7 @@
 //! What objects are put in order by.
 ghost use Rattle.std.specs.Prelude.{◌≡◌, ◌&&◌, [], bytes_eq, find, map};
 ghost use Rattle.std.specs.Option.{option_copied};
-ghost use Rattle.map_keys.specs.Parts.{pointee};
+ghost use Rattle.cm_map.specs.Parts.{pointee};
 ghost use Rattle.cm_base.specs.Judged.{Meets};
 ghost use Rattle.ql_bind.specs.Binding.{each_onto};
 ghost use Rattle.rd_order.specs.Ordered.{orderable_named, sort_key, sort_keys};

@@ -7,7 +7,7 @@ ghost use Rattle.cmis_spec.specs.Access.{children_of};
 ghost use Rattle.cmis_spec.specs.Repository.{Repository};
 ghost use Rattle.cmis_spec.specs.Seen.{OfSeen};
 ghost use Rattle.cmis_spec.specs.Well.{IsWellFormed};
-ghost use Rattle.cm_show.specs.Addressed.{addressed};
+ghost use Rattle.cm_see.specs.Addressed.{addressed};
 ghost use Rattle.rd_order.specs.Ordered.{ordered};
 
 /// In two repositories in which the caller sees the same, the children of an object that he reads stand in the same order for him.

@@ -1,6 +1,6 @@
 //! Lists of objects in order.
 ghost use Rattle.std.specs.Prelude.{◌≡◌, IfOk, map};
-ghost use Rattle.map_keys.specs.Parts.{pointee};
+ghost use Rattle.cm_map.specs.Parts.{pointee};
 ghost use Rattle.cm_base.specs.Judged.{Meets};
 ghost use Rattle.rd_order.specs.Ordered.{in_order, object_order, ordered, sort_filter, sort_row, sorted_by, values_in};
 ghost use Rattle.rd_order.specs.Keyed.{object_and_row, rows_in_order, with_row};
@@ -15,7 +15,7 @@ use cm_base::items::Items;
 use cm_base::object::Object;
 use cm_base::text::{Text, Texts};
 use cm_base::value::Values;
-use cm_show::shown::shown_object;
+use cm_see::shown::shown_object;
 use cm_state::state::State;
 use order_parts::readings::{SortSpecification, SortSpecifications};
 use ql_bind::bound::OrderKey;

@@ -15,10 +15,10 @@ use Rattle.cmis_spec.specs.Seen.{Seen, seen, seen_object}
 use Rattle.cmis_spec.specs.Well.{IsPair, IsBaseAt, IsWellFormed}
 use Rattle.cmis_laws.proofs.Lists.{by_test, all_zip, none_some, same_eq, some_eq}
 use Rattle.cmis_laws.proofs.Entries.{all_there}
-use Rattle.seen_laws.proofs.Looks.{seen_at, seen_parent, first_of}
-use Rattle.seen_laws.proofs.Objects.{IsHere, here_read, sees_at}
-use Rattle.seen_laws.proofs.Paths.{sees_up}
-use Rattle.seen_laws.proofs.Worlds.{AreAlike}
+use Rattle.cm_see.proofs.Looks.{seen_at, seen_parent, first_of}
+use Rattle.cm_see.proofs.Objects.{IsHere, here_read, sees_at}
+use Rattle.cm_see.proofs.SeenPaths.{sees_up}
+use Rattle.cm_see.proofs.Worlds.{AreAlike}
 
 and_first : (a b : Bool) → a && b ≡ true → a ≡ true
 and_first true b h = refl

@@ -19,12 +19,12 @@ use Rattle.cmis_spec.specs.Seen.{SeenObject, seen_object, seen_series, is_read}
 use Rattle.cmis_spec.specs.Well.{IsWellFormed}
 use Rattle.cmis_laws.proofs.Lists.{by_test, all_zip, same_eq}
 use Rattle.cmis_laws.proofs.Entries.{all_there}
-use Rattle.cm_show.specs.Shown.{passes, shown_slot}
-use Rattle.seen_laws.proofs.Lists.{same_items, map_same}
-use Rattle.seen_laws.proofs.Looks.{seen_stands}
-use Rattle.seen_laws.proofs.Objects.{IsHere, here_read, sees_stands}
-use Rattle.seen_laws.proofs.Shown.{shown_alike}
-use Rattle.seen_laws.proofs.Worlds.{AreAlike, IsAlike, AreFound, IsFound, read_at_alike}
+use Rattle.cm_see.specs.Shown.{passes, shown_slot}
+use Rattle.cm_see.proofs.SeenLists.{same_items, map_same}
+use Rattle.cm_see.proofs.Looks.{seen_stands}
+use Rattle.cm_see.proofs.Objects.{IsHere, here_read, sees_stands}
+use Rattle.cm_see.proofs.SeenShown.{shown_alike}
+use Rattle.cm_see.proofs.Worlds.{AreAlike, IsAlike, AreFound, IsFound, read_at_alike}
 use Rattle.state_rows.proofs.Parents.{all_shown, flat_ids}
 use Rattle.rd_query.proofs.Above.{IsFolderHere, parents_folders, above_alike}
 

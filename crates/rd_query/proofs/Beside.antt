@@ -10,9 +10,9 @@ use Rattle.cmis_laws.proofs.Entries.{all_there}
 use Rattle.cmis_laws.proofs.Lists.{all_zip}
 use Rattle.cm_include.specs.Included.{shown_beside}
 use Rattle.cm_include.proofs.Alike.{beside_alike}
-use Rattle.seen_laws.proofs.Lists.{map_same}
-use Rattle.seen_laws.proofs.Objects.{IsHere, here_read}
-use Rattle.seen_laws.proofs.Worlds.{AreAlike, IsAlike, read_at_alike}
+use Rattle.cm_see.proofs.SeenLists.{map_same}
+use Rattle.cm_see.proofs.Objects.{IsHere, here_read}
+use Rattle.cm_see.proofs.Worlds.{AreAlike, IsAlike, read_at_alike}
 use Rattle.ql_bind.specs.declared.bound.Bound.{Bound}
 use Rattle.ql_bind.specs.declared.bound.ShownColumn.{ShownColumn}
 use Rattle.ql_eval.specs.declared.row.Row.{Row}

@@ -10,7 +10,7 @@ use Rattle.ql_eval.specs.Conditions.{keeps}
 use Rattle.ql_eval.specs.Order.{ordered}
 use Rattle.row_store.specs.Rows.{is_listed, is_of_types, is_row, row_of}
 use Rattle.ql_plan.specs.Found.{found, rows_of}
-use Rattle.seen_laws.proofs.Worlds.{AreAlike, IsAlike, AreFound}
+use Rattle.cm_see.proofs.Worlds.{AreAlike, IsAlike, AreFound}
 use Rattle.rd_query.proofs.Alike.{read_alike, owner_alike, stands_alike, values_alike, folders_alike, all_above_alike, shifted, rows_same}
 
 module _ (r other : Repository) (u : List ℕ) (a : AreAlike r other u) where

@@ -1,7 +1,7 @@
 //! What the reply to a query shows: the columns of each row of the page.
 ghost use Rattle.std.specs.Prelude.{◌≡◌, bytes_eq, find, map, IfOk};
 ghost use Rattle.std.specs.Option.{option_copied};
-ghost use Rattle.map_keys.specs.Parts.{pointee};
+ghost use Rattle.cm_map.specs.Parts.{pointee};
 ghost use Rattle.cm_types.specs.Properties.{value_in};
 ghost use Rattle.rd_query.specs.ReadQuery.{cell_of, nothing_beside, query_reply, query_row, row_beside, shown_row, slot_of};
 

@@ -8,7 +8,7 @@ use Rattle.cm_base.specs.Judged.{◌>>◌, refuse}
 use Rattle.relationship_parts.specs.declared.readings.ReadRelationships.{ReadRelationships}
 use Rattle.include_parts.specs.declared.readings.ShowRelationships.{ShowRelationships}
 use Rattle.cmis_spec.specs.Repository.{Repository}
-use Rattle.seen_laws.proofs.Worlds.{AreAlike, AreFound, IsAlike}
+use Rattle.cm_see.proofs.Worlds.{AreAlike, AreFound, IsAlike}
 use Rattle.cm_relationships.specs.Found.{relationships_of}
 use Rattle.cm_include.proofs.Related.{relationships_alike}
 use Rattle.rd_include.proofs.Pages.{included_page_alike}

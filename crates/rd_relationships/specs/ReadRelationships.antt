@@ -9,7 +9,7 @@ use Rattle.relationship_parts.specs.declared.readings.ReadRelationships.{ReadRel
 use Rattle.include_parts.specs.declared.readings.ShowRelationships.{ShowRelationships}
 use Rattle.include_parts.specs.declared.replies.IncludedObject.{IncludedObject}
 use Rattle.include_parts.specs.declared.replies.IncludedPageReply.{IncludedPageReply}
-use Rattle.cm_show.specs.Addressed.{addressed}
+use Rattle.cm_see.specs.Addressed.{addressed}
 use Rattle.cm_include.specs.Included.{included_object}
 use Rattle.cmis_spec.specs.Repository.{Repository}
 use Rattle.cm_relationships.specs.Found.{relationships_of}

@@ -1,6 +1,6 @@
 //! The relationships of an object, a page of them (CMIS 1.1, section 2.2.8.1).
 ghost use Rattle.std.specs.Prelude.{◌≡◌, ◌++◌, filter, map, IfOk, OnOk};
-ghost use Rattle.map_keys.specs.Parts.{pointee};
+ghost use Rattle.cm_map.specs.Parts.{pointee};
 ghost use Rattle.cm_base.specs.Judged.{Meets};
 ghost use Rattle.rd_relationships.specs.ReadRelationships.{answer_relationships, answer_relationships_of, asked_of, is_of_type, is_unknown, object_if, page_reply};
 
@@ -10,7 +10,7 @@ use cm_base::object::Object;
 use cm_base::text::Text;
 use cm_include::included::View;
 use cm_relationships::found::relationships_of;
-use cm_show::address::addressed;
+use cm_see::address::addressed;
 use cm_state::state::State;
 use cm_type_list::types::Types;
 use include_parts::readings::ShowRelationships;

@@ -5,7 +5,7 @@ use Rattle.cm_base.specs.declared.cause.Cause.TheVariants as causes
 use Rattle.cm_base.specs.Judged.{Judged, ◌>>=◌, find_or}
 use Rattle.rendition_parts.specs.declared.readings.ReadRenditions.{ReadRenditions}
 use Rattle.rendition_parts.specs.declared.replies.RenditionsReply.{RenditionsReply}
-use Rattle.cm_show.specs.Addressed.{addressed}
+use Rattle.cm_see.specs.Addressed.{addressed}
 use Rattle.cmis_spec.specs.Repository.{Repository}
 use Rattle.cm_renditions.specs.Shown.{kept_renditions, shown_rendition}
 use Rattle.rd_nav.specs.ReadChildren.{page}

@@ -1,6 +1,6 @@
 //! The renditions of an object (CMIS 1.1, section 2.2.4.12).
 ghost use Rattle.std.specs.Prelude.{◌≡◌, IfOk, map};
-ghost use Rattle.map_keys.specs.Parts.{pointee};
+ghost use Rattle.cm_map.specs.Parts.{pointee};
 ghost use Rattle.cm_base.specs.Judged.{Meets};
 ghost use Rattle.cm_renditions.specs.Shown.{kept_renditions};
 ghost use Rattle.rd_renditions.specs.ReadRenditions.{answer_renditions, renditions_reply};
@@ -11,7 +11,7 @@ use cm_base::fail::Fail;
 use cm_base::object::Object;
 use cm_base::text::Text;
 use cm_renditions::shown::{each_shown, kept_renditions};
-use cm_show::address::addressed;
+use cm_see::address::addressed;
 use cm_state::state::State;
 use rd_nav::page::page;
 use rendition_parts::readings::ReadRenditions;

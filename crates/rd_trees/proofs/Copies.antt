@@ -19,11 +19,11 @@ use Rattle.cmis_spec.specs.Seen.{SeenObject, seen, seen_object, seen_series, is_
 use Rattle.cmis_spec.specs.Well.{HasNumbers}
 use Rattle.cmis_laws.proofs.Entries.{all_there}
 use Rattle.cmis_laws.proofs.Lists.{by_test, same_eq}
-use Rattle.cm_show.specs.Addressed.{addressed}
-use Rattle.seen_laws.proofs.Answers.{addressed_alike, answer_alike}
-use Rattle.seen_laws.proofs.Lists.{any_numbered, filter_seen}
-use Rattle.seen_laws.proofs.Objects.{IsHere, here_read}
-use Rattle.seen_laws.proofs.Worlds.{AreAlike, AreFound, IsAlike}
+use Rattle.cm_see.specs.Addressed.{addressed}
+use Rattle.cm_see.proofs.Answers.{addressed_alike, answer_alike}
+use Rattle.cm_see.proofs.SeenLists.{any_numbered, filter_seen}
+use Rattle.cm_see.proofs.Objects.{IsHere, here_read}
+use Rattle.cm_see.proofs.Worlds.{AreAlike, AreFound, IsAlike}
 use Rattle.rd_lists.proofs.Among.{numbered_alike, passing_here}
 use Rattle.rd_trees.specs.ReadCheckedOut.{answer_checked_out_at, answer_checked_out_in, answer_ordered_copies, copies, is_copy, is_filed_at, page_reply}
 use Rattle.rd_include.proofs.Pages.{included_page_alike}

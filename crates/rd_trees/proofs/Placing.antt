@@ -4,7 +4,7 @@ use Rattle.std.specs.List.{flat_map}
 use Rattle.std.proofs.lemmas.List.{map-append, append-nil, take_more}
 use Rattle.std.proofs.lemmas.List.Concat.{flat_map-append}
 use denote.Ref.{Bor}
-use Rattle.map_keys.specs.Parts.{pointee}
+use Rattle.cm_map.specs.Parts.{pointee}
 use Rattle.cm_base.specs.declared.object.Object.{Object}
 use Rattle.cmis_spec.specs.Repository.{Repository}
 use Rattle.rd_trees.specs.ReadTree.{Placed, placed, right_below}

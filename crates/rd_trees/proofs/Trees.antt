@@ -11,8 +11,8 @@ use Rattle.include_parts.specs.declared.readings.ShowTree.{ShowTree}
 use Rattle.cmis_spec.specs.Repository.{Repository, is_a}
 use Rattle.cmis_spec.specs.Access.{children_of}
 use Rattle.cm_include.proofs.Alike.{included_alike}
-use Rattle.seen_laws.proofs.Lists.{map_same}
-use Rattle.seen_laws.proofs.Worlds.{AreAlike, AreFound, IsAlike, children_alike}
+use Rattle.cm_see.proofs.SeenLists.{map_same}
+use Rattle.cm_see.proofs.Worlds.{AreAlike, AreFound, IsAlike, children_alike}
 use Rattle.rd_lists.specs.Listed.{is_too_long}
 use Rattle.rd_lists.proofs.Seen.{segment_alike}
 use Rattle.rd_trees.specs.ReadTree.{Placed, all_below, answer_tree_of, included_node, included_row, is_in_tree, placed, right_below, tree_levels, tree_reply}

@@ -9,7 +9,7 @@ use Rattle.call_parts.specs.declared.place.Place.{Place}
 use Rattle.include_parts.specs.declared.readings.ShowCheckedOut.{ShowCheckedOut}
 use Rattle.include_parts.specs.declared.replies.IncludedObject.{IncludedObject}
 use Rattle.include_parts.specs.declared.replies.IncludedPageReply.{IncludedPageReply}
-use Rattle.cm_show.specs.Addressed.{addressed}
+use Rattle.cm_see.specs.Addressed.{addressed}
 use Rattle.cm_include.specs.Included.{included_object}
 use Rattle.cmis_spec.specs.Repository.{Repository, is_a, is_filed, entry_of, owner_of}
 use Rattle.cmis_spec.specs.Access.{reads}

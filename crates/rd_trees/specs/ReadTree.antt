@@ -14,7 +14,7 @@ use Rattle.include_parts.specs.declared.readings.ShowTree.{ShowTree}
 use Rattle.include_parts.specs.declared.replies.IncludedMember.{IncludedMember}
 use Rattle.include_parts.specs.declared.replies.IncludedRow.{IncludedRow}
 use Rattle.include_parts.specs.declared.replies.IncludedTreeReply.{IncludedTreeReply}
-use Rattle.cm_show.specs.Addressed.{addressed}
+use Rattle.cm_see.specs.Addressed.{addressed}
 use Rattle.cm_include.specs.Included.{included_object}
 use Rattle.cmis_spec.specs.Repository.{Repository, is_a, levels_up}
 use Rattle.cmis_spec.specs.Access.{children_of}

@@ -1,7 +1,7 @@
 //! The working copies (CMIS 1.1, section 2.2.3.6).
 ghost use Rattle.std.specs.Prelude.{◌≡◌, ◌++◌, ◌&&◌, IfOk, OnOk, Some, map};
 ghost use Rattle.std.specs.Option.{option_copied};
-ghost use Rattle.map_keys.specs.Parts.{pointee};
+ghost use Rattle.cm_map.specs.Parts.{pointee};
 ghost use Rattle.cm_base.specs.Judged.{Meets};
 ghost use Rattle.cmis_spec.specs.Access.{reads};
 ghost use Rattle.rd_trees.specs.ReadCheckedOut.{answer_checked_out, answer_checked_out_at, answer_checked_out_in, answer_ordered_copies, copies, is_copy, is_filed_at, page_reply};
@@ -14,8 +14,8 @@ use cm_base::number::Oid;
 use cm_base::object::Object;
 use cm_base::text::Text;
 use cm_include::included::View;
+use cm_see::address::addressed;
 use cm_see::read::reads;
-use cm_show::address::addressed;
 use cm_state::look::entry_of;
 use cm_state::state::State;
 use cm_types::definition::BaseType;

@@ -1,6 +1,6 @@
 //! What stands below a folder, as a tree (CMIS 1.1, sections 2.2.3.2 and 2.2.3.3).
 ghost use Rattle.std.specs.Prelude.{◌≡◌, ◌+◌, ◌≤◌, ◌++◌, ◌∷◌, [], filter, map, IfOk, OnOk};
-ghost use Rattle.map_keys.specs.Parts.{pointee};
+ghost use Rattle.cm_map.specs.Parts.{pointee};
 ghost use Rattle.cm_base.specs.Judged.{Meets};
 ghost use Rattle.cmis_spec.specs.Repository.{levels_up};
 ghost use Rattle.rd_trees.specs.ReadTree.{all_below, answer_tree, answer_tree_of, included_node, included_row, is_in_tree, placed, right_below, tree_levels, tree_reply};
@@ -13,9 +13,9 @@ use cm_base::number::Oid;
 use cm_base::object::Object;
 use cm_base::text::Text;
 use cm_include::included::{View, included_object};
+use cm_see::address::addressed;
 use cm_see::child::children_of;
 use cm_see::tree::levels_up;
-use cm_show::address::addressed;
 use cm_state::state::State;
 use cm_types::definition::BaseType;
 use include_parts::readings::ShowTree;

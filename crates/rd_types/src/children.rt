@@ -1,6 +1,6 @@
 //! The types right below a type (CMIS 1.1, section 2.2.2.3).
 ghost use Rattle.std.specs.Prelude.{◌≡◌, IfOk, map};
-ghost use Rattle.map_keys.specs.Parts.{pointee};
+ghost use Rattle.cm_map.specs.Parts.{pointee};
 ghost use Rattle.cm_base.specs.Judged.{Meets};
 ghost use Rattle.type_tree.specs.Trees.{types_below};
 ghost use Rattle.rd_types.specs.ReadTypes.{answer_type_children, types_reply};

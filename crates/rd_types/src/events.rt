@@ -10,7 +10,7 @@ ghost use Rattle.rd_types.specs.Latest.{KeepsMarks, first_of, told_mark};
 use cm_base::log::{Change, ChangeKind, Marks};
 use cm_base::number::Oid;
 use cm_base::text::Text;
-use cm_lists::sequence::Sequence;
+use cm_map::sequence::Sequence;
 use cm_see::read::reads;
 use cm_state::state::State;
 use std::alloc::{AllocError, Global};

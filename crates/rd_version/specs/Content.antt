@@ -11,7 +11,7 @@ use Rattle.cm_types.specs.declared.definition.BaseType.TheVariants as bases
 use Rattle.call_parts.specs.declared.place.Place.{Place}
 use Rattle.call_parts.specs.declared.readings.ReadContent.{ReadContent}
 use Rattle.call_parts.specs.declared.replies.ContentReply.{ContentReply}
-use Rattle.cm_show.specs.Addressed.{addressed}
+use Rattle.cm_see.specs.Addressed.{addressed}
 use Rattle.cm_state.specs.Looks.{content_at}
 use Rattle.cmis_spec.specs.Repository.{Repository, same, is_a}
 use Rattle.cmis_spec.specs.Access.{oid_named}

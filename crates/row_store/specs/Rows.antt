@@ -5,9 +5,10 @@ use Rattle.cm_base.specs.declared.number.Oid.{Oid}
 use Rattle.cm_base.specs.declared.object.Object.{Object}
 use Rattle.cm_base.specs.declared.value.Slot.{Slot}
 use Rattle.cm_types.specs.Types.{props_of}
+use Rattle.cm_types.specs.declared.property.PropDef.{PropDef}
 use Rattle.cmis_spec.specs.Repository.{Repository, object_at, owner_of, entry_of, is_filed, folders_up}
 use Rattle.cmis_spec.specs.Access.{reads, stands, parents_of}
-use Rattle.cm_show.specs.Shown.{shown_slot}
+use Rattle.cm_see.specs.Shown.{shown_slot}
 use Rattle.ql_bind.specs.declared.bound.Bound.{Bound}
 use Rattle.ql_eval.specs.declared.row.Row.{Row}
 use Rattle.ql_eval.specs.Conditions.{keeps}
@@ -27,18 +28,25 @@ is_row r u versions x = reads r u x && is_listed r versions x
 
 -- ---- what is tested of them
 
--- the queryable properties as the caller sees them
-abbrev pub row_values : Repository → List ℕ → Object → List Slot
-row_values r u x = map (shown_slot r u x) (filter (λ d. d.queryable) (props_of r.types x.kind x.secondary))
+-- of these properties, the queryable ones as the caller sees them
+abbrev pub queryable_values : Repository → List ℕ → Object → List PropDef → List Slot
+queryable_values r u x ds = map (shown_slot r u x) (filter (λ d. d.queryable) ds)
 
--- the folders that the caller reads in which the object is filed; whoever reads a folder reads those above it
-abbrev pub row_of : Repository → List ℕ → Object → Row
-row_of r u x = record {
+abbrev pub row_values : Repository → List ℕ → Object → List Slot
+row_values r u x = queryable_values r u x (props_of r.types x.kind x.secondary)
+
+-- the row of the object with these values; the folders are those that the caller reads in which it is filed, and whoever reads a folder reads
+-- those above it
+abbrev pub row_with : Repository → List ℕ → Object → List Slot → Row
+row_with r u x values = record {
   id = x.id;
-  values = row_values r u x;
+  values = values;
   folders = map (λ f. f.id) (parents_of r u (entry_of x));
   above = flat_map (λ f. folders_up r f.id) (parents_of r u (entry_of x));
 }
+
+abbrev pub row_of : Repository → List ℕ → Object → Row
+row_of r u x = row_with r u x (row_values r u x)
 
 -- ---- look-ups
 

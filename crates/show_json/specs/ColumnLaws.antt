@@ -9,10 +9,10 @@ use Rattle.cm_base.specs.declared.object.Object.{Object}
 use Rattle.call_parts.specs.declared.readings.PropertyFilter.{PropertyFilter}
 use Rattle.cmis_spec.specs.Repository.{Repository}
 use Rattle.cm_types.specs.declared.property.PropDef.{PropDef}
-use Rattle.cm_show.specs.Shown.{shown_defs, shown_object, shown_property, shown_slot}
+use Rattle.cm_see.specs.Shown.{shown_defs, shown_object, shown_property, shown_slot}
 use Rattle.object_json.specs.Objects.{property_field, shown_data, value_field}
 use Rattle.object_json.specs.Pages.{child_data}
-use Rattle.cm_show.specs.Shown.{system_value}
+use Rattle.cm_see.specs.Shown.{system_value}
 use Rattle.cm_types.specs.Properties.{value_in}
 use Rattle.show_json.specs.Columns.{columns_of, full_field, object_by, child_by, properties_by, setting_of, Sight, sight, slot_field, value_shown}
 use Rattle.show_json.specs.OrderedLaws.{object_in_order}

@@ -9,9 +9,9 @@ use Rattle.cm_types.specs.declared.property.PropDef.{PropDef}
 use Rattle.call_parts.specs.declared.readings.PropertyFilter.{PropertyFilter}
 use Rattle.call_parts.specs.declared.replies.ShownProperty.{ShownProperty}
 use Rattle.cmis_spec.specs.Repository.{Repository}
-use Rattle.cm_show.specs.declared.system.SystemProperty.{SystemProperty}
-use Rattle.cm_show.specs.System.{system_named}
-use Rattle.cm_show.specs.Shown.{property_value, shown_defs, shown_object}
+use Rattle.cm_see.specs.declared.system.SystemProperty.{SystemProperty}
+use Rattle.cm_see.specs.System.{system_named}
+use Rattle.cm_see.specs.Shown.{property_value, shown_defs, shown_object}
 use Rattle.object_json.specs.Objects.{property_data, shown_data}
 use Rattle.object_json.specs.Pages.{child_data, children_data}
 use Rattle.type_keys.specs.Words.{kind_word, cardinality_word}

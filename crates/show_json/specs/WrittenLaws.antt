@@ -12,9 +12,9 @@ use Rattle.cm_base.specs.declared.object.Object.{Object}
 use Rattle.cm_base.specs.declared.value.Value.{Value}
 use Rattle.call_parts.specs.declared.readings.ReadChildren.{ReadChildren}
 use Rattle.call_parts.specs.declared.replies.ShownObject.{ShownObject}
-use Rattle.map_keys.specs.Parts.{pointee}
+use Rattle.cm_map.specs.Parts.{pointee}
 use Rattle.type_keys.specs.Words.{kind_word, cardinality_word}
-use Rattle.cm_show.specs.Shown.{shown_object}
+use Rattle.cm_see.specs.Shown.{shown_object}
 use Rattle.rd_nav.specs.ReadChildren.{has_more, page, page_size}
 use Rattle.call_parts.specs.declared.replies.ChildrenReply.{ChildrenReply}
 use Rattle.cm_types.specs.declared.property.PropDef.{PropDef}

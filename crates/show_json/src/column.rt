@@ -3,14 +3,14 @@ ghost use Rattle.std.specs.Prelude.{◌≡◌, [], ◌∷◌, ◌++◌, map, IfO
 ghost use Rattle.core.specs.Ordering.{nat_cmp};
 ghost use Rattle.core.specs.Cmp.Lexicographic.{slice_cmp};
 ghost use Rattle.cm_types.specs.declared.property.PropDef.{PropDef};
-ghost use Rattle.map_keys.specs.Parts.{pointee};
+ghost use Rattle.cm_map.specs.Parts.{pointee};
 ghost use Rattle.show_json.specs.Ordered.{in_key_order, placed};
 ghost use Rattle.show_json.specs.Columns.{columns_of, id_of, setting_of};
 
 use call_parts::readings::PropertyFilter;
 use cm_base::object::Object;
-use cm_show::shown::shown_defs;
-use cm_show::system::{SystemProperty, find_system};
+use cm_see::shown::shown_defs;
+use cm_see::system::{SystemProperty, find_system};
 use cm_state::state::State;
 use cm_types::property::PropDef;
 use std::alloc::{AllocError, Global};

@@ -2,7 +2,7 @@
 ghost use Rattle.std.specs.Prelude.{◌≡◌, IfOk};
 ghost use Rattle.serde_json.specs.Written.{compact_text};
 ghost use Rattle.cm_base.specs.Judged.{Meets};
-ghost use Rattle.cm_show.specs.Shown.{shown_object};
+ghost use Rattle.cm_see.specs.Shown.{shown_object};
 ghost use Rattle.object_json.specs.Objects.{shown_data};
 ghost use Rattle.rd_nav.specs.ReadObject.{answer_addressed};
 ghost use Rattle.show_json.specs.Columns.{object_answer_text};
@@ -17,7 +17,7 @@ use cm_base::cause::Cause;
 use cm_base::fail::Fail;
 use cm_base::object::Object;
 use cm_base::text::Text;
-use cm_show::address::addressed;
+use cm_see::address::addressed;
 use cm_state::state::State;
 use json_text::write::Writer;
 use std::alloc::{AllocError, Global};

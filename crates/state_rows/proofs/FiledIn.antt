@@ -9,7 +9,7 @@ use Rattle.cm_base.specs.declared.object.Object.{Object}
 use Rattle.cm_base.specs.declared.series.Series.{Series}
 use Rattle.cm_base.specs.declared.series.WorkingCopy.{WorkingCopy}
 use Rattle.cm_base.specs.declared.filing.Filed.{Filed}
-use Rattle.cm_lists.specs.Keyed.{Rises}
+use Rattle.cm_map.specs.Keyed.{Rises}
 use Rattle.cmis_spec.specs.Repository.{Repository, same, object_at, series_at, owner_of, entry_of}
 use Rattle.cmis_spec.specs.Well.{Apart, Belongs, members, copy_in, HasSome, IsMember, IsWellFormed}
 use Rattle.cmis_laws.proofs.Lists.{by_test, some_eq, none_some, found_holds, same_eq, same_refl, differ}

@@ -7,8 +7,8 @@ use Rattle.cm_base.specs.declared.object.Object.{Object}
 use Rattle.cm_base.specs.declared.filing.Filed.{Filed}
 use Rattle.cm_types.specs.declared.property.PropDef.{PropDef}
 use Rattle.call_parts.specs.declared.readings.PropertyFilter.TheVariants as filters
-use Rattle.cm_show.specs.Shown.{passes}
-use Rattle.cm_lists.specs.Keyed.{Rises}
+use Rattle.cm_see.specs.Shown.{passes}
+use Rattle.cm_map.specs.Keyed.{Rises}
 use Rattle.cmis_spec.specs.Repository.{Repository, same, object_at, is_filed}
 use Rattle.cmis_spec.specs.Access.{reads, parents_of}
 use Rattle.cmis_spec.specs.Seen.{is_read}

@@ -8,12 +8,12 @@ use Rattle.cm_types.specs.Properties.{value_in}
 use Rattle.cmis_spec.specs.Repository.{Repository}
 use Rattle.cmis_laws.proofs.Lists.{by_test}
 use Rattle.cmis_laws.proofs.Kept.{bytes_true}
-use Rattle.cm_show.specs.Shown.{shown_slot}
+use Rattle.cm_see.specs.Shown.{shown_slot}
 use Rattle.ql_eval.specs.declared.row.Row.{Row}
 use Rattle.ql_eval.specs.Conditions.{keeps, tests}
 use Rattle.ql_eval.proofs.Mentioned.{same_keeps}
-use Rattle.row_store.specs.Rows.{Search, if_kept, is_row, row_of}
-use Rattle.state_rows.specs.Tested.{queryable_values, tested_values, row_with}
+use Rattle.row_store.specs.Rows.{Search, if_kept, is_row, queryable_values, row_of, row_with}
+use Rattle.state_rows.specs.Tested.{tested_values}
 
 -- a property that is named has the same value among those that are named
 same_value : (r : Repository) (u : List ℕ) (x : Object) (named : List ℕ → Bool) (id : List ℕ) → named id ≡ true → (ds : List PropDef)

@@ -3,7 +3,7 @@ ghost use Rattle.std.specs.Prelude.{◌≡◌, ℕ, ◌==◌, ◌||◌, true, is
 ghost use Rattle.std.specs.List.{list_any};
 ghost use Rattle.core.specs.Ordering.{nat_cmp};
 ghost use Rattle.core.specs.FinMap.Entries.{find};
-ghost use Rattle.cm_lists.specs.Keyed.{Rises};
+ghost use Rattle.cm_map.specs.Keyed.{Rises};
 ghost use Rattle.cmis_spec.specs.Repository.{same};
 ghost use Rattle.cm_base.specs.declared.number.Oid.{Oid};
 

@@ -1,8 +1,7 @@
 //! The row of an object.
 ghost use Rattle.std.specs.Prelude.{◌≡◌, Some, None, map, option_and_then, if◌then◌else◌, IfOk};
-ghost use Rattle.map_keys.specs.Parts.{pointee};
-ghost use Rattle.row_store.specs.Rows.{if_kept, is_listed, is_row, row_of};
-ghost use Rattle.state_rows.specs.Tested.{queryable_values, row_with};
+ghost use Rattle.cm_map.specs.Parts.{pointee};
+ghost use Rattle.row_store.specs.Rows.{if_kept, is_listed, is_row, queryable_values, row_of, row_with};
 
 use crate::folders::{all_above, parents_of};
 use crate::values::{queryable_values, tested_values};
@@ -11,7 +10,7 @@ use cm_base::object::Object;
 use cm_base::text::Text;
 use cm_base::value::Values;
 use cm_see::read::reads;
-use cm_show::shown::shown_defs;
+use cm_see::shown::shown_defs;
 use cm_state::look::entry_of;
 use cm_state::state::State;
 use cm_types::property::PropDef;

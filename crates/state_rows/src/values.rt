@@ -1,17 +1,18 @@
 //! The values that a row has.
 ghost use Rattle.std.specs.Prelude.{◌≡◌, ◌++◌, [], ◌∷◌, map, IfOk, OnOk};
-ghost use Rattle.map_keys.specs.Parts.{pointee};
-ghost use Rattle.cm_show.specs.Seen.{value_seen};
-ghost use Rattle.cm_show.specs.Shown.{property_value, shown_slot};
-ghost use Rattle.state_rows.specs.Tested.{queryable_values, tested_values};
+ghost use Rattle.cm_map.specs.Parts.{pointee};
+ghost use Rattle.cm_see.specs.Seen.{value_seen};
+ghost use Rattle.cm_see.specs.Shown.{property_value, shown_slot};
+ghost use Rattle.row_store.specs.Rows.{queryable_values};
+ghost use Rattle.state_rows.specs.Tested.{tested_values};
 
 use cm_base::copies::Copies;
 use cm_base::items::Items;
 use cm_base::object::Object;
 use cm_base::text::Text;
 use cm_base::value::{Scalar, Slot, Value, Values};
-use cm_show::seen::{PropertyValue, kept_seen, system_seen};
-use cm_show::system::find_system;
+use cm_see::seen::{PropertyValue, kept_seen, system_seen};
+use cm_see::system::find_system;
 use cm_state::state::State;
 use cm_types::property::PropDef;
 use ql_eval::eval::tests;

@@ -10,7 +10,7 @@ use Rattle.core.specs.FinMap.Entries as entries
 use Rattle.std.proofs.lemmas.Map.Text.{is_eq-slice_cmp}
 use Rattle.std.proofs.lemmas.Map.Lookups.{exact_bytes}
 use Rattle.std.proofs.lemmas.Cmp.{nat_list_eq_equiv}
-use Rattle.map_keys.specs.Parts.{without_key}
+use Rattle.cm_map.specs.Parts.{without_key}
 use Rattle.cm_types.specs.Changes.{is_before, placed}
 use Rattle.type_requests.specs.Keys.{IsKeyed, values_of}
 

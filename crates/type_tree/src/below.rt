@@ -1,6 +1,6 @@
 //! The types right below a type.
 ghost use Rattle.std.specs.Prelude.{◌≡◌, IfOk, OnOk, ◌++◌, ◌∷◌, [], filter, map};
-ghost use Rattle.map_keys.specs.Parts.{pointee};
+ghost use Rattle.cm_map.specs.Parts.{pointee};
 ghost use Rattle.type_tree.specs.Trees.{names_none, stands_below, types_below};
 
 use cm_base::copies::Copies;

@@ -2,7 +2,7 @@
 ghost use Rattle.std.specs.Prelude.{◌≡◌, ℕ, List, ◌++◌, ◌∷◌, [], filter, map, bytes_eq, string_bytes, if◌then◌else◌, IfOk, OnOk};
 ghost use Rattle.std.specs.Option.{option_copied, option_map_or};
 ghost use Rattle.std.specs.BTreeMap.{get_by_text};
-ghost use Rattle.map_keys.specs.Parts.{pointee};
+ghost use Rattle.cm_map.specs.Parts.{pointee};
 ghost use Rattle.cm_types.specs.Types.{is_child_type, subtypes};
 ghost use Rattle.type_tree.specs.Groups.{HasGroups, group_in};
 
@@ -65,7 +65,7 @@ pub(crate) struct Forest<'a> {
 impl<'a> Model for Forest<'a> {
     ghost use Rattle.std.specs.Prelude.{List, map};
     ghost use Rattle.std.specs.BTreeMap.{get_by_text};
-    ghost use Rattle.map_keys.specs.Parts.{pointee};
+    ghost use Rattle.cm_map.specs.Parts.{pointee};
     ghost use Rattle.cm_types.specs.declared.definition.TypeDef.{TypeDef};
     ghost use Rattle.type_tree.specs.Groups.{HasGroups};
 

@@ -1,6 +1,6 @@
 //! The tree of the types below a type.
 ghost use Rattle.std.specs.Prelude.{◌≡◌, ◌+◌, ◌≤◌, ◌++◌, ◌∷◌, [], map, IfOk, OnOk};
-ghost use Rattle.map_keys.specs.Parts.{pointee};
+ghost use Rattle.cm_map.specs.Parts.{pointee};
 ghost use Rattle.cm_types.specs.Types.{longest_chain};
 ghost use Rattle.type_tree.specs.Trees.{levels_below, levels_of, rows_of, tree_below};
 

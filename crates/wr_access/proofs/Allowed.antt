@@ -7,7 +7,7 @@ use Rattle.cm_base.specs.declared.number.Oid.{Oid}
 use Rattle.cm_base.specs.declared.object.Object.{Object}
 use Rattle.cm_base.specs.declared.access.AccessList.{AccessList}
 use Rattle.access_parts.specs.declared.writes.ApplyAcl.{ApplyAcl}
-use Rattle.cm_show.specs.Addressed.{addressed}
+use Rattle.cm_see.specs.Addressed.{addressed}
 use Rattle.cmis_spec.specs.Repository.{Repository, same, entry_of}
 use Rattle.cmis_spec.specs.Access.{aces_at, rank}
 use Rattle.cmis_spec.specs.Well.{IsAccess, IsAceList, is_listed, IsWellFormed}

@@ -9,7 +9,7 @@ use Rattle.cm_base.specs.declared.access.AccessList.{AccessList}
 use Rattle.cm_base.specs.declared.log.ChangeKind.TheVariants as changes
 use Rattle.access_parts.specs.declared.writes.ApplyAcl.{ApplyAcl}
 use Rattle.cm_acl.specs.Acl.{changed_aces}
-use Rattle.cm_show.specs.Addressed.{addressed}
+use Rattle.cm_see.specs.Addressed.{addressed}
 use Rattle.cmis_spec.specs.Repository.{Repository, entry_of}
 use Rattle.cmis_spec.specs.Access.{aces_at}
 use Rattle.cmis_spec.specs.Changes.{stepped, with_aces}

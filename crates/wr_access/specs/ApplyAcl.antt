@@ -13,7 +13,7 @@ use Rattle.access_parts.specs.declared.writes.Propagation.{Propagation}
 use Rattle.access_parts.specs.declared.writes.Propagation.TheVariants as propagations
 use Rattle.access_parts.specs.Weight.{weight_of_apply_acl}
 use Rattle.cm_acl.specs.Acl.{changed_aces}
-use Rattle.cm_show.specs.Addressed.{addressed}
+use Rattle.cm_see.specs.Addressed.{addressed}
 use Rattle.cmis_spec.specs.Repository.{Repository, entry_of, type_of}
 use Rattle.cmis_spec.specs.Access.{is_at_least, aces_at, level_by_list}
 use Rattle.cmis_spec.specs.Changes.{stepped, noted, with_aces}

@@ -2,7 +2,7 @@
 ghost use Rattle.std.specs.Prelude.{◌≡◌, ◌+◌, ◌<◌, ◌^◌, Ok, Some, IfOk, find, is_some, true};
 ghost use Rattle.cm_base.specs.Judged.{Writes};
 ghost use Rattle.cm_acl.specs.Acl.{changed_aces};
-ghost use Rattle.cm_show.specs.Addressed.{addressed};
+ghost use Rattle.cm_see.specs.Addressed.{addressed};
 ghost use Rattle.cmis_spec.specs.Access.{aces_at};
 ghost use Rattle.cmis_spec.specs.Repository.{entry_of, same};
 ghost use Rattle.cmis_spec.specs.Well.{Apart, ComesBefore, IsWellFormed};
@@ -25,8 +25,8 @@ use cm_base::number::{Moment, Oid};
 use cm_base::object::Object;
 use cm_base::text::Text;
 use cm_draft::draft::Draft;
+use cm_see::address::addressed;
 use cm_see::level::level_by_list;
-use cm_show::address::addressed;
 use cm_state::look::entry_of;
 use cm_state::state::State;
 use rd_access::acl::acl_reply;

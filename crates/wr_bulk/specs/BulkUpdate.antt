@@ -9,7 +9,7 @@ use Rattle.bulk_parts.specs.declared.writes.BulkUpdate.{BulkUpdate}
 use Rattle.bulk_parts.specs.declared.writes.ObjectIdAndChangeToken.{ObjectIdAndChangeToken}
 use Rattle.bulk_parts.specs.declared.replies.UpdatedObject.{UpdatedObject}
 use Rattle.bulk_parts.specs.Weight.{weight_of_bulk_update}
-use Rattle.cm_show.specs.Addressed.{addressed}
+use Rattle.cm_see.specs.Addressed.{addressed}
 use Rattle.cmis_spec.specs.Repository.{Repository}
 use Rattle.cmis_spec.specs.Changes.{stepped}
 use Rattle.wr_rules.specs.Rules.{judge_storage}

@@ -1,6 +1,6 @@
 //! One object of the call: the update that is asked of it, and the state with the object changed.
 ghost use Rattle.std.specs.Prelude.{◌≡◌, IfOk, IfSome};
-ghost use Rattle.cm_show.specs.Addressed.{addressed};
+ghost use Rattle.cm_see.specs.Addressed.{addressed};
 ghost use Rattle.wr_change.specs.Update.{refusal_one, values_updated};
 ghost use Rattle.wr_change.specs.UpdateParts.{MayChange};
 ghost use Rattle.wr_bulk.specs.BulkUpdate.{update_of, changed};

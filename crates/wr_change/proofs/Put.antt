@@ -9,7 +9,7 @@ use Rattle.cm_base.specs.declared.series.Series.{Series}
 use Rattle.cm_base.specs.declared.value.Slot.{Slot}
 use Rattle.cm_base.specs.declared.log.ChangeKind.TheVariants as changes
 use Rattle.call_parts.specs.declared.changes.UpdateProperties.{UpdateProperties}
-use Rattle.cm_show.specs.Addressed.{addressed}
+use Rattle.cm_see.specs.Addressed.{addressed}
 use Rattle.cmis_spec.specs.Repository.{Repository, same, root_folder, object_at, series_at, series_of}
 use Rattle.cmis_spec.specs.Changes.{stepped, noted, edited, series_edited}
 use Rattle.cmis_spec.specs.Documents.{is_working_copy}

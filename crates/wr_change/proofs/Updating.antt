@@ -19,7 +19,7 @@ use Rattle.cm_types.specs.declared.given.PropertyCall.TheVariants as calls
 use Rattle.cm_types.specs.Types.{is_below, props_of}
 use Rattle.cm_types.specs.Properties.{given_of, judge_properties}
 use Rattle.call_parts.specs.declared.changes.UpdateProperties.{UpdateProperties}
-use Rattle.cm_show.specs.Addressed.{addressed}
+use Rattle.cm_see.specs.Addressed.{addressed}
 use Rattle.cmis_spec.specs.Repository.{Repository, same, root, object_at, series_at, is_a, entry_of, is_taken}
 use Rattle.cmis_spec.specs.Access.{lacks}
 use Rattle.cmis_spec.specs.Changes.{stepped, noted, edited, series_edited}

@@ -19,8 +19,8 @@ use Rattle.call_parts.specs.declared.readings.PropertyFilter.TheVariants as filt
 use Rattle.call_parts.specs.declared.changes.UpdateProperties.{UpdateProperties}
 use Rattle.call_parts.specs.declared.replies.ObjectReply.{ObjectReply}
 use Rattle.call_parts.specs.Changes.{weight_of_update}
-use Rattle.cm_show.specs.Addressed.{addressed}
-use Rattle.cm_show.specs.Shown.{shown_object}
+use Rattle.cm_see.specs.Addressed.{addressed}
+use Rattle.cm_see.specs.Shown.{shown_object}
 use Rattle.cmis_spec.specs.Repository.{Repository, same, root, root_folder, entry_of}
 use Rattle.cmis_spec.specs.Access.{lacks}
 use Rattle.cmis_spec.specs.Values.{kept_beside}

@@ -8,7 +8,7 @@ use Rattle.cm_base.specs.declared.object.Object.{Object}
 use Rattle.cm_base.specs.declared.content.Content.{Content}
 use Rattle.cm_base.specs.declared.cause.Cause.TheVariants as causes
 use Rattle.call_parts.specs.declared.changes.AppendContent.{AppendContent}
-use Rattle.cm_show.specs.Addressed.{addressed}
+use Rattle.cm_see.specs.Addressed.{addressed}
 use Rattle.cm_state.specs.Looks.{content_at}
 use Rattle.cmis_spec.specs.Repository.{Repository, same, longest_stream, name_of, object_at}
 use Rattle.cmis_spec.specs.Well.{HasNumbers, IsWellFormed}

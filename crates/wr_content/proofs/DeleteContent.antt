@@ -6,7 +6,7 @@ use Rattle.cm_base.specs.declared.object.Object.{Object}
 use Rattle.cm_base.specs.declared.cause.Cause.TheVariants as causes
 use Rattle.cm_base.specs.Judged.{refuse}
 use Rattle.call_parts.specs.declared.changes.DeleteContent.{DeleteContent}
-use Rattle.cm_show.specs.Addressed.{addressed}
+use Rattle.cm_see.specs.Addressed.{addressed}
 use Rattle.cm_state.specs.Looks.{content_at}
 use Rattle.cmis_spec.specs.Repository.{Repository, object_at}
 use Rattle.cmis_spec.specs.Changes.{stepped}

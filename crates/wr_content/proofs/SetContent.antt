@@ -7,7 +7,7 @@ use Rattle.cm_base.specs.declared.object.Object.{Object}
 use Rattle.cm_base.specs.declared.content.Content.{Content}
 use Rattle.cm_base.specs.declared.cause.Cause.TheVariants as causes
 use Rattle.call_parts.specs.declared.changes.SetContent.{SetContent}
-use Rattle.cm_show.specs.Addressed.{addressed}
+use Rattle.cm_see.specs.Addressed.{addressed}
 use Rattle.cm_state.specs.Looks.{content_at}
 use Rattle.cmis_spec.specs.Repository.{Repository, longest_stream, object_at}
 use Rattle.cmis_spec.specs.Well.{HasNumbers, IsWellFormed}

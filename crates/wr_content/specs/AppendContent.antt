@@ -9,7 +9,7 @@ use Rattle.call_parts.specs.declared.changes.AppendContent.{AppendContent}
 use Rattle.call_parts.specs.declared.replies.ObjectReply.{ObjectReply}
 use Rattle.call_parts.specs.declared.stream.GivenStream.{GivenStream}
 use Rattle.call_parts.specs.Changes.{weight_of_append}
-use Rattle.cm_show.specs.Addressed.{addressed}
+use Rattle.cm_see.specs.Addressed.{addressed}
 use Rattle.cmis_spec.specs.Repository.{Repository, longest_stream, name_of}
 use Rattle.cmis_spec.specs.Retention.{judge_kept}
 use Rattle.wr_rules.specs.Rules.{judge_storage}

@@ -8,7 +8,7 @@ use Rattle.cm_base.specs.Judged.{Judged, ◌>>=◌, ◌>>◌, refuse, find_or}
 use Rattle.call_parts.specs.declared.changes.SetContent.{SetContent}
 use Rattle.call_parts.specs.declared.replies.ObjectReply.{ObjectReply}
 use Rattle.call_parts.specs.Changes.{weight_of_set_content}
-use Rattle.cm_show.specs.Addressed.{addressed}
+use Rattle.cm_see.specs.Addressed.{addressed}
 use Rattle.cmis_spec.specs.Repository.{Repository, name_of}
 use Rattle.cmis_spec.specs.Retention.{judge_kept}
 use Rattle.wr_rules.specs.Rules.{judge_storage}

@@ -1,7 +1,7 @@
 //! appendContent (CMIS 1.1, section 2.2.4.19).
 ghost use Rattle.std.specs.Prelude.{◌≡◌, ◌+◌, ◌++◌, ◌<◌, ◌≤◌, ◌^◌, Ok, Some, IfOk, length};
 ghost use Rattle.cm_base.specs.Judged.{Writes};
-ghost use Rattle.cm_show.specs.Addressed.{addressed};
+ghost use Rattle.cm_see.specs.Addressed.{addressed};
 ghost use Rattle.cmis_spec.specs.Repository.{longest_stream};
 ghost use Rattle.cmis_spec.specs.Well.{IsWellFormed};
 ghost use Rattle.wr_content.specs.Document.{FindsOr};
@@ -20,7 +20,7 @@ use cm_base::fail::Fail;
 use cm_base::number::Moment;
 use cm_base::object::Object;
 use cm_base::text::Text;
-use cm_show::address::addressed;
+use cm_see::address::addressed;
 use cm_state::state::State;
 use std::alloc::{AllocError, Global};
 use wr_rules::content::{content_of_stream, longest_stream};

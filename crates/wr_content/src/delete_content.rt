@@ -1,7 +1,7 @@
 //! deleteContent (CMIS 1.1, section 2.2.4.20).
 ghost use Rattle.std.specs.Prelude.{◌≡◌, ◌+◌, ◌<◌, ◌^◌, Ok, Some, IfOk, is_some, true};
 ghost use Rattle.cm_base.specs.Judged.{Writes};
-ghost use Rattle.cm_show.specs.Addressed.{addressed};
+ghost use Rattle.cm_see.specs.Addressed.{addressed};
 ghost use Rattle.cm_state.specs.Looks.{content_at};
 ghost use Rattle.cmis_spec.specs.Changes.{stepped};
 ghost use Rattle.cmis_spec.specs.Well.{IsWellFormed};
@@ -18,7 +18,7 @@ use cm_base::number::Moment;
 use cm_base::object::Object;
 use cm_base::text::Text;
 use cm_draft::draft::Draft;
-use cm_show::address::addressed;
+use cm_see::address::addressed;
 use cm_state::state::State;
 use std::alloc::{AllocError, Global};
 use wr_rules::made::with_changed;

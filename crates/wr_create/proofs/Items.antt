@@ -10,7 +10,7 @@ use Rattle.cm_types.specs.declared.definition.BaseType.TheVariants as bases
 use Rattle.cm_types.specs.Types.{type_in}
 use Rattle.call_parts.specs.declared.place.Place.{Place}
 use Rattle.create_parts.specs.declared.writes.CreateItem.{CreateItem}
-use Rattle.cm_show.specs.Addressed.{addressed}
+use Rattle.cm_see.specs.Addressed.{addressed}
 use Rattle.cmis_spec.specs.Repository.{Repository, object_at, is_a}
 use Rattle.cmis_spec.specs.Well.{Apart, ComesBefore, HasNumbers, IsWellFormed}
 use Rattle.cmis_laws.proofs.Lists.{none_some}

@@ -12,7 +12,7 @@ use Rattle.cm_types.specs.Types.{same_base}
 use Rattle.cm_types.specs.Properties.{judge_properties}
 use Rattle.call_parts.specs.declared.place.Place.{Place}
 use Rattle.create_parts.specs.declared.writes.ObjectRequest.{ObjectRequest}
-use Rattle.cm_show.specs.Addressed.{addressed}
+use Rattle.cm_see.specs.Addressed.{addressed}
 use Rattle.cmis_spec.specs.Repository.{Repository}
 use Rattle.cmis_laws.proofs.Passed.{err_ok, then_ok, refuse_ok}
 use Rattle.wr_rules.specs.Rules.{has_other_secondary}

@@ -10,7 +10,7 @@ use Rattle.cm_types.specs.Types.{type_in}
 use Rattle.call_parts.specs.declared.replies.ObjectReply.{ObjectReply}
 use Rattle.create_parts.specs.declared.writes.CreateItem.{CreateItem}
 use Rattle.create_parts.specs.Weight.{weight_of_create_item}
-use Rattle.cm_show.specs.Addressed.{addressed}
+use Rattle.cm_see.specs.Addressed.{addressed}
 use Rattle.cmis_spec.specs.Repository.{Repository}
 use Rattle.wr_rules.specs.Rules.{judge_storage, unknown_type, bars_child, unread_cause, has_other_policy}
 use Rattle.wr_object.specs.declared.wanted.Wanted.{Wanted}

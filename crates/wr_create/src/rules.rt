@@ -14,7 +14,7 @@ use cm_base::fail::Fail;
 use cm_base::name::name_ok;
 use cm_base::text::Text;
 use cm_base::value::Values;
-use cm_show::address::addressed;
+use cm_see::address::addressed;
 use cm_state::state::State;
 use cm_type_list::types::Types;
 use cm_types::definition::{BaseType, TypeDef};

@@ -3,7 +3,7 @@ use Rattle.std.specs.Prelude.{◌≡◌, ℕ, List, [], Some, Ok, unwrap_or, opt
 use Rattle.std.proofs.Common.{sym, ap}
 use Rattle.cm_base.specs.declared.number.Moment.{Moment}
 use Rattle.cm_base.specs.declared.object.Object.{Object}
-use Rattle.cm_show.specs.Addressed.{addressed}
+use Rattle.cm_see.specs.Addressed.{addressed}
 use Rattle.cmis_spec.specs.Repository.{Repository}
 use Rattle.cmis_laws.proofs.Passed.{then_ok}
 use Rattle.cmis_laws.proofs.Steps.{HasRoom}

@@ -12,7 +12,7 @@ use Rattle.cm_base.specs.declared.log.ChangeKind.TheVariants as changes
 use Rattle.cm_base.specs.declared.cause.Cause.TheVariants as causes
 use Rattle.cm_base.specs.Judged.{Judged, ◌>>=◌, ◌>>◌, refuse, find_or}
 use Rattle.cm_types.specs.declared.definition.BaseType.TheVariants as bases
-use Rattle.cm_show.specs.Addressed.{addressed}
+use Rattle.cm_see.specs.Addressed.{addressed}
 use Rattle.cm_state.specs.Looks.{entries_in, folders_in, standing_at}
 use Rattle.cmis_spec.specs.Repository.{Repository, same, root, levels_up, object_at, series_at, last_of, is_a, parent_in}
 use Rattle.cmis_spec.specs.Access.{lacks, reads}

@@ -1,7 +1,7 @@
 //! deleteTree (CMIS 1.1, section 2.2.4.17).
 ghost use Rattle.std.specs.Prelude.{◌≡◌, ◌+◌, ◌<◌, ◌^◌, IfOk};
 ghost use Rattle.cm_base.specs.Judged.{Writes};
-ghost use Rattle.cm_show.specs.Addressed.{addressed};
+ghost use Rattle.cm_see.specs.Addressed.{addressed};
 ghost use Rattle.cmis_spec.specs.Changes.{stepped};
 ghost use Rattle.cmis_spec.specs.Well.{IsWellFormed};
 ghost use Rattle.wr_rules.specs.Found.{Finds};
@@ -18,8 +18,8 @@ use cm_base::object::Object;
 use cm_base::text::Text;
 use cm_draft::draft::Draft;
 use cm_removal::gone::Gone;
+use cm_see::address::addressed;
 use cm_see::level::lacks;
-use cm_show::address::addressed;
 use cm_state::open::ROOT;
 use cm_state::state::State;
 use cm_types::definition::BaseType;

@@ -6,7 +6,7 @@ use Rattle.cm_base.specs.declared.object.Object.{Object}
 use Rattle.cm_base.specs.declared.cause.Cause.TheVariants as causes
 use Rattle.cm_types.specs.declared.definition.BaseType.TheVariants as bases
 use Rattle.call_parts.specs.declared.changes.AddToFolder.{AddToFolder}
-use Rattle.cm_show.specs.Addressed.{addressed}
+use Rattle.cm_see.specs.Addressed.{addressed}
 use Rattle.cmis_spec.specs.Repository.{Repository, root, object_at, is_a, entry_of, is_filed}
 use Rattle.cmis_spec.specs.Access.{read_named, object_named}
 use Rattle.cmis_spec.specs.Changes.{with_pair}

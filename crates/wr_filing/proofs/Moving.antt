@@ -10,7 +10,7 @@ use Rattle.cm_base.specs.declared.object.Object.{Object}
 use Rattle.cm_base.specs.declared.cause.Cause.TheVariants as causes
 use Rattle.cm_types.specs.declared.definition.BaseType.TheVariants as bases
 use Rattle.call_parts.specs.declared.changes.MoveObject.{MoveObject}
-use Rattle.cm_show.specs.Addressed.{addressed}
+use Rattle.cm_see.specs.Addressed.{addressed}
 use Rattle.cmis_spec.specs.Repository.{Repository, same, root, object_at, is_a, entry_of, entry_name, is_filed, is_taken, is_under}
 use Rattle.cmis_spec.specs.Access.{read_named, object_named}
 use Rattle.cmis_spec.specs.Changes.{stepped, moved}

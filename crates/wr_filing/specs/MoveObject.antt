@@ -12,8 +12,8 @@ use Rattle.call_parts.specs.declared.readings.PropertyFilter.TheVariants as filt
 use Rattle.call_parts.specs.declared.changes.MoveObject.{MoveObject}
 use Rattle.call_parts.specs.declared.replies.ObjectReply.{ObjectReply}
 use Rattle.call_parts.specs.Changes.{weight_of_move}
-use Rattle.cm_show.specs.Addressed.{addressed}
-use Rattle.cm_show.specs.Shown.{shown_object}
+use Rattle.cm_see.specs.Addressed.{addressed}
+use Rattle.cm_see.specs.Shown.{shown_object}
 use Rattle.cmis_spec.specs.Repository.{Repository, same, root, root_folder, most_levels, is_a, entry_of, entry_name, is_filed, is_taken, is_under, depth_of}
 use Rattle.cmis_spec.specs.Access.{lacks, read_named}
 use Rattle.cmis_spec.specs.Changes.{stepped, moved}

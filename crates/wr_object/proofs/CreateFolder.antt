@@ -22,7 +22,7 @@ use Rattle.cm_types.specs.Properties.{judge_properties}
 use Rattle.call_parts.specs.declared.writes.AceRequest.{AceRequest}
 use Rattle.call_parts.specs.declared.writes.CreateFolder.{CreateFolder}
 use Rattle.cm_acl.specs.Acl.{level_named, ace_order, with_ace, without_aces, same_ace}
-use Rattle.cm_show.specs.Addressed.{addressed}
+use Rattle.cm_see.specs.Addressed.{addressed}
 use Rattle.cmis_spec.specs.Repository.{Repository, root, most_levels, most_steps, most_cost, object_at, is_a, depth_of, is_taken, new_number}
 use Rattle.cmis_spec.specs.Access.{rank, lacks, read_named, object_named}
 use Rattle.cmis_spec.specs.Well.{Apart, ComesBefore, IsTyped, IsBaseAt, IsWellFormed}

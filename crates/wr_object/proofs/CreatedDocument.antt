@@ -23,7 +23,7 @@ use Rattle.cm_types.specs.Properties.{judge_properties}
 use Rattle.call_parts.specs.declared.place.Place.{Place}
 use Rattle.call_parts.specs.declared.versions.CreateDocument.{CreateDocument}
 use Rattle.call_parts.specs.declared.stream.GivenStream.{GivenStream}
-use Rattle.cm_show.specs.Addressed.{addressed}
+use Rattle.cm_see.specs.Addressed.{addressed}
 use Rattle.cmis_spec.specs.Repository.{Repository, same, longest_stream, is_a, is_taken, new_number}
 use Rattle.cmis_spec.specs.Changes.{stepped, noted}
 use Rattle.cmis_spec.specs.Documents.{with_document, with_policies, with_contents}

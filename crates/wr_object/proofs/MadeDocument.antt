@@ -11,7 +11,7 @@ use Rattle.cm_base.specs.declared.series.VersioningState.{VersioningState}
 use Rattle.cm_base.specs.declared.series.VersioningState.TheVariants as states
 use Rattle.cm_base.specs.declared.log.ChangeKind.TheVariants as changes
 use Rattle.call_parts.specs.declared.versions.CreateDocument.{CreateDocument}
-use Rattle.cm_show.specs.Addressed.{addressed}
+use Rattle.cm_see.specs.Addressed.{addressed}
 use Rattle.cmis_spec.specs.Repository.{Repository, same, most_steps, most_cost, object_at, new_number}
 use Rattle.cmis_spec.specs.Changes.{stepped, noted}
 use Rattle.cmis_spec.specs.Documents.{with_document, with_policies, with_contents}

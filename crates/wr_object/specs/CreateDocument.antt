@@ -25,8 +25,8 @@ use Rattle.call_parts.specs.declared.versions.CreateDocument.{CreateDocument}
 use Rattle.call_parts.specs.declared.replies.ObjectReply.{ObjectReply}
 use Rattle.call_parts.specs.Weight.{bounded}
 use Rattle.call_parts.specs.Versions.{weight_of_create_document}
-use Rattle.cm_show.specs.Addressed.{addressed}
-use Rattle.cm_show.specs.Shown.{shown_object}
+use Rattle.cm_see.specs.Addressed.{addressed}
+use Rattle.cm_see.specs.Shown.{shown_object}
 use Rattle.cmis_spec.specs.Repository.{Repository, new_number, is_a, is_taken}
 use Rattle.cmis_spec.specs.Access.{lacks}
 use Rattle.cmis_spec.specs.Values.{kept_beside}

@@ -13,7 +13,7 @@ use Rattle.cm_types.specs.declared.given.PropertyCall.TheVariants as calls
 use Rattle.cm_types.specs.Types.{type_in, same_base, props_of}
 use Rattle.cm_types.specs.Properties.{judge_properties}
 use Rattle.call_parts.specs.declared.writes.CreateFolder.{CreateFolder}
-use Rattle.cm_show.specs.Addressed.{addressed}
+use Rattle.cm_see.specs.Addressed.{addressed}
 use Rattle.cmis_spec.specs.Repository.{Repository, root, most_levels, new_number, is_a, depth_of, is_taken}
 use Rattle.cmis_spec.specs.Access.{lacks}
 use Rattle.wr_rules.specs.Rules.{judge_storage, name_in, type_id_in, secondary_in, unknown_type, has_other_secondary, bars_child, unread_cause, has_other_policy, has_unknown_permission}

@@ -3,7 +3,7 @@ ghost use Rattle.std.specs.Prelude.{◌≡◌, ◌+◌, ◌<◌, ◌^◌, [], So
 ghost use Rattle.cm_base.specs.Judged.{Leaves, Writes};
 ghost use Rattle.cm_types.specs.declared.given.PropertyCall.TheVariants as calls;
 ghost use Rattle.cm_types.specs.Properties.{kept_values};
-ghost use Rattle.cm_show.specs.Addressed.{addressed};
+ghost use Rattle.cm_see.specs.Addressed.{addressed};
 ghost use Rattle.cmis_spec.specs.Repository.{new_number};
 ghost use Rattle.cmis_spec.specs.Values.{kept_beside};
 ghost use Rattle.cmis_spec.specs.Well.{IsWellFormed};
@@ -24,7 +24,7 @@ use cm_base::number::{Moment, Oid};
 use cm_base::object::Object;
 use cm_base::text::Text;
 use cm_base::value::Values;
-use cm_show::address::addressed;
+use cm_see::address::addressed;
 use cm_state::state::State;
 use cm_types::definition::TypeDef;
 use std::alloc::{AllocError, Global};

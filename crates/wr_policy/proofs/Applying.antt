@@ -9,7 +9,7 @@ use Rattle.cm_base.specs.declared.log.ChangeKind.TheVariants as changes
 use Rattle.cm_base.specs.declared.cause.Cause.TheVariants as causes
 use Rattle.cm_types.specs.declared.definition.BaseType.TheVariants as bases
 use Rattle.policy_parts.specs.declared.writes.ApplyPolicy.{ApplyPolicy}
-use Rattle.cm_show.specs.Addressed.{addressed}
+use Rattle.cm_see.specs.Addressed.{addressed}
 use Rattle.cmis_spec.specs.Repository.{Repository, same, root, object_at, is_a}
 use Rattle.cmis_spec.specs.Access.{lacks, read_named, object_named}
 use Rattle.cm_base.specs.declared.access.Level.TheVariants as levels

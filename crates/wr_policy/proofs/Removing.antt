@@ -8,7 +8,7 @@ use Rattle.cm_base.specs.declared.object.Object.{Object}
 use Rattle.cm_base.specs.declared.log.ChangeKind.TheVariants as changes
 use Rattle.cm_types.specs.declared.definition.BaseType.TheVariants as bases
 use Rattle.policy_parts.specs.declared.writes.RemovePolicy.{RemovePolicy}
-use Rattle.cm_show.specs.Addressed.{addressed}
+use Rattle.cm_see.specs.Addressed.{addressed}
 use Rattle.cmis_spec.specs.Repository.{Repository}
 use Rattle.cmis_spec.specs.Access.{read_named}
 use Rattle.cmis_spec.specs.Changes.{stepped, noted}

@@ -12,8 +12,8 @@ use Rattle.call_parts.specs.declared.readings.PropertyFilter.TheVariants as filt
 use Rattle.call_parts.specs.declared.replies.ObjectReply.{ObjectReply}
 use Rattle.policy_parts.specs.declared.writes.ApplyPolicy.{ApplyPolicy}
 use Rattle.policy_parts.specs.Weight.{weight_of_apply_policy}
-use Rattle.cm_show.specs.Addressed.{addressed}
-use Rattle.cm_show.specs.Shown.{shown_object}
+use Rattle.cm_see.specs.Addressed.{addressed}
+use Rattle.cm_see.specs.Shown.{shown_object}
 use Rattle.cmis_spec.specs.Repository.{Repository, root_folder, is_a, type_of}
 use Rattle.cmis_spec.specs.Access.{lacks, read_named}
 use Rattle.cmis_spec.specs.Changes.{stepped, noted}

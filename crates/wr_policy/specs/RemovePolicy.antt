@@ -10,7 +10,7 @@ use Rattle.cm_base.specs.Judged.{Judged, ◌>>=◌, ◌>>◌, refuse, find_or}
 use Rattle.cm_types.specs.declared.definition.BaseType.TheVariants as bases
 use Rattle.policy_parts.specs.declared.writes.RemovePolicy.{RemovePolicy}
 use Rattle.policy_parts.specs.Weight.{weight_of_remove_policy}
-use Rattle.cm_show.specs.Addressed.{addressed}
+use Rattle.cm_see.specs.Addressed.{addressed}
 use Rattle.cmis_spec.specs.Repository.{Repository, is_a}
 use Rattle.cmis_spec.specs.Access.{lacks, read_named}
 use Rattle.cmis_spec.specs.Changes.{stepped, noted}

@@ -10,7 +10,7 @@ use cm_base::items::Items;
 use cm_base::log::ChangeKind;
 use cm_base::number::{Moment, Oid};
 use cm_draft::draft::Draft;
-use cm_lists::sequence::Sequence;
+use cm_map::sequence::Sequence;
 use cm_state::lists::Lists;
 use cm_state::parts::Parts;
 use cm_state::state::State;

@@ -8,7 +8,7 @@ use Rattle.cm_base.specs.Judged.{Judged, ◌>>=◌, ◌>>◌, refuse, find_or}
 use Rattle.cm_types.specs.declared.definition.BaseType.TheVariants as bases
 use Rattle.call_parts.specs.declared.versions.CancelCheckOut.{CancelCheckOut}
 use Rattle.call_parts.specs.Versions.{weight_of_cancel}
-use Rattle.cm_show.specs.Addressed.{addressed}
+use Rattle.cm_see.specs.Addressed.{addressed}
 use Rattle.cmis_spec.specs.Repository.{Repository, is_a}
 use Rattle.cmis_spec.specs.Access.{lacks}
 use Rattle.cmis_spec.specs.Changes.{stepped}

@@ -10,7 +10,7 @@ use Rattle.cm_base.specs.Judged.{Judged, ◌>>=◌, ◌>>◌, refuse, find_or}
 use Rattle.cm_types.specs.declared.definition.BaseType.TheVariants as bases
 use Rattle.call_parts.specs.declared.versions.Delete.{Delete}
 use Rattle.call_parts.specs.Versions.{weight_of_delete}
-use Rattle.cm_show.specs.Addressed.{addressed}
+use Rattle.cm_see.specs.Addressed.{addressed}
 use Rattle.cmis_spec.specs.Repository.{Repository, same, root, object_at, is_a, series_of}
 use Rattle.cmis_spec.specs.Access.{lacks}
 use Rattle.cmis_spec.specs.Well.{members}

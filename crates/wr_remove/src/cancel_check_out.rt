@@ -2,7 +2,7 @@
 ghost use Rattle.std.specs.Prelude.{◌≡◌, IfOk};
 ghost use Rattle.cm_base.specs.Judged.{Leaves};
 ghost use Rattle.cmis_spec.specs.Well.{IsWellFormed};
-ghost use Rattle.cm_show.specs.Addressed.{addressed};
+ghost use Rattle.cm_see.specs.Addressed.{addressed};
 ghost use Rattle.wr_rules.specs.Found.{Finds};
 ghost use Rattle.wr_remove.specs.CancelCheckOut.{cost_cancel, refusal_cancel, after_cancel};
 
@@ -16,8 +16,8 @@ use cm_base::fail::Fail;
 use cm_base::number::Moment;
 use cm_base::object::Object;
 use cm_base::text::Text;
+use cm_see::address::addressed;
 use cm_see::level::lacks;
-use cm_show::address::addressed;
 use cm_state::state::State;
 use cm_types::definition::BaseType;
 use std::alloc::Global;

@@ -5,7 +5,7 @@ ghost use Rattle.cm_base.specs.Judged.{Leaves};
 ghost use Rattle.cmis_spec.specs.Repository.{object_at, series_of};
 ghost use Rattle.cmis_spec.specs.Retention.{judge_kept};
 ghost use Rattle.cmis_spec.specs.Well.{IsWellFormed, members};
-ghost use Rattle.cm_show.specs.Addressed.{addressed};
+ghost use Rattle.cm_see.specs.Addressed.{addressed};
 ghost use Rattle.wr_rules.specs.Found.{FindsWith};
 ghost use Rattle.wr_remove.specs.Delete.{cost_delete, is_checked_out_version, is_filled_at, is_filled, is_applied, judge_removal, refusal_delete, doomed, after_delete};
 
@@ -19,8 +19,8 @@ use cm_base::fail::Fail;
 use cm_base::number::{Moment, Oid, Oids};
 use cm_base::object::Object;
 use cm_base::text::Text;
+use cm_see::address::addressed;
 use cm_see::level::lacks;
-use cm_show::address::addressed;
 use cm_state::open::ROOT;
 use cm_state::state::State;
 use cm_types::definition::BaseType;

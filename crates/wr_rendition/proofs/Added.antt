@@ -6,7 +6,7 @@ use Rattle.cm_base.specs.declared.object.Object.{Object}
 use Rattle.cm_base.specs.declared.content.Rendition.{Rendition}
 use Rattle.cm_base.specs.declared.log.ChangeKind.TheVariants as changes
 use Rattle.rendition_parts.specs.declared.writes.AddRendition.{AddRendition}
-use Rattle.cm_show.specs.Addressed.{addressed}
+use Rattle.cm_see.specs.Addressed.{addressed}
 use Rattle.cmis_spec.specs.Repository.{Repository, object_at, most_steps}
 use Rattle.cmis_spec.specs.Changes.{stepped}
 use Rattle.cmis_spec.specs.Well.{HasNumbers, IsWellFormed}

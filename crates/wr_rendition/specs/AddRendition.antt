@@ -12,8 +12,8 @@ use Rattle.call_parts.specs.declared.readings.PropertyFilter.TheVariants as filt
 use Rattle.call_parts.specs.declared.replies.ObjectReply.{ObjectReply}
 use Rattle.rendition_parts.specs.declared.writes.AddRendition.{AddRendition}
 use Rattle.rendition_parts.specs.Weight.{weight_of_add_rendition}
-use Rattle.cm_show.specs.Addressed.{addressed}
-use Rattle.cm_show.specs.Shown.{shown_object}
+use Rattle.cm_see.specs.Addressed.{addressed}
+use Rattle.cm_see.specs.Shown.{shown_object}
 use Rattle.cmis_spec.specs.Repository.{Repository, new_number, root_folder, is_a}
 use Rattle.cmis_spec.specs.Access.{lacks}
 use Rattle.cmis_spec.specs.Changes.{stepped, noted}

@@ -1,7 +1,7 @@
 //! addRendition.
 ghost use Rattle.std.specs.Prelude.{◌≡◌, Ok, Some, IfOk};
 ghost use Rattle.cm_base.specs.Judged.{Writes};
-ghost use Rattle.cm_show.specs.Addressed.{addressed};
+ghost use Rattle.cm_see.specs.Addressed.{addressed};
 ghost use Rattle.cmis_spec.specs.Well.{IsWellFormed};
 ghost use Rattle.wr_rules.specs.Found.{Finds};
 ghost use Rattle.wr_rendition.specs.AddRendition.{cost_add_rendition, judge_addition, refusal_add_rendition, rendition_added, after_add_rendition, acknowledgement_add_rendition};
@@ -16,8 +16,8 @@ use cm_base::fail::Fail;
 use cm_base::number::{Moment, Oid};
 use cm_base::object::Object;
 use cm_base::text::Text;
+use cm_see::address::addressed;
 use cm_see::level::lacks;
-use cm_show::address::addressed;
 use cm_state::state::State;
 use cm_types::definition::BaseType;
 use rendition_parts::weight::weight_of_add_rendition;

@@ -5,7 +5,7 @@ use Rattle.cm_base.specs.declared.number.Oid.{Oid}
 use Rattle.cm_base.specs.declared.object.Object.{Object}
 use Rattle.call_parts.specs.declared.place.Place.{Place}
 use Rattle.call_parts.specs.declared.place.Place.TheVariants.{Id, Path}
-use Rattle.cm_show.specs.Addressed.{addressed}
+use Rattle.cm_see.specs.Addressed.{addressed}
 use Rattle.cmis_spec.specs.Repository.{Repository, same, root, object_at, entry_of, entry_name}
 use Rattle.cmis_spec.specs.Access.{reads, read_at, object_named, oid_named, walk, child_named, is_child}
 use Rattle.cmis_spec.specs.Well.{HasNumbers}

@@ -2,14 +2,14 @@
 ghost use Rattle.std.specs.Prelude.{◌≡◌, Some, IfOk, is_some, true, false};
 ghost use Rattle.cm_base.specs.declared.object.Object.{Object};
 ghost use Rattle.call_parts.specs.declared.readings.PropertyFilter.TheVariants as filters;
-ghost use Rattle.cm_show.specs.Shown.{shown_object};
+ghost use Rattle.cm_see.specs.Shown.{shown_object};
 ghost use Rattle.cmis_spec.specs.Repository.{object_at};
 
 use call_parts::readings::PropertyFilter;
 use call_parts::replies::ObjectReply;
 use cm_base::number::Oid;
 use cm_base::text::Text;
-use cm_show::shown::shown_object;
+use cm_see::shown::shown_object;
 use cm_state::state::State;
 use std::alloc::{AllocError, Global};
 

@@ -24,7 +24,7 @@ use Rattle.call_parts.specs.declared.place.Place.{Place}
 use Rattle.call_parts.specs.declared.stream.GivenStream.{GivenStream}
 use Rattle.call_parts.specs.declared.versions.CreateDocument.{CreateDocument}
 use Rattle.source_parts.specs.declared.writes.CreateDocumentFromSource.{CreateDocumentFromSource}
-use Rattle.cm_show.specs.Addressed.{addressed}
+use Rattle.cm_see.specs.Addressed.{addressed}
 use Rattle.cmis_spec.specs.Repository.{Repository, same, longest_stream, root_folder, object_at, is_a, is_taken, new_number}
 use Rattle.cmis_spec.specs.Access.{read_named, object_named}
 use Rattle.cmis_spec.specs.Changes.{stepped, noted}

@@ -18,8 +18,8 @@ use Rattle.call_parts.specs.declared.replies.ObjectReply.{ObjectReply}
 use Rattle.call_parts.specs.Weight.{bounded}
 use Rattle.source_parts.specs.declared.writes.CreateDocumentFromSource.{CreateDocumentFromSource}
 use Rattle.source_parts.specs.Weight.{weight_of_create_document_from_source}
-use Rattle.cm_show.specs.Addressed.{addressed}
-use Rattle.cm_show.specs.Shown.{shown_object}
+use Rattle.cm_see.specs.Addressed.{addressed}
+use Rattle.cm_see.specs.Shown.{shown_object}
 use Rattle.cmis_spec.specs.Repository.{Repository, root_folder, new_number, is_a}
 use Rattle.cmis_spec.specs.Access.{read_named}
 use Rattle.cmis_spec.specs.Values.{kept_beside}

@@ -4,7 +4,7 @@ ghost use Rattle.std.specs.Option.{option_copied};
 ghost use Rattle.cm_base.specs.Judged.{Fails, Leaves, Writes};
 ghost use Rattle.cm_types.specs.declared.given.PropertyCall.TheVariants as calls;
 ghost use Rattle.cm_types.specs.Properties.{judge_properties, kept_values};
-ghost use Rattle.cm_show.specs.Addressed.{addressed};
+ghost use Rattle.cm_see.specs.Addressed.{addressed};
 ghost use Rattle.cmis_spec.specs.Access.{read_named};
 ghost use Rattle.cmis_spec.specs.Well.{IsWellFormed};
 ghost use Rattle.wr_object.specs.DocumentParts.{number_of};

@@ -22,7 +22,7 @@ use Rattle.cm_types.specs.Types.{is_below, props_of}
 use Rattle.cm_types.specs.Properties.{def_of, given_of, judge_properties}
 use Rattle.call_parts.specs.declared.versions.CheckIn.{CheckIn}
 use Rattle.call_parts.specs.declared.stream.GivenStream.{GivenStream}
-use Rattle.cm_show.specs.Addressed.{addressed}
+use Rattle.cm_see.specs.Addressed.{addressed}
 use Rattle.cmis_spec.specs.Repository.{Repository, same, longest_stream, object_at, is_a, type_of, entry_of, last_of, is_taken}
 use Rattle.cmis_spec.specs.Access.{lacks}
 use Rattle.cmis_spec.specs.Changes.{stepped, noted}

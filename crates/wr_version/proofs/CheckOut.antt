@@ -16,7 +16,7 @@ use Rattle.cm_base.specs.declared.cause.Cause.TheVariants as causes
 use Rattle.cm_types.specs.declared.definition.BaseType.TheVariants as bases
 use Rattle.cm_types.specs.Types.{props_of}
 use Rattle.call_parts.specs.declared.versions.CheckOut.{CheckOut}
-use Rattle.cm_show.specs.Addressed.{addressed}
+use Rattle.cm_see.specs.Addressed.{addressed}
 use Rattle.cmis_spec.specs.Repository.{Repository, same, object_at, series_at, series_of, is_a, entry_of, last_of, is_latest, new_number, longest_stream}
 use Rattle.cmis_spec.specs.Access.{lacks}
 use Rattle.cmis_spec.specs.Changes.{stepped, noted}
@@ -33,7 +33,7 @@ use Rattle.cmis_laws.proofs.Passed.{refused_not, then_ok, refuse_ok, find_ok, no
 use Rattle.cmis_laws.proofs.Steps.{HasRoom, step_keeps, note_keeps}
 use Rattle.wr_rules.specs.Rules.{judge_storage}
 use Rattle.wr_rules.specs.Documents.{is_versionable, is_checked_out, content_copied}
-use Rattle.cm_show.specs.Shown.{is_latest_version}
+use Rattle.cm_see.specs.Shown.{is_latest_version}
 use Rattle.cm_state.specs.Looks.{content_at}
 use Rattle.wr_rules.proofs.Found.{addressed_there}
 use Rattle.wr_rules.proofs.Room.{room_of}

@@ -10,7 +10,7 @@ use Rattle.cm_base.specs.declared.series.Label.{Label}
 use Rattle.cm_base.specs.declared.value.Slot.{Slot}
 use Rattle.cm_base.specs.declared.log.ChangeKind.TheVariants as changes
 use Rattle.call_parts.specs.declared.versions.CheckIn.{CheckIn}
-use Rattle.cm_show.specs.Addressed.{addressed}
+use Rattle.cm_see.specs.Addressed.{addressed}
 use Rattle.cmis_spec.specs.Repository.{Repository, same, root_folder, most_steps, most_cost, object_at, series_at, series_of, entry_of}
 use Rattle.cmis_spec.specs.Values.{kept_beside}
 use Rattle.cmis_spec.specs.Changes.{stepped, noted, edited, edited_series}

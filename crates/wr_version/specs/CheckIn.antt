@@ -18,8 +18,8 @@ use Rattle.call_parts.specs.declared.readings.PropertyFilter.TheVariants as filt
 use Rattle.call_parts.specs.declared.versions.CheckIn.{CheckIn}
 use Rattle.call_parts.specs.declared.replies.ObjectReply.{ObjectReply}
 use Rattle.call_parts.specs.Versions.{weight_of_check_in}
-use Rattle.cm_show.specs.Addressed.{addressed}
-use Rattle.cm_show.specs.Shown.{shown_object}
+use Rattle.cm_see.specs.Addressed.{addressed}
+use Rattle.cm_see.specs.Shown.{shown_object}
 use Rattle.cmis_spec.specs.Repository.{Repository, root_folder, is_a, type_of, series_of, entry_of}
 use Rattle.cmis_spec.specs.Access.{lacks}
 use Rattle.cmis_spec.specs.Values.{kept_beside}

@@ -13,8 +13,8 @@ use Rattle.call_parts.specs.declared.versions.CheckOut.{CheckOut}
 use Rattle.call_parts.specs.declared.replies.ObjectReply.{ObjectReply}
 use Rattle.call_parts.specs.Weight.{bounded}
 use Rattle.call_parts.specs.Versions.{weight_of_check_out}
-use Rattle.cm_show.specs.Addressed.{addressed}
-use Rattle.cm_show.specs.Shown.{is_latest_version, shown_object}
+use Rattle.cm_see.specs.Addressed.{addressed}
+use Rattle.cm_see.specs.Shown.{is_latest_version, shown_object}
 use Rattle.cmis_spec.specs.Repository.{Repository, root_folder, new_number, is_a, entry_of, name_of}
 use Rattle.cmis_spec.specs.Access.{lacks}
 use Rattle.cmis_spec.specs.Changes.{stepped, noted}

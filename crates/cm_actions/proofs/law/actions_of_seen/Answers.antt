@@ -1,5 +1,5 @@
-use Rattle.seen_laws.proofs.Objects.{here_read}
-use Rattle.seen_laws.proofs.Worlds.{AreAlike, read_at_alike}
+use Rattle.cm_see.proofs.Objects.{here_read}
+use Rattle.cm_see.proofs.Worlds.{AreAlike, read_at_alike}
 use Rattle.cm_actions.proofs.Alike.{actions_alike}
 use Rattle.cm_actions.proofs.law.actions_of_seen.Goals as goal
 

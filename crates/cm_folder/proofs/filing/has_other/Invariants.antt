@@ -1,6 +1,6 @@
 use Rattle.std.proofs.Common.{◌≡◌, not, map}
 use Rattle.std.specs.List.{list_any}
-use Rattle.map_keys.specs.Parts.{pointee}
+use Rattle.cm_map.specs.Parts.{pointee}
 use Rattle.cmis_spec.specs.Repository.{same}
 use Rattle.cm_folder.proofs.filing.has_other.Given as goal
 

@@ -1,7 +1,7 @@
 use Rattle.std.proofs.Common.{ℕ, List, Some, None, is_some, if◌then◌else◌, option_map, [], ◌∷◌, map, sym, ap, ◌∙◌}
 use Rattle.std.specs.List.{find as find_by}
 use mathlib.Core.List.{map-append}
-use Rattle.map_keys.specs.Parts.{pointee}
+use Rattle.cm_map.specs.Parts.{pointee}
 use Rattle.cm_base.specs.declared.number.Oid.{Oid}
 use Rattle.cmis_spec.specs.Repository.{same}
 use Rattle.cm_folder.proofs.Lookups.{place_more}

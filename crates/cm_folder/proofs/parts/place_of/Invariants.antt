@@ -1,6 +1,6 @@
 use Rattle.std.proofs.Common.{◌≡◌, option_map, map}
 use Rattle.std.specs.List.{find as find_by}
-use Rattle.map_keys.specs.Parts.{pointee}
+use Rattle.cm_map.specs.Parts.{pointee}
 use Rattle.cmis_spec.specs.Repository.{same}
 use Rattle.cm_folder.proofs.parts.place_of.Given as goal
 

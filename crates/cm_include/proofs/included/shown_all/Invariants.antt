@@ -1,6 +1,6 @@
 use Rattle.std.proofs.Common.{◌≡◌, map, take}
-use Rattle.map_keys.specs.Parts.{pointee}
-use Rattle.cm_show.specs.Shown.{shown_object}
+use Rattle.cm_map.specs.Parts.{pointee}
+use Rattle.cm_see.specs.Shown.{shown_object}
 use Rattle.cm_include.proofs.included.shown_all.Given as goal
 
 abbrev pub invariant-loop-x : goal.invariant-loop-x

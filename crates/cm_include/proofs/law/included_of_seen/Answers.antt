@@ -1,6 +1,6 @@
-use Rattle.cm_show.specs.Addressed.{addressed}
-use Rattle.seen_laws.proofs.Answers.{addressed_alike}
-use Rattle.seen_laws.proofs.Worlds.{AreAlike, IsFound}
+use Rattle.cm_see.specs.Addressed.{addressed}
+use Rattle.cm_see.proofs.Answers.{addressed_alike}
+use Rattle.cm_see.proofs.Worlds.{AreAlike, IsFound}
 use Rattle.cm_include.proofs.Alike.{included_alike}
 use Rattle.cm_include.proofs.law.included_of_seen.Goals as goal
 

@@ -2,7 +2,7 @@ use Rattle.std.proofs.Common.{rules, ◌≡◌, ◌+◌, ◌-◌, ◌<◌, ◌�
 use Rattle.std.specs.Arc.{arc_value}
 use Rattle.core.specs.List.{AllByRecursion}
 use Rattle.std.proofs.lemmas.List.{drop-map, take_rest, length-map}
-use Rattle.map_keys.proofs.Heads.{all_at, read_map}
+use Rattle.cm_map.proofs.Heads.{all_at, read_map}
 use Rattle.cm_map.specs.Rows.{Spaced}
 use Rattle.cm_map.proofs.Rowing.{all_left, all_right, all_both, map_push, meet_rows, merge_rows}
 use Rattle.cm_map.proofs.row.joined.Goals as goal

@@ -2,7 +2,7 @@ use Rattle.std.proofs.Common.{T, sym, subst, map}
 use Rattle.std.specs.Arc.{arc_value}
 use Rattle.core.specs.FinMap.Entries.{is_sorted}
 use Rattle.std.proofs.lemmas.List.{length-map}
-use Rattle.map_keys.proofs.Heads.{all_at, read_map}
+use Rattle.cm_map.proofs.Heads.{all_at, read_map}
 use Rattle.cm_map.proofs.Rowing.{sorted_at}
 use Rattle.cm_map.proofs.row.push_ranged.Goals as goal
 

@@ -1,7 +1,7 @@
 use Rattle.std.proofs.Common.{◌≡◌, ◌++◌, map, take, flat_map}
 use Rattle.std.specs.Arc.{arc_value}
 use Rattle.core.specs.FinMap.Entries.{where_key}
-use Rattle.map_keys.specs.Parts.{pointee, within}
+use Rattle.cm_map.specs.Parts.{pointee, within}
 use Rattle.cm_map.proofs.row.push_ranged.Given as goal
 
 abbrev pub invariant-loop-x : goal.invariant-loop-x

@@ -2,7 +2,7 @@ use Rattle.std.proofs.Common.{◌+◌, ◌++◌, map, take, drop, T, sym, ap, su
 use Rattle.std.specs.Arc.{arc_value}
 use Rattle.core.specs.FinMap.Entries.{is_sorted}
 use Rattle.std.proofs.lemmas.List.{length-map}
-use Rattle.map_keys.proofs.Heads.{all_at, read_map}
+use Rattle.cm_map.proofs.Heads.{all_at, read_map}
 use Rattle.cm_map.specs.Rows.{change}
 use Rattle.cm_map.proofs.Rowing.{all_map, block_sorted, row_parted, flat_split, change_mid}
 use Rattle.cm_map.proofs.row.row_changed.Goals as goal

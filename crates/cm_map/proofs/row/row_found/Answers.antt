@@ -2,7 +2,7 @@ use Rattle.std.proofs.Common.{◌+◌, map, take, drop, T, sym, ap, subst, ◌�
 use Rattle.std.specs.Arc.{arc_value}
 use Rattle.core.specs.FinMap.Entries.{find, is_sorted}
 use Rattle.std.proofs.lemmas.List.{length-map}
-use Rattle.map_keys.proofs.Heads.{all_at, read_map}
+use Rattle.cm_map.proofs.Heads.{all_at, read_map}
 use Rattle.cm_map.proofs.Rowing.{all_map, block_sorted, row_parted, flat_split, find_mid}
 use Rattle.cm_map.proofs.row.row_found.Goals as goal
 

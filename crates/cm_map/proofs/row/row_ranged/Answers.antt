@@ -1,7 +1,7 @@
 use Rattle.std.proofs.Common.{Option, IsSome, subst, ◌++◌, map, sym, ap, ◌∙◌}
 use Rattle.std.specs.Arc.{arc_value}
-use Rattle.map_keys.specs.Parts.{pointee, first_of}
-use Rattle.map_keys.proofs.Ranging.{all_between, sorted_between, between_same, kept_between}
+use Rattle.cm_map.specs.Parts.{pointee, first_of}
+use Rattle.cm_map.proofs.Ranging.{all_between, sorted_between, between_same, kept_between}
 use Rattle.cm_map.proofs.Rowing.{all_map}
 use Rattle.cm_map.proofs.row.row_ranged.Goals as goal
 

@@ -3,7 +3,7 @@ use Rattle.std.specs.List.{list_any}
 use Rattle.std.proofs.lemmas.Iterator.Consumers.{YieldsList-from_first, YieldsList-end}
 use mathlib.Core.List.{map-append}
 use Rattle.cm_map.specs.Rests.{rest}
-use Rattle.map_keys.specs.Parts.{pointee}
+use Rattle.cm_map.specs.Parts.{pointee}
 use Rattle.cm_base.specs.declared.number.Oid.{Oid}
 use Rattle.cm_base.specs.declared.filing.Filed.{Filed}
 use Rattle.cmis_spec.specs.Repository.{Repository, same}

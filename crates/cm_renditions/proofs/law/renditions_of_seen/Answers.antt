@@ -1,5 +1,5 @@
-use Rattle.seen_laws.proofs.Answers.{addressed_alike}
-use Rattle.seen_laws.proofs.Worlds.{AreAlike}
+use Rattle.cm_see.proofs.Answers.{addressed_alike}
+use Rattle.cm_see.proofs.Worlds.{AreAlike}
 use Rattle.cm_renditions.proofs.Alike.{renditions_alike}
 use Rattle.cm_renditions.proofs.law.renditions_of_seen.Goals as goal
 

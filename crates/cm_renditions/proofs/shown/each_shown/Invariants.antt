@@ -1,5 +1,5 @@
 use Rattle.std.proofs.Common.{◌≡◌, map, take}
-use Rattle.map_keys.specs.Parts.{pointee}
+use Rattle.cm_map.specs.Parts.{pointee}
 use Rattle.cm_renditions.specs.Shown.{shown_rendition}
 use Rattle.cm_renditions.proofs.shown.each_shown.Given as goal
 

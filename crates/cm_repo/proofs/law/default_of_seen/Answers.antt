@@ -8,9 +8,9 @@ use Rattle.include_parts.specs.declared.replies.IncludedChildrenReply.{IncludedC
 use Rattle.call_parts.specs.declared.replies.ContentReply.{ContentReply}
 use Rattle.include_parts.specs.declared.replies.IncludedReply.{IncludedReply}
 use Rattle.cm_call.specs.declared.reply.Reply.TheVariants as replies
-use Rattle.cm_show.specs.Addressed.{addressed}
-use Rattle.seen_laws.proofs.Answers.{addressed_alike, answer_alike}
-use Rattle.seen_laws.proofs.Worlds.{AreAlike}
+use Rattle.cm_see.specs.Addressed.{addressed}
+use Rattle.cm_see.proofs.Answers.{addressed_alike, answer_alike}
+use Rattle.cm_see.proofs.Worlds.{AreAlike}
 use Rattle.cm_repo.specs.Calls.{default_of}
 use Rattle.cm_repo.proofs.law.default_of_seen.Goals as goal
 

@@ -1,5 +1,5 @@
 use Rattle.std.proofs.Common.{◌<◌, All, take}
-use Rattle.cm_lists.specs.Keyed.{Rises}
+use Rattle.cm_map.specs.Keyed.{Rises}
 use Rattle.cm_state.proofs.standing.are_rising.Given as goal
 
 abbrev pub invariant-loop-number : goal.invariant-loop-number

@@ -1,5 +1,5 @@
 use Rattle.std.proofs.Common.{◌≡◌, map}
-use Rattle.map_keys.specs.Parts.{pointee}
+use Rattle.cm_map.specs.Parts.{pointee}
 use Rattle.cm_state.proofs.standing.numbers.Given as goal
 
 abbrev pub invariant-loop-entry : goal.invariant-loop-entry

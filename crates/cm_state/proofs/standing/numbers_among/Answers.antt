@@ -1,7 +1,7 @@
 use Rattle.std.proofs.Common.{ℕ, Bool, ◌||◌, ◌∷◌, [], sym, ap, ◌∙◌, map}
 use Rattle.std.specs.List.{list_any}
 use mathlib.Core.List.{map-append}
-use Rattle.map_keys.specs.Parts.{pointee}
+use Rattle.cm_map.specs.Parts.{pointee}
 use Rattle.cm_base.specs.declared.number.Oid.{Oid}
 use Rattle.cm_state.specs.Looks.{standing_at, has_number}
 use Rattle.cm_state.proofs.Numbers.{any_last}

@@ -2,7 +2,7 @@ use Rattle.std.proofs.Common.{◌≡◌, ℕ, map, is_some}
 use Rattle.std.specs.List.{list_any}
 use Rattle.core.specs.Ordering.{nat_cmp}
 use Rattle.core.specs.FinMap.Entries.{find}
-use Rattle.map_keys.specs.Parts.{pointee}
+use Rattle.cm_map.specs.Parts.{pointee}
 use Rattle.cm_state.specs.Looks.{standing_at, has_number}
 use Rattle.cm_state.proofs.standing.numbers_among.Given as goal
 

@@ -1,6 +1,6 @@
 use Rattle.std.proofs.Common.{◌≡◌, map}
 use Rattle.std.specs.List.{list_any}
-use Rattle.map_keys.specs.Parts.{pointee}
+use Rattle.cm_map.specs.Parts.{pointee}
 use Rattle.cm_types.specs.Changes.{clashes}
 use Rattle.type_requests.specs.Keys.{values_of}
 use Rattle.cm_type_list.proofs.scan.is_prop_taken.Given as goal

@@ -1,5 +1,5 @@
 use Rattle.std.proofs.Common.{◌∙◌, ◌<◌, ◌++◌, ◌∷◌, [], length, map, take, sym, ap, arith}
-use Rattle.map_keys.specs.Parts.{pointee}
+use Rattle.cm_map.specs.Parts.{pointee}
 use Rattle.cm_types.specs.Types.{first_of_each}
 use Rattle.cm_type_list.specs.Firsts.{with_first}
 use Rattle.cm_type_list.proofs.Firsting.{first_more}

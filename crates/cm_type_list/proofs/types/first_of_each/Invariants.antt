@@ -1,5 +1,5 @@
 use Rattle.std.proofs.Common.{◌≡◌, map, take}
-use Rattle.map_keys.specs.Parts.{pointee}
+use Rattle.cm_map.specs.Parts.{pointee}
 use Rattle.cm_types.specs.Types.{first_of_each}
 use Rattle.cm_type_list.proofs.types.first_of_each.Given as goal
 

@@ -1,6 +1,6 @@
 use Rattle.std.proofs.Common.{rules, subst}
 use Rattle.cmis_spec.specs.Repository.{Repository}
-use Rattle.cm_face.specs.Served.{repository}
+use Rattle.cm_repo.specs.Served.{repository}
 use Rattle.desk_serve.specs.Sessions.{Closed}
 use Rattle.cmis_app.proofs.many.serve.Goals as goal
 

@@ -1,13 +1,13 @@
 use Rattle.std.specs.Prelude.{map, string_bytes}
-use Rattle.cmis_app.proofs.Asked.{runs_load, runs_others}
-use Rattle.cmis_app.proofs.Failed.{load_failed}
+use Rattle.std.proofs.Common.{◌∙◌, sym}
+use Rattle.cmis_app.proofs.Scripts.{runs_schedule, runs_other, schedule_failed}
 use Rattle.cmis_app.proofs.once.run_once.Goals as goal
 
-pub returns-in-Some : goal.returns-in-Some
-returns-in-Some g c = record {
-  ran = runs_load (map string_bytes c.args.words.now) c.in-Some.n (g.C.Clock.words c.args.clock.now) (g.I.Source.told c.args.input.now) (g.O.Sink.told c.args.output.now) (g.O.Sink.told c.load.new.output) c.load.result c.in-Some.ensures c.load.ensures;
-  failed = load_failed c.in-Some.n (g.I.Source.told c.args.input.now) (g.O.Sink.told c.args.output.now) (g.I.Source.told c.args.input.now) (g.O.Sink.told c.load.new.output) c.load.result c.load.ensures;
+pub returns-then-are_schedule : goal.returns-then-are_schedule
+returns-then-are_schedule g c = record {
+  ran = runs_schedule (map string_bytes c.args.words.now) (g.C.Clock.words c.args.clock.now) _ _ _ _ _ (sym c.are_schedule.ensures ∙ c.if-are_schedule.true) c.schedule.ensures;
+  failed = schedule_failed _ _ _ _ _ c.schedule.ensures;
 }
 
-pub returns-in-None-clause-ran : goal.returns-in-None-clause-ran
-returns-in-None-clause-ran g c = runs_others (map string_bytes c.args.words.now) (g.C.Clock.words c.args.clock.now) (g.I.Source.told c.args.input.now) (g.O.Sink.told c.args.output.now) (g.I.Source.told c.run_lent.new.input) (g.O.Sink.told c.run_lent.new.output) c.run_lent.result c.in-None.ensures c.run_lent.ensures.ran
+pub returns-clause-ran : goal.returns-clause-ran
+returns-clause-ran g c = runs_other (map string_bytes c.args.words.now) (g.C.Clock.words c.args.clock.now) _ _ _ _ _ (sym c.are_schedule.ensures ∙ c.if-are_schedule.false) c.load_or_serve.ensures.ran

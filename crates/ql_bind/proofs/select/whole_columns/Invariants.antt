@@ -1,5 +1,5 @@
 use Rattle.std.proofs.Common.{◌≡◌, map, take}
-use Rattle.map_keys.specs.Parts.{pointee}
+use Rattle.cm_map.specs.Parts.{pointee}
 use Rattle.ql_bind.specs.Binding.{whole_column}
 use Rattle.ql_bind.proofs.select.whole_columns.Given as goal
 

@@ -1,6 +1,6 @@
 use Rattle.std.proofs.Common.{◌≡◌, map, take}
 use Rattle.std.specs.Prelude.{filter}
-use Rattle.map_keys.specs.Parts.{pointee}
+use Rattle.cm_map.specs.Parts.{pointee}
 use Rattle.cm_types.specs.Types.{chain}
 use Rattle.ql_bind.specs.Tables.{counts_up}
 use Rattle.ql_bind.proofs.table.kinds_among.Given as goal

@@ -1,9 +1,9 @@
 use Rattle.std.proofs.Common.{ap}
 use Rattle.std.specs.Prelude.{Ok}
 use Rattle.cm_base.specs.declared.cause.Cause.TheVariants as causes
-use Rattle.cm_show.specs.Addressed.{addressed}
-use Rattle.seen_laws.proofs.Answers.{addressed_alike, answer_alike}
-use Rattle.seen_laws.proofs.Worlds.{AreAlike}
+use Rattle.cm_see.specs.Addressed.{addressed}
+use Rattle.cm_see.proofs.Answers.{addressed_alike, answer_alike}
+use Rattle.cm_see.proofs.Worlds.{AreAlike}
 use Rattle.rd_access.specs.ReadAcl.{acl_reply, shown_aces}
 use Rattle.rd_access.proofs.law.acl_of_seen.Goals as goal
 

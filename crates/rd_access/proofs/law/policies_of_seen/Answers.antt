@@ -5,9 +5,9 @@ use Rattle.cm_base.specs.declared.cause.Cause.TheVariants as causes
 use Rattle.call_parts.specs.declared.readings.PropertyFilter.TheVariants as filters
 use Rattle.cmis_spec.specs.Repository.{same}
 use Rattle.cmis_spec.specs.Access.{policies_of}
-use Rattle.cm_show.specs.Addressed.{addressed}
-use Rattle.seen_laws.proofs.Answers.{addressed_alike, answer_alike}
-use Rattle.seen_laws.proofs.Worlds.{AreAlike}
+use Rattle.cm_see.specs.Addressed.{addressed}
+use Rattle.cm_see.proofs.Answers.{addressed_alike, answer_alike}
+use Rattle.cm_see.proofs.Worlds.{AreAlike}
 use Rattle.rd_lists.specs.Listed.{objects_reply}
 use Rattle.rd_lists.proofs.Among.{numbered_alike, objects_alike, passing_here}
 use Rattle.rd_access.proofs.law.policies_of_seen.Goals as goal

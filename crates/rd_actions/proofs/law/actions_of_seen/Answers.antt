@@ -1,9 +1,9 @@
 use Rattle.std.proofs.Common.{ap}
 use Rattle.std.specs.Prelude.{Ok}
 use Rattle.cm_base.specs.declared.cause.Cause.TheVariants as causes
-use Rattle.cm_show.specs.Addressed.{addressed}
-use Rattle.seen_laws.proofs.Answers.{addressed_alike, answer_alike}
-use Rattle.seen_laws.proofs.Worlds.{AreAlike}
+use Rattle.cm_see.specs.Addressed.{addressed}
+use Rattle.cm_see.proofs.Answers.{addressed_alike, answer_alike}
+use Rattle.cm_see.proofs.Worlds.{AreAlike}
 use Rattle.cm_actions.proofs.Alike.{actions_alike}
 use Rattle.rd_actions.specs.ReadActions.{actions_reply}
 use Rattle.rd_actions.proofs.law.actions_of_seen.Goals as goal

@@ -1,5 +1,5 @@
 use Rattle.std.proofs.Common.{◌≡◌, map, take}
-use Rattle.map_keys.specs.Parts.{pointee}
+use Rattle.cm_map.specs.Parts.{pointee}
 use Rattle.rd_include.specs.ShowChildren.{included_child}
 use Rattle.rd_include.proofs.children.included_members.Given as goal
 

@@ -6,9 +6,9 @@ use Rattle.cm_types.specs.declared.definition.BaseType.TheVariants as bases
 use Rattle.cm_types.specs.Types.{is_of_base}
 use Rattle.cmis_spec.specs.Repository.{is_a}
 use Rattle.cmis_spec.specs.Access.{children_of}
-use Rattle.cm_show.specs.Addressed.{addressed}
-use Rattle.seen_laws.proofs.Answers.{addressed_alike, answer_alike}
-use Rattle.seen_laws.proofs.Worlds.{AreAlike, children_alike}
+use Rattle.cm_see.specs.Addressed.{addressed}
+use Rattle.cm_see.proofs.Answers.{addressed_alike, answer_alike}
+use Rattle.cm_see.proofs.Worlds.{AreAlike, children_alike}
 use Rattle.rd_order.proofs.Alike.{answered_alike}
 use Rattle.rd_include.specs.ShowChildren.{answer_ordered_children, answer_show_children_in, included_children}
 use Rattle.rd_include.proofs.Pages.{children_alike_shown}

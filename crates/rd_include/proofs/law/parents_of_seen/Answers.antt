@@ -3,9 +3,9 @@ use Rattle.std.specs.Prelude.{false, not, option_map, unwrap_or}
 use Rattle.cm_base.specs.declared.cause.Cause.TheVariants as causes
 use Rattle.cm_base.specs.Judged.{◌>>◌, refuse}
 use Rattle.cm_types.specs.Types.{type_in}
-use Rattle.cm_show.specs.Addressed.{addressed}
-use Rattle.seen_laws.proofs.Answers.{addressed_alike, answer_alike}
-use Rattle.seen_laws.proofs.Worlds.{AreAlike}
+use Rattle.cm_see.specs.Addressed.{addressed}
+use Rattle.cm_see.proofs.Answers.{addressed_alike, answer_alike}
+use Rattle.cm_see.proofs.Worlds.{AreAlike}
 use Rattle.rd_lists.specs.Folders.{folders_of, is_fileable, segment_of}
 use Rattle.rd_lists.proofs.Seen.{folders_alike, segment_alike}
 use Rattle.rd_include.specs.ShowParents.{answer_show_parents_of, included_parents}

@@ -5,9 +5,9 @@ use Rattle.cm_base.specs.Judged.{◌>>◌, refuse}
 use Rattle.cm_types.specs.declared.definition.BaseType.TheVariants as bases
 use Rattle.cm_types.specs.Types.{is_of_base}
 use Rattle.cmis_spec.specs.Repository.{is_a}
-use Rattle.cm_show.specs.Addressed.{addressed}
-use Rattle.seen_laws.proofs.Answers.{addressed_alike, answer_alike}
-use Rattle.seen_laws.proofs.Worlds.{AreAlike}
+use Rattle.cm_see.specs.Addressed.{addressed}
+use Rattle.cm_see.proofs.Answers.{addressed_alike, answer_alike}
+use Rattle.cm_see.proofs.Worlds.{AreAlike}
 use Rattle.rd_lists.specs.Versions.{versions_of}
 use Rattle.rd_lists.proofs.Seen.{versions_alike}
 use Rattle.rd_include.specs.Listed.{list_of}

@@ -6,10 +6,10 @@ use Rattle.cm_types.specs.Types.{is_of_base}
 use Rattle.call_parts.specs.declared.readings.PropertyFilter.TheVariants as filters
 use Rattle.cmis_spec.specs.Repository.{is_a}
 use Rattle.cmis_laws.proofs.Lists.{by_test}
-use Rattle.cm_show.specs.Addressed.{addressed}
-use Rattle.seen_laws.proofs.Answers.{addressed_alike, answer_alike}
-use Rattle.seen_laws.proofs.Shown.{shown_alike}
-use Rattle.seen_laws.proofs.Worlds.{AreAlike}
+use Rattle.cm_see.specs.Addressed.{addressed}
+use Rattle.cm_see.proofs.Answers.{addressed_alike, answer_alike}
+use Rattle.cm_see.proofs.SeenShown.{shown_alike}
+use Rattle.cm_see.proofs.Worlds.{AreAlike}
 use Rattle.rd_lists.specs.ReadParent.{answer_parent_of, parent_of, parent_reply}
 use Rattle.rd_lists.proofs.Seen.{parent_alike}
 use Rattle.rd_lists.proofs.law.parent_of_seen.Goals as goal

@@ -1,6 +1,6 @@
 use Rattle.std.proofs.Common.{◌≡◌, map, take}
 use Rattle.std.specs.List.{filter_map}
-use Rattle.map_keys.specs.Parts.{pointee}
+use Rattle.cm_map.specs.Parts.{pointee}
 use Rattle.cmis_spec.specs.Access.{read_at}
 use Rattle.rd_lists.proofs.number.read_among.Given as goal
 

@@ -1,7 +1,7 @@
 use Rattle.std.proofs.Common.{◌≡◌, ◌∙◌, map, sym, ap}
 use Rattle.std.specs.Prelude.{◌&&◌, find, Some, None, bytes_eq}
 use Rattle.std.specs.Option.{option_or}
-use Rattle.map_keys.specs.Parts.{pointee}
+use Rattle.cm_map.specs.Parts.{pointee}
 use Rattle.rd_order.specs.Ordered.{orderable_named}
 use Rattle.rd_order.proofs.Keys.{behind, own, first_type}
 use Rattle.rd_order.proofs.key.+orderable_named.Goals as goal

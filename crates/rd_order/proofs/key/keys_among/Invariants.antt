@@ -1,5 +1,5 @@
 use Rattle.std.proofs.Common.{◌≡◌, [], map, drop}
-use Rattle.map_keys.specs.Parts.{pointee}
+use Rattle.cm_map.specs.Parts.{pointee}
 use Rattle.ql_bind.specs.Binding.{each_onto}
 use Rattle.rd_order.specs.Ordered.{sort_key}
 use Rattle.rd_order.proofs.key.keys_among.Given as goal

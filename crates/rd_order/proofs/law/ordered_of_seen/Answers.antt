@@ -3,9 +3,9 @@ use Rattle.std.specs.Prelude.{◌≡◌, List, Ok, Err}
 use Rattle.cm_base.specs.Judged.{Judged, ◌>>=◌}
 use Rattle.cm_base.specs.declared.object.Object.{Object}
 use Rattle.cmis_spec.specs.Access.{children_of}
-use Rattle.cm_show.specs.Addressed.{addressed}
-use Rattle.seen_laws.proofs.Answers.{addressed_alike}
-use Rattle.seen_laws.proofs.Worlds.{AreAlike, IsFound, children_alike}
+use Rattle.cm_see.specs.Addressed.{addressed}
+use Rattle.cm_see.proofs.Answers.{addressed_alike}
+use Rattle.cm_see.proofs.Worlds.{AreAlike, IsFound, children_alike}
 use Rattle.rd_order.specs.Ordered.{ordered}
 use Rattle.rd_order.proofs.Alike.{answered_alike}
 use Rattle.rd_order.proofs.law.ordered_of_seen.Goals as goal

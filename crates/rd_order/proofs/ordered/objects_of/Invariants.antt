@@ -1,5 +1,5 @@
 use Rattle.std.proofs.Common.{◌≡◌, map, take}
-use Rattle.map_keys.specs.Parts.{pointee}
+use Rattle.cm_map.specs.Parts.{pointee}
 use Rattle.rd_order.specs.Keyed.{object_and_row}
 use Rattle.rd_order.proofs.ordered.objects_of.Given as goal
 

@@ -1,5 +1,5 @@
 use Rattle.std.proofs.Common.{◌∙◌, ap, map}
-use Rattle.map_keys.specs.Parts.{pointee}
+use Rattle.cm_map.specs.Parts.{pointee}
 use Rattle.rd_order.specs.Keyed.{object_and_row}
 use Rattle.rd_order.proofs.Listed.{in_order}
 use Rattle.rd_order.proofs.ordered.ordered_by.Goals as goal

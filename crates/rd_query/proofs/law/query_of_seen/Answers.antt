@@ -2,7 +2,7 @@ use Rattle.std.proofs.Common.{◌≡◌, ◌∙◌, sym, ap}
 use Rattle.std.specs.Prelude.{Ok}
 use Rattle.cm_base.specs.Judged.{◌>>=◌}
 use Rattle.ql_bind.specs.declared.bound.Bound.{Bound}
-use Rattle.seen_laws.proofs.Worlds.{AreAlike}
+use Rattle.cm_see.proofs.Worlds.{AreAlike}
 use Rattle.rd_query.specs.ReadQuery.{answer_bound, query_reply}
 use Rattle.rd_query.specs.Said.{bound_of}
 use Rattle.rd_query.proofs.Beside.{reply_alike}

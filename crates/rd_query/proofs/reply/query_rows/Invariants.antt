@@ -1,5 +1,5 @@
 use Rattle.std.proofs.Common.{◌≡◌, map, take}
-use Rattle.map_keys.specs.Parts.{pointee}
+use Rattle.cm_map.specs.Parts.{pointee}
 use Rattle.rd_query.specs.ReadQuery.{query_row}
 use Rattle.rd_query.proofs.reply.query_rows.Given as goal
 

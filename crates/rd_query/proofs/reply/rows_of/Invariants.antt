@@ -1,5 +1,5 @@
 use Rattle.std.proofs.Common.{◌≡◌, map, take}
-use Rattle.map_keys.specs.Parts.{pointee}
+use Rattle.cm_map.specs.Parts.{pointee}
 use Rattle.rd_query.proofs.reply.rows_of.Given as goal
 
 abbrev pub invariant-loop-row : goal.invariant-loop-row

@@ -1,6 +1,6 @@
 use Rattle.std.proofs.Common.{◌≡◌, map, take}
 use Rattle.std.specs.Prelude.{filter}
-use Rattle.map_keys.specs.Parts.{pointee}
+use Rattle.cm_map.specs.Parts.{pointee}
 use Rattle.rd_relationships.specs.ReadRelationships.{is_of_type}
 use Rattle.rd_relationships.proofs.relationships.asked_among.Given as goal
 

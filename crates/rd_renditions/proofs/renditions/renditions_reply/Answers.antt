@@ -1,5 +1,5 @@
 use Rattle.std.proofs.Common.{◌∙◌, ap, map}
-use Rattle.map_keys.specs.Parts.{pointee}
+use Rattle.cm_map.specs.Parts.{pointee}
 use Rattle.cm_renditions.specs.Shown.{shown_rendition}
 use Rattle.rd_renditions.proofs.Pages.{page_mapped}
 use Rattle.rd_renditions.proofs.renditions.renditions_reply.Goals as goal

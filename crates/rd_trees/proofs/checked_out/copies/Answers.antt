@@ -1,6 +1,6 @@
 use Rattle.std.proofs.Common.{◌<◌, ◌++◌, ◌&&◌, Bool, ap, map, sym, ◌∙◌, arith}
 use Rattle.std.proofs.lemmas.List.Elements.{All-weaker}
-use Rattle.map_keys.specs.Parts.{pointee}
+use Rattle.cm_map.specs.Parts.{pointee}
 use Rattle.cm_base.specs.declared.object.Object.{Object}
 use Rattle.cmis_spec.specs.Access.{reads}
 use Rattle.rd_trees.specs.ReadCheckedOut.{is_copy}

@@ -1,5 +1,5 @@
 use Rattle.std.proofs.Common.{◌≡◌, ◌&&◌, map}
-use Rattle.map_keys.specs.Parts.{pointee}
+use Rattle.cm_map.specs.Parts.{pointee}
 use Rattle.cmis_spec.specs.Access.{reads}
 use Rattle.rd_trees.specs.ReadCheckedOut.{is_copy}
 use Rattle.rd_trees.specs.Walks.{passed_below}

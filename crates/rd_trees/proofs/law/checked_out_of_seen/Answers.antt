@@ -1,4 +1,4 @@
-use Rattle.seen_laws.proofs.Worlds.{AreAlike}
+use Rattle.cm_see.proofs.Worlds.{AreAlike}
 use Rattle.rd_trees.proofs.Copies.{checked_out_alike}
 use Rattle.rd_trees.proofs.law.checked_out_of_seen.Goals as goal
 

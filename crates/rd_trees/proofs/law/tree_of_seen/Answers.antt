@@ -1,7 +1,7 @@
 use Rattle.cm_base.specs.declared.cause.Cause.TheVariants as causes
-use Rattle.cm_show.specs.Addressed.{addressed}
-use Rattle.seen_laws.proofs.Answers.{addressed_alike, answer_alike}
-use Rattle.seen_laws.proofs.Worlds.{AreAlike}
+use Rattle.cm_see.specs.Addressed.{addressed}
+use Rattle.cm_see.proofs.Answers.{addressed_alike, answer_alike}
+use Rattle.cm_see.proofs.Worlds.{AreAlike}
 use Rattle.rd_trees.specs.ReadTree.{answer_tree_of}
 use Rattle.rd_trees.proofs.Trees.{tree_of_alike}
 use Rattle.rd_trees.proofs.law.tree_of_seen.Goals as goal

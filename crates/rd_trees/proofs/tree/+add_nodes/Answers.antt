@@ -1,5 +1,5 @@
 use Rattle.std.proofs.Common.{arith, ◌≡◌, ◌∙◌, ◌+◌, ◌++◌, ◌∷◌, [], ◌-◌, map, take, sym, ap}
-use Rattle.map_keys.specs.Parts.{pointee}
+use Rattle.cm_map.specs.Parts.{pointee}
 use Rattle.cmis_spec.specs.Repository.{levels_up}
 use Rattle.rd_trees.specs.ReadTree.{placed, right_below}
 use Rattle.rd_trees.specs.Walks.{nodes_shown}

@@ -1,5 +1,5 @@
 use Rattle.std.proofs.Common.{◌≡◌, ◌++◌, map, take}
-use Rattle.map_keys.specs.Parts.{pointee}
+use Rattle.cm_map.specs.Parts.{pointee}
 use Rattle.rd_trees.specs.ReadTree.{placed}
 use Rattle.rd_trees.specs.Walks.{nodes_shown}
 use Rattle.rd_trees.proofs.tree.+add_nodes.Given as goal

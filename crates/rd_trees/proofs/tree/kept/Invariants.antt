@@ -1,5 +1,5 @@
 use Rattle.std.proofs.Common.{◌≡◌, map, take, filter}
-use Rattle.map_keys.specs.Parts.{pointee}
+use Rattle.cm_map.specs.Parts.{pointee}
 use Rattle.rd_trees.specs.ReadTree.{is_in_tree}
 use Rattle.rd_trees.proofs.tree.kept.Given as goal
 

@@ -1,6 +1,6 @@
 use Rattle.std.proofs.Common.{◌≡◌, ◌∙◌, ◌+◌, length, map, nat_lt, refl, sym, ap}
 use Rattle.std.proofs.lemmas.List.{length-map}
-use Rattle.map_keys.specs.Parts.{pointee}
+use Rattle.cm_map.specs.Parts.{pointee}
 use Rattle.rd_nav.specs.ReadChildren.{has_more, page, page_size}
 use Rattle.rd_types.proofs.Pages.{page_shown}
 use Rattle.rd_types.proofs.children.types_reply.Goals as goal

@@ -8,10 +8,10 @@ use Rattle.cm_types.specs.declared.definition.BaseType.TheVariants as bases
 use Rattle.cm_types.specs.Types.{is_of_base}
 use Rattle.cmis_spec.specs.Repository.{same, is_a}
 use Rattle.cmis_spec.specs.Access.{oid_named}
-use Rattle.cm_show.specs.Addressed.{addressed}
-use Rattle.seen_laws.proofs.Answers.{addressed_alike, answer_alike}
-use Rattle.seen_laws.proofs.Shown.{content_alike}
-use Rattle.seen_laws.proofs.Worlds.{AreAlike, IsAlike}
+use Rattle.cm_see.specs.Addressed.{addressed}
+use Rattle.cm_see.proofs.Answers.{addressed_alike, answer_alike}
+use Rattle.cm_see.proofs.SeenShown.{content_alike}
+use Rattle.cm_see.proofs.Worlds.{AreAlike, IsAlike}
 use Rattle.rd_version.specs.Content.{content_reply, rendition_reply, stream_of, content_in}
 use Rattle.rd_version.proofs.law.stream_of_seen.Goals as goal
 

@@ -1,6 +1,6 @@
 use Rattle.std.proofs.Common.{◌≡◌, ◌++◌, map, take}
 use Rattle.json_text.specs.Tokens.{each_tokens}
-use Rattle.map_keys.specs.Parts.{pointee}
+use Rattle.cm_map.specs.Parts.{pointee}
 use Rattle.cm_types.specs.Types.{base_of}
 use Rattle.show_json.specs.Columns.{children_in, columns_in}
 use Rattle.show_json.proofs.children.write_behind.Given as goal

@@ -1,7 +1,7 @@
 use Rattle.std.proofs.Common.{◌++◌, ◌∙◌, ap, map}
 use Rattle.json_text.specs.Build.{list_data}
 use Rattle.json_text.specs.Tokens.{tokens_of}
-use Rattle.map_keys.specs.Parts.{pointee}
+use Rattle.cm_map.specs.Parts.{pointee}
 use Rattle.show_json.specs.Columns.{children_in}
 use Rattle.show_json.specs.WrittenLaws.{page_written}
 use Rattle.show_json.proofs.children.write_page.Goals as goal

@@ -1,5 +1,5 @@
 use Rattle.std.proofs.Common.{◌≡◌, map, take}
-use Rattle.map_keys.specs.Parts.{pointee}
+use Rattle.cm_map.specs.Parts.{pointee}
 use Rattle.show_json.specs.Columns.{id_of}
 use Rattle.show_json.specs.Ordered.{in_key_order}
 use Rattle.show_json.proofs.column.columns.Given as goal

@@ -1,5 +1,5 @@
 use Rattle.std.proofs.Common.{◌∙◌, ap}
-use Rattle.cm_show.specs.System.{system_named}
+use Rattle.cm_see.specs.System.{system_named}
 use Rattle.show_json.specs.Columns.{setting_of}
 use Rattle.show_json.proofs.column.setting.Goals as goal
 

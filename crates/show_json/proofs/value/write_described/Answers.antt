@@ -1,4 +1,4 @@
-use Rattle.cm_show.specs.Seen.{value_seen}
+use Rattle.cm_see.specs.Seen.{value_seen}
 use Rattle.show_json.specs.WrittenLaws.{described_written}
 use Rattle.show_json.proofs.value.write_described.Goals as goal
 

@@ -1,5 +1,5 @@
 use Rattle.std.proofs.Common.{◌≡◌, map}
-use Rattle.map_keys.specs.Parts.{pointee}
+use Rattle.cm_map.specs.Parts.{pointee}
 use Rattle.state_rows.proofs.rising.keys_of.Given as goal
 
 abbrev pub invariant-loop-entry : goal.invariant-loop-entry

@@ -1,6 +1,6 @@
 use Rattle.std.proofs.Common.{ap, sym, ◌∙◌, subst}
 use Rattle.std.specs.List.{list_any}
-use Rattle.cm_lists.specs.Keyed.{Rises}
+use Rattle.cm_map.specs.Keyed.{Rises}
 use Rattle.cmis_spec.specs.Repository.{same}
 use Rattle.cm_state.proofs.Numbers.{rising_keys, member_keys}
 use Rattle.state_rows.proofs.rising.sorted.Goals as goal

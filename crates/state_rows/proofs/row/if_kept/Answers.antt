@@ -1,8 +1,7 @@
 use Rattle.std.proofs.Common.{ap, ◌∙◌, map}
-use Rattle.map_keys.specs.Parts.{pointee}
+use Rattle.cm_map.specs.Parts.{pointee}
 use Rattle.cm_types.specs.Types.{props_of}
-use Rattle.row_store.specs.Rows.{if_kept}
-use Rattle.state_rows.specs.Tested.{queryable_values, row_with}
+use Rattle.row_store.specs.Rows.{if_kept, queryable_values, row_with}
 use Rattle.state_rows.proofs.Parents.{all_shown}
 use Rattle.state_rows.proofs.row.if_kept.Goals as goal
 

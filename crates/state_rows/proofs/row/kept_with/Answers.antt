@@ -1,5 +1,5 @@
 use Rattle.std.proofs.Common.{◌∙◌, map, sym}
-use Rattle.map_keys.specs.Parts.{pointee}
+use Rattle.cm_map.specs.Parts.{pointee}
 use Rattle.state_rows.proofs.Tested.{not_kept, is_kept}
 use Rattle.state_rows.proofs.row.kept_with.Goals as goal
 

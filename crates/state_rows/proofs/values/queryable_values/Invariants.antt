@@ -1,6 +1,6 @@
 use Rattle.std.proofs.Common.{◌≡◌, map, take}
-use Rattle.map_keys.specs.Parts.{pointee}
-use Rattle.state_rows.specs.Tested.{queryable_values}
+use Rattle.cm_map.specs.Parts.{pointee}
+use Rattle.row_store.specs.Rows.{queryable_values}
 use Rattle.state_rows.proofs.values.queryable_values.Given as goal
 
 abbrev pub invariant-loop-def : goal.invariant-loop-def

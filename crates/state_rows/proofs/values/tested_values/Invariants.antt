@@ -1,5 +1,5 @@
 use Rattle.std.proofs.Common.{◌≡◌, map, take}
-use Rattle.map_keys.specs.Parts.{pointee}
+use Rattle.cm_map.specs.Parts.{pointee}
 use Rattle.state_rows.specs.Tested.{tested_values}
 use Rattle.state_rows.proofs.values.tested_values.Given as goal
 

@@ -1,5 +1,5 @@
 use Rattle.std.proofs.Common.{◌≡◌, map}
-use Rattle.map_keys.specs.Parts.{pointee}
+use Rattle.cm_map.specs.Parts.{pointee}
 use Rattle.type_requests.specs.Keys.{values_of}
 use Rattle.type_requests.proofs.placed.values.Given as goal
 

@@ -1,5 +1,5 @@
 use Rattle.std.proofs.Common.{◌≡◌, map, take}
-use Rattle.map_keys.specs.Parts.{pointee}
+use Rattle.cm_map.specs.Parts.{pointee}
 use Rattle.type_tree.proofs.below.copies.Given as goal
 
 abbrev pub invariant-loop-def : goal.invariant-loop-def

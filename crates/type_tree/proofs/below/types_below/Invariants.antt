@@ -1,5 +1,5 @@
 use Rattle.std.proofs.Common.{◌≡◌, map, take, filter}
-use Rattle.map_keys.specs.Parts.{pointee}
+use Rattle.cm_map.specs.Parts.{pointee}
 use Rattle.type_tree.specs.Trees.{stands_below}
 use Rattle.type_tree.proofs.below.types_below.Given as goal
 

@@ -1,6 +1,6 @@
 use Rattle.std.proofs.Common.{map, take}
 use Rattle.std.specs.BTreeMap.{get_by_text}
-use Rattle.map_keys.specs.Parts.{pointee}
+use Rattle.cm_map.specs.Parts.{pointee}
 use Rattle.type_tree.specs.Groups.{HasGroups}
 use Rattle.type_tree.proofs.forest.groups_of.Given as goal
 

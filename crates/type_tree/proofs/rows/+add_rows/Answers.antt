@@ -1,5 +1,5 @@
 use Rattle.std.proofs.Common.{arith, ◌≡◌, ◌∙◌, ◌+◌, ◌++◌, ◌∷◌, [], ◌-◌, map, take, append-nil, sym, ap}
-use Rattle.map_keys.specs.Parts.{pointee}
+use Rattle.cm_map.specs.Parts.{pointee}
 use Rattle.cm_types.specs.Types.{longest_chain, subtypes}
 use Rattle.type_tree.specs.Trees.{rows_of}
 use Rattle.type_tree.proofs.Grouping.{level_more, no_rows, shown_more}

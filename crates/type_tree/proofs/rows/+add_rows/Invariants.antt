@@ -1,5 +1,5 @@
 use Rattle.std.proofs.Common.{◌≡◌, ◌++◌, map, take}
-use Rattle.map_keys.specs.Parts.{pointee}
+use Rattle.cm_map.specs.Parts.{pointee}
 use Rattle.type_tree.specs.Trees.{rows_of}
 use Rattle.type_tree.proofs.rows.+add_rows.Given as goal
 

@@ -1,7 +1,7 @@
 use Rattle.std.proofs.Common.{sym, ap, ◌∙◌}
 use Rattle.std.specs.Prelude.{Some, None, if◌then◌else◌, option_map}
 use Rattle.cm_base.specs.declared.object.Object.{Object}
-use Rattle.cm_show.specs.Addressed.{addressed}
+use Rattle.cm_see.specs.Addressed.{addressed}
 use Rattle.wr_change.specs.Update.{changed_in}
 use Rattle.wr_bulk.specs.BulkUpdate.{changed, is_refused}
 use Rattle.wr_bulk.proofs.each.changed.Goals as goal

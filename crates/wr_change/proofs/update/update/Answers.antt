@@ -2,7 +2,7 @@ use Rattle.std.proofs.Common.{sym, ap, ◌∙◌}
 use Rattle.std.specs.Prelude.{is_some, false}
 use Rattle.call_parts.specs.declared.readings.PropertyFilter.TheVariants as filters
 use Rattle.call_parts.specs.declared.replies.ObjectReply.{ObjectReply}
-use Rattle.cm_show.specs.Shown.{shown_object}
+use Rattle.cm_see.specs.Shown.{shown_object}
 use Rattle.cmis_laws.proofs.Passed.{then_ok}
 use Rattle.wr_rules.specs.Rules.{judge_storage}
 use Rattle.wr_change.specs.Update.{cost_update, refusal_one, object_updated}

@@ -1,5 +1,5 @@
 use Rattle.std.proofs.Common.{◌≡◌, filter, map}
-use Rattle.map_keys.specs.Parts.{pointee}
+use Rattle.cm_map.specs.Parts.{pointee}
 use Rattle.cmis_spec.specs.Removal.{among}
 use Rattle.wr_delete_tree.proofs.treated.kept.Given as goal
 

@@ -1,5 +1,5 @@
 use Rattle.std.proofs.Common.{◌≡◌, map}
-use Rattle.map_keys.specs.Parts.{pointee}
+use Rattle.cm_map.specs.Parts.{pointee}
 use Rattle.cm_map.specs.Sets.{key_of}
 use Rattle.wr_delete_tree.proofs.tree.numbers_of.Given as goal
 

@@ -1,6 +1,6 @@
 use Rattle.std.proofs.Common.{◌≡◌, map}
 use Rattle.std.specs.List.{list_all}
-use Rattle.map_keys.specs.Parts.{pointee}
+use Rattle.cm_map.specs.Parts.{pointee}
 use Rattle.cmis_spec.specs.Removal.{among}
 use Rattle.wr_delete_tree.proofs.visit.all_among.Given as goal
 

@@ -1,6 +1,6 @@
 use Rattle.std.proofs.Common.{◌≡◌, map}
 use Rattle.std.specs.List.{list_any}
-use Rattle.map_keys.specs.Parts.{pointee}
+use Rattle.cm_map.specs.Parts.{pointee}
 use Rattle.cm_base.specs.declared.access.Level.TheVariants as levels
 use Rattle.wr_filing.specs.Filing.{lacks_at}
 use Rattle.wr_filing.proofs.remove_from_folder.lacks_among.Given as goal

@@ -1,6 +1,6 @@
 use Rattle.std.proofs.Common.{◌≡◌, map}
 use Rattle.std.specs.Prelude.{fold}
-use Rattle.map_keys.specs.Parts.{pointee}
+use Rattle.cm_map.specs.Parts.{pointee}
 use Rattle.wr_filing.specs.Filing.{out_of}
 use Rattle.wr_filing.proofs.remove_from_folder.taken_out.Given as goal
 

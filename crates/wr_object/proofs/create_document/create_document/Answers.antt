@@ -2,7 +2,7 @@ use Rattle.std.proofs.Common.{◌≡◌, Ok, true, ap, subst, ◌∙◌}
 use Rattle.std.specs.Prelude.{is_some}
 use Rattle.call_parts.specs.declared.readings.PropertyFilter.TheVariants as filters
 use Rattle.call_parts.specs.declared.replies.ObjectReply.{ObjectReply}
-use Rattle.cm_show.specs.Shown.{shown_object}
+use Rattle.cm_see.specs.Shown.{shown_object}
 use Rattle.wr_object.specs.CreateDocument.{refusal_create_document, after_create_document, document_made}
 use Rattle.wr_object.specs.Parts.{wanted_in}
 use Rattle.wr_object.proofs.MadeDocument.{room_of, parts_are, made_is_found}

@@ -2,7 +2,7 @@ use Rattle.std.proofs.Common.{◌≡◌, Ok, true, ap, subst, ◌∙◌}
 use Rattle.std.specs.Prelude.{is_some}
 use Rattle.call_parts.specs.declared.readings.PropertyFilter.TheVariants as filters
 use Rattle.call_parts.specs.declared.replies.ObjectReply.{ObjectReply}
-use Rattle.cm_show.specs.Shown.{shown_object}
+use Rattle.cm_see.specs.Shown.{shown_object}
 use Rattle.wr_object.specs.CreateFolder.{refusal_create_folder, new_folder, after_create_folder}
 use Rattle.wr_object.proofs.Made.{room_of, made_is_found}
 use Rattle.wr_object.proofs.create_folder.create_folder.Goals as goal

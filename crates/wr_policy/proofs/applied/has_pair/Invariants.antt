@@ -1,6 +1,6 @@
 use Rattle.std.proofs.Common.{◌≡◌, map}
 use Rattle.std.specs.List.{list_any}
-use Rattle.map_keys.specs.Parts.{pointee}
+use Rattle.cm_map.specs.Parts.{pointee}
 use Rattle.wr_policy.specs.Applied.{is_pair}
 use Rattle.wr_policy.proofs.applied.has_pair.Given as goal
 

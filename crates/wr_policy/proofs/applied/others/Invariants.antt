@@ -1,5 +1,5 @@
 use Rattle.std.proofs.Common.{◌≡◌, map, filter, not}
-use Rattle.map_keys.specs.Parts.{pointee}
+use Rattle.cm_map.specs.Parts.{pointee}
 use Rattle.wr_policy.specs.Applied.{is_pair}
 use Rattle.wr_policy.proofs.applied.others.Given as goal
 

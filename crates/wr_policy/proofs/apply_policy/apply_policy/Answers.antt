@@ -1,7 +1,7 @@
 use Rattle.std.proofs.Common.{sym, ap, ◌∙◌}
 use Rattle.std.specs.Prelude.{is_some, false, unwrap_or}
 use Rattle.call_parts.specs.declared.readings.PropertyFilter.TheVariants as filters
-use Rattle.cm_show.specs.Shown.{shown_object}
+use Rattle.cm_see.specs.Shown.{shown_object}
 use Rattle.cmis_spec.specs.Repository.{root_folder}
 use Rattle.wr_policy.specs.ApplyPolicy.{cost_apply_policy}
 use Rattle.wr_policy.proofs.Applying.{apply_found}

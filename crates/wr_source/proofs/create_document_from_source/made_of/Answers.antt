@@ -2,7 +2,7 @@ use Rattle.std.proofs.Common.{◌≡◌, Ok, true, ap, subst, sym, ◌∙◌}
 use Rattle.std.specs.Prelude.{is_some}
 use Rattle.call_parts.specs.declared.readings.PropertyFilter.TheVariants as filters
 use Rattle.call_parts.specs.declared.replies.ObjectReply.{ObjectReply}
-use Rattle.cm_show.specs.Shown.{shown_object}
+use Rattle.cm_see.specs.Shown.{shown_object}
 use Rattle.wr_source.specs.CreateDocumentFromSource.{cost_of_source, cost_create_document_from_source, refusal_create_document_from_source, parts_made, after_create_document_from_source}
 use Rattle.wr_source.proofs.Created.{parts_are}
 use Rattle.wr_source.proofs.Found.{passed_by_source, room_for, made_is_found}

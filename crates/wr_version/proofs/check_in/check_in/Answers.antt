@@ -2,7 +2,7 @@ use Rattle.std.proofs.Common.{true, ap, ◌∙◌}
 use Rattle.std.specs.Prelude.{is_some}
 use Rattle.call_parts.specs.declared.readings.PropertyFilter.TheVariants as filters
 use Rattle.call_parts.specs.declared.replies.ObjectReply.{ObjectReply}
-use Rattle.cm_show.specs.Shown.{shown_object}
+use Rattle.cm_see.specs.Shown.{shown_object}
 use Rattle.wr_version.specs.CheckIn.{cost_check_in, after_check_in, version_made}
 use Rattle.wr_version.proofs.Joined.{room_for, version_is, as_changed, version_found}
 use Rattle.wr_version.proofs.check_in.check_in.Goals as goal

@@ -1,22 +1,19 @@
-use Rattle.std.proofs.Common.{refl, ap, ◌∙◌}
-use Rattle.std.specs.Arc.{arc_value}
-use Rattle.cmis_spec.specs.Changes.{edited}
-use Rattle.cm_draft.proofs.Entries.{object_agrees}
+use Rattle.std.proofs.Common.{◌≡◌, true, refl, sym, ap, subst, ◌∙◌}
+use Rattle.std.specs.Prelude.{IfOk, map, is_some, if◌then◌else◌}
+use Rattle.cmis_spec.specs.Repository.{Repository, same}
+use Rattle.cm_state.specs.Told.{object_in}
 use Rattle.cm_draft.proofs.Others.{other_put}
-use Rattle.cm_draft.proofs.Changed.{retold_is, retold_parts}
 use Rattle.cm_draft.proofs.draft.Draft.edited.Goals as goal
 
-pub invariant_of-result : goal.invariant_of-result
-invariant_of-result c =
-    let s = c.parts.inside in
-    let x = c.args.object in
-    retold_parts s _ c.deref.ensures c.in_ok-lists.lists _ c.in_ok-lists.ensures s.next c.in_ok-filing.filing x.id c.in_ok-filing.ensures c.parts.invariant
-    (λ m o. object_agrees (arc_value s.types) s.lists.series s.lists.objects _ m (other_put (λ y. y.id) x x.id m refl o s.lists.objects))
+pub with_member-requires : goal.with_member-requires
+with_member-requires c = record {
+  there = subst (λ ls. is_some (object_in ls c.args.object.id) ≡ true) (sym (c.objects_of.ensures ∙ ap (λ (r : Repository). r.objects) c.parts.ensures)) c.requires.there;
+}
 
-pub returns : goal.returns
-returns c =
-    let s = c.parts.inside in
-    let x = c.args.object in
-    retold_is s _ c.deref.ensures c.in_ok-lists.lists _ c.in_ok-lists.ensures s.next c.in_ok-filing.filing x.id c.in_ok-filing.ensures c.parts.invariant
-    (λ m o. object_agrees (arc_value s.types) s.lists.series s.lists.objects _ m (other_put (λ y. y.id) x x.id m refl o s.lists.objects))
-    ∙ ap (λ r. edited r x.id (λ _. x)) (c.parts.view_is ∙ c.self.view_is)
+pub with_objects-requires : goal.with_objects-requires
+with_objects-requires c = record {
+  others = λ m o. ap (λ ls. object_in ls m) (c.in-Ok.ensures ∙ ap (λ ls. map (λ y. if same y.id c.args.object.id then c.args.object else y) ls) (c.objects_of.ensures ∙ ap (λ (r : Repository). r.objects) c.parts.ensures)) ∙ other_put (λ y. y.id) c.args.object c.args.object.id m refl o c.args.self.objects;
+}
+
+pub returns-in-Ok : goal.returns-in-Ok
+returns-in-Ok c = subst (λ ls. IfOk c.with_objects.result (λ d. d ≡ record c.args.self { objects = ls })) (c.in-Ok.ensures ∙ ap (λ ls. map (λ y. if same y.id c.args.object.id then c.args.object else y) ls) (c.objects_of.ensures ∙ ap (λ (r : Repository). r.objects) c.parts.ensures)) c.with_objects.ensures

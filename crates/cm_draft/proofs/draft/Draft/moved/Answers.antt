@@ -1,19 +1,23 @@
 use Rattle.std.proofs.Common.{map, ap, ◌∙◌}
-use Rattle.std.specs.Arc.{arc_value}
-use Rattle.cmis_spec.specs.Changes.{moved, refiled}
-use Rattle.cm_folder.specs.Filings.{shifted, pairs_of}
+use Rattle.cmis_spec.specs.Changes.{refiled}
+use Rattle.cm_folder.specs.Filings.{shifted}
+use Rattle.cm_state.specs.Told.{entries_of}
 use Rattle.cm_draft.proofs.Entries.{filed_moved}
-use Rattle.cm_draft.proofs.Changed.{refiled_is, refiled_parts}
+use Rattle.cm_draft.proofs.Changed.{pairs_told, pairs_filed}
 use Rattle.cm_draft.proofs.draft.Draft.moved.Goals as goal
 
-pub invariant_of-result : goal.invariant_of-result
-invariant_of-result c =
-    let s = c.parts.inside in
-    refiled_parts s c.in_ok-filing.filing (map (refiled c.args.child c.args.source c.args.target) (pairs_of s.filing))
-    (c.in_ok-filing.ensures ∙ (ap (λ es. shifted es c.args.child c.args.source c.args.target) c.parts.invariant.told ∙ filed_moved (arc_value s.types) s.lists.series s.lists.objects c.args.child c.args.source c.args.target (pairs_of s.filing))) c.parts.invariant
+pub put_filing-requires : goal.put_filing-requires
+put_filing-requires c =
+    let r = c.args.self in
+    record {
+      told = pairs_told r c.in-Ok.filing (map (refiled c.args.child c.args.source c.args.target) r.filed)
+          (c.in-Ok.ensures ∙ (ap (λ es. shifted es c.args.child c.args.source c.args.target) (c.filing_of.ensures ∙ ap entries_of c.parts.ensures)
+          ∙ filed_moved r.types r.series r.objects c.args.child c.args.source c.args.target r.filed));
+    }
 
-pub returns : goal.returns
-returns c =
-    let s = c.parts.inside in
-    refiled_is s c.in_ok-filing.filing (map (refiled c.args.child c.args.source c.args.target) (pairs_of s.filing))
-    (c.in_ok-filing.ensures ∙ (ap (λ es. shifted es c.args.child c.args.source c.args.target) c.parts.invariant.told ∙ filed_moved (arc_value s.types) s.lists.series s.lists.objects c.args.child c.args.source c.args.target (pairs_of s.filing))) ∙ ap (λ r. moved r c.args.child c.args.source c.args.target) (c.parts.view_is ∙ c.self.view_is)
+pub returns-in-Ok : goal.returns-in-Ok
+returns-in-Ok c =
+    let r = c.args.self in
+    c.put_filing.ensures ∙ pairs_filed r c.in-Ok.filing (map (refiled c.args.child c.args.source c.args.target) r.filed)
+    (c.in-Ok.ensures ∙ (ap (λ es. shifted es c.args.child c.args.source c.args.target) (c.filing_of.ensures ∙ ap entries_of c.parts.ensures)
+    ∙ filed_moved r.types r.series r.objects c.args.child c.args.source c.args.target r.filed))

@@ -1,11 +1,9 @@
-use Rattle.std.proofs.Common.{ap, ◌∙◌}
-use Rattle.cmis_spec.specs.Changes.{noted}
-use Rattle.cm_state.specs.Kept.{repository_of}
-use Rattle.cm_draft.proofs.Changed.{beside_parts}
+use Rattle.std.proofs.Common.{◌++◌, ◌∷◌, [], ap, ◌∙◌}
+use Rattle.cmis_spec.specs.Repository.{Repository}
 use Rattle.cm_draft.proofs.draft.Draft.noted.Goals as goal
 
-pub invariant_of-result : goal.invariant_of-result
-invariant_of-result c = beside_parts c.parts.inside c.in_ok-lists.lists (ap (λ l. l.objects) c.in_ok-lists.ensures) (ap (λ l. l.series) c.in_ok-lists.ensures) c.parts.invariant
-
-pub returns : goal.returns
-returns c = ap (λ l. repository_of (record c.parts.inside { lists = l })) c.in_ok-lists.ensures ∙ ap (λ r. noted r c.args.kind c.args.object c.args.moment c.args.readers) (c.parts.view_is ∙ c.self.view_is)
+pub returns-in-Ok : goal.returns-in-Ok
+returns-in-Ok c = c.put_log.ensures ∙ (λ i. record c.args.self {
+  log = (c.in-Ok.ensures ∙ ap (λ es. es ++ record { kind = c.args.kind; object = c.args.object; moment = c.args.moment; readers = c.args.readers } ∷ [])
+      (c.log.ensures ∙ ap (λ (r : Repository). r.log) c.parts.ensures)) i;
+})

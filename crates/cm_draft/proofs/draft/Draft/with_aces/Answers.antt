@@ -1,16 +1,14 @@
-use Rattle.std.specs.Prelude.{◌≡◌, true, find, is_some}
-use Rattle.std.proofs.Common.{sym, ap, subst, ◌∙◌}
+use Rattle.std.proofs.Common.{◌≡◌, true, sym, ap, subst, ◌∙◌}
+use Rattle.std.specs.Prelude.{map, find, is_some, if◌then◌else◌}
 use Rattle.cmis_spec.specs.Repository.{Repository, same}
-use Rattle.cmis_spec.specs.Changes.{with_aces}
-use Rattle.cm_state.specs.Kept.{repository_of}
-use Rattle.cm_draft.proofs.Changed.{beside_parts}
 use Rattle.cm_draft.proofs.draft.Draft.with_aces.Goals as goal
 
-pub invariant_of-result : goal.invariant_of-result
-invariant_of-result c = beside_parts c.parts.inside c.in_ok-lists.lists (ap (λ l. l.objects) c.in_ok-lists.ensures) (ap (λ l. l.series) c.in_ok-lists.ensures) c.parts.invariant
+pub with_member-requires : goal.with_member-requires
+with_member-requires c = record {
+  there = subst (λ ls. is_some (find (λ l. same l.at c.args.list.at) ls) ≡ true) (sym (c.access_of.ensures ∙ ap (λ (r : Repository). r.access) c.parts.ensures)) c.requires.there;
+}
 
-pub returns : goal.returns
-returns c = ap (λ l. repository_of (record c.parts.inside { lists = l })) c.in_ok-lists.ensures ∙ ap (λ r. with_aces r c.args.list) (c.parts.view_is ∙ c.self.view_is)
-
-pub lists_changed-requires : goal.lists_changed-requires
-lists_changed-requires c = record { there = subst (λ (r : Repository). is_some (find (λ l. same l.at c.args.list.at) r.access) ≡ true) (sym (c.parts.view_is ∙ c.self.view_is)) c.requires.there }
+pub returns-in-Ok : goal.returns-in-Ok
+returns-in-Ok c = c.put_access.ensures ∙ (λ i. record c.args.self {
+  access = (c.in-Ok.ensures ∙ ap (λ ls. map (λ k. if same k.at c.args.list.at then c.args.list else k) ls) (c.access_of.ensures ∙ ap (λ (r : Repository). r.access) c.parts.ensures)) i;
+})

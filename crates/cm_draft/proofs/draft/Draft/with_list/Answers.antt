@@ -1,14 +1,13 @@
-use Rattle.std.proofs.Common.{◌<◌, All, sym, ap, subst, ◌∙◌}
-use Rattle.cmis_spec.specs.Changes.{with_list}
-use Rattle.cm_state.specs.Kept.{repository_of}
-use Rattle.cm_draft.proofs.Changed.{beside_parts}
+use Rattle.std.proofs.Common.{◌<◌, ◌++◌, ◌∷◌, [], All, sym, ap, subst, ◌∙◌}
+use Rattle.cmis_spec.specs.Repository.{Repository}
 use Rattle.cm_draft.proofs.draft.Draft.with_list.Goals as goal
 
-pub invariant_of-result : goal.invariant_of-result
-invariant_of-result c = beside_parts c.parts.inside c.in_ok-lists.lists (ap (λ l. l.objects) c.in_ok-lists.ensures) (ap (λ l. l.series) c.in_ok-lists.ensures) c.parts.invariant
+pub with_last-requires : goal.with_last-requires
+with_last-requires c = record {
+  above = subst (λ ls. All (λ l. l.at.0 < c.args.list.at.0) ls) (sym (c.access_of.ensures ∙ ap (λ (r : Repository). r.access) c.parts.ensures)) c.requires.above;
+}
 
-pub returns : goal.returns
-returns c = ap (λ l. repository_of (record c.parts.inside { lists = l })) c.in_ok-lists.ensures ∙ ap (λ r. with_list r c.args.list) (c.parts.view_is ∙ c.self.view_is)
-
-pub lists_with-requires : goal.lists_with-requires
-lists_with-requires c = record { above = subst (λ r. All (λ l. l.at.0 < c.args.list.at.0) r.access) (sym (c.parts.view_is ∙ c.self.view_is)) c.requires.above }
+pub returns-in-Ok : goal.returns-in-Ok
+returns-in-Ok c = c.put_access.ensures ∙ (λ i. record c.args.self {
+  access = (c.in-Ok.ensures ∙ ap (λ ls. ls ++ c.args.list ∷ []) (c.access_of.ensures ∙ ap (λ (r : Repository). r.access) c.parts.ensures)) i;
+})

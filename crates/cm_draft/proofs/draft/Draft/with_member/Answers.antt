@@ -1,25 +1,21 @@
-use Rattle.std.proofs.Common.{◌+◌, ◌<◌, All, refl, sym, ap, subst, ◌∙◌}
-use Rattle.std.specs.Arc.{arc_value}
-use Rattle.cmis_spec.specs.Documents.{with_member}
-use Rattle.cm_draft.proofs.Entries.{object_agrees}
+use Rattle.std.proofs.Common.{◌+◌, ◌^◌, ◌<◌, ◌++◌, ◌∷◌, [], All, refl, sym, ap, subst, ◌∙◌}
+use Rattle.cmis_spec.specs.Repository.{Repository}
+use Rattle.cm_state.specs.Told.{object_in}
 use Rattle.cm_draft.proofs.Others.{other_last}
-use Rattle.cm_draft.proofs.Changed.{retold_is, retold_parts}
 use Rattle.cm_draft.proofs.draft.Draft.with_member.Goals as goal
 
-pub invariant_of-result : goal.invariant_of-result
-invariant_of-result c =
-    let s = c.parts.inside in
-    let x = c.args.object in
-    retold_parts s _ c.deref.ensures c.in_ok-lists.lists _ c.in_ok-lists.ensures (s.next + 1) c.in_ok-filing.filing x.id c.in_ok-filing.ensures c.parts.invariant
-    (λ m o. object_agrees (arc_value s.types) s.lists.series s.lists.objects _ m (other_last (λ y. y.id) s.lists.objects x x.id m refl o))
+pub with_last-requires : goal.with_last-requires
+with_last-requires c = record {
+  above = subst (λ ls. All (λ y. y.id.0 < c.args.object.id.0) ls) (sym (c.objects_of.ensures ∙ ap (λ (r : Repository). r.objects) c.parts.ensures)) c.requires.above;
+}
+
+pub counted-requires : goal.counted-requires
+counted-requires c = record { room = subst (λ n. n + 1 < 2 ^ 64) (sym (ap (λ (r : Repository). r.next) c.in_ok-placed.ensures)) c.requires.room }
+
+pub with_objects-requires : goal.with_objects-requires
+with_objects-requires c = record {
+  others = λ m o. ap (λ ls. object_in ls m) (c.in-Ok.ensures ∙ ap (λ ls. ls ++ c.args.object ∷ []) (c.objects_of.ensures ∙ ap (λ (r : Repository). r.objects) c.parts.ensures)) ∙ other_last (λ y. y.id) c.args.self.objects c.args.object c.args.object.id m refl o;
+}
 
 pub returns : goal.returns
-returns c =
-    let s = c.parts.inside in
-    let x = c.args.object in
-    retold_is s _ c.deref.ensures c.in_ok-lists.lists _ c.in_ok-lists.ensures (s.next + 1) c.in_ok-filing.filing x.id c.in_ok-filing.ensures c.parts.invariant
-    (λ m o. object_agrees (arc_value s.types) s.lists.series s.lists.objects _ m (other_last (λ y. y.id) s.lists.objects x x.id m refl o))
-    ∙ ap (λ r. with_member r x) (c.parts.view_is ∙ c.self.view_is)
-
-pub lists_with-requires : goal.lists_with-requires
-lists_with-requires c = record { above = subst (λ r. All (λ x. x.id.0 < c.args.object.id.0) r.objects) (sym (c.parts.view_is ∙ c.self.view_is)) c.requires.above }
+returns c = c.counted.ensures ∙ ap (λ (r : Repository). record r { next = r.next + 1 }) (c.in_ok-placed.ensures ∙ (λ i. record c.args.self { objects = (c.in-Ok.ensures ∙ ap (λ ls. ls ++ c.args.object ∷ []) (c.objects_of.ensures ∙ ap (λ (r : Repository). r.objects) c.parts.ensures)) i }))

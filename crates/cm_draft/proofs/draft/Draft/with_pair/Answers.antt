@@ -1,20 +1,23 @@
 use Rattle.std.proofs.Common.{◌++◌, ◌∷◌, [], ap, ◌∙◌}
-use Rattle.std.specs.Arc.{arc_value}
-use Rattle.cmis_spec.specs.Changes.{with_pair}
-use Rattle.cm_folder.specs.Filings.{filed_with, pairs_of}
-use Rattle.cm_state.specs.Told.{entry_by}
+use Rattle.cmis_spec.specs.Repository.{Repository}
+use Rattle.cm_folder.specs.Filings.{filed_with}
+use Rattle.cm_state.specs.Told.{entry_by, entries_of}
 use Rattle.cm_draft.proofs.Entries.{filed_more}
-use Rattle.cm_draft.proofs.Changed.{refiled_is, refiled_parts}
+use Rattle.cm_draft.proofs.Changed.{pairs_told, pairs_filed}
 use Rattle.cm_draft.proofs.draft.Draft.with_pair.Goals as goal
 
-pub invariant_of-result : goal.invariant_of-result
-invariant_of-result c =
-    let s = c.parts.inside in
-    refiled_parts s c.in_ok-filing.filing (pairs_of s.filing ++ record { folder = c.args.folder; child = c.args.child } ∷ [])
-    (c.in_ok-filing.ensures ∙ ((λ i. filed_with (c.parts.invariant.told i) ((c.in_ok-entry.ensures ∙ ap (λ t. entry_by t s.lists.series s.lists.objects (record { folder = c.args.folder; child = c.args.child })) c.deref.ensures) i)) ∙ filed_more (arc_value s.types) s.lists.series s.lists.objects (pairs_of s.filing) (record { folder = c.args.folder; child = c.args.child }))) c.parts.invariant
+pub put_filing-requires : goal.put_filing-requires
+put_filing-requires c =
+    let r = c.args.self in
+    record {
+      told = pairs_told r c.in-Ok.filing (r.filed ++ record { folder = c.args.folder; child = c.args.child } ∷ [])
+          (c.in-Ok.ensures ∙ (ap (λ (q : Repository). filed_with (entries_of q) (entry_by q.types q.series q.objects (record { folder = c.args.folder; child = c.args.child }))) c.parts.ensures
+          ∙ filed_more r.types r.series r.objects r.filed (record { folder = c.args.folder; child = c.args.child })));
+    }
 
-pub returns : goal.returns
-returns c =
-    let s = c.parts.inside in
-    refiled_is s c.in_ok-filing.filing (pairs_of s.filing ++ record { folder = c.args.folder; child = c.args.child } ∷ [])
-    (c.in_ok-filing.ensures ∙ ((λ i. filed_with (c.parts.invariant.told i) ((c.in_ok-entry.ensures ∙ ap (λ t. entry_by t s.lists.series s.lists.objects (record { folder = c.args.folder; child = c.args.child })) c.deref.ensures) i)) ∙ filed_more (arc_value s.types) s.lists.series s.lists.objects (pairs_of s.filing) (record { folder = c.args.folder; child = c.args.child }))) ∙ ap (λ r. with_pair r c.args.folder c.args.child) (c.parts.view_is ∙ c.self.view_is)
+pub returns-in-Ok : goal.returns-in-Ok
+returns-in-Ok c =
+    let r = c.args.self in
+    c.put_filing.ensures ∙ pairs_filed r c.in-Ok.filing (r.filed ++ record { folder = c.args.folder; child = c.args.child } ∷ [])
+    (c.in-Ok.ensures ∙ (ap (λ (q : Repository). filed_with (entries_of q) (entry_by q.types q.series q.objects (record { folder = c.args.folder; child = c.args.child }))) c.parts.ensures
+    ∙ filed_more r.types r.series r.objects r.filed (record { folder = c.args.folder; child = c.args.child })))

@@ -1,23 +1,19 @@
-use Rattle.std.proofs.Common.{◌<◌, All, refl, sym, ap, subst, ◌∙◌}
-use Rattle.std.specs.Arc.{arc_value}
-use Rattle.cmis_spec.specs.Changes.{with_series}
-use Rattle.cm_draft.proofs.Entries.{series_agrees}
+use Rattle.std.proofs.Common.{◌<◌, ◌++◌, ◌∷◌, [], All, refl, sym, ap, subst, ◌∙◌, ◌≡◌}
+use Rattle.std.specs.Prelude.{IfOk}
+use Rattle.cmis_spec.specs.Repository.{Repository}
+use Rattle.cm_state.specs.Told.{series_in}
 use Rattle.cm_draft.proofs.Others.{other_last}
-use Rattle.cm_draft.proofs.Changed.{retold_is, retold_parts}
 use Rattle.cm_draft.proofs.draft.Draft.with_series.Goals as goal
 
-pub invariant_of-result : goal.invariant_of-result
-invariant_of-result c =
-    let s = c.parts.inside in
-    retold_parts s _ c.deref.ensures c.in_ok-lists.lists _ c.in_ok-lists.ensures s.next c.in_ok-filing.filing c.args.series.id c.in_ok-filing.ensures c.parts.invariant
-    (λ m o. series_agrees (arc_value s.types) s.lists.series s.lists.objects _ m (other_last (λ y. y.id) s.lists.series c.args.series c.args.series.id m refl o))
+pub with_last-requires : goal.with_last-requires
+with_last-requires c = record {
+  above = subst (λ ls. All (λ y. y.id.0 < c.args.series.id.0) ls) (sym (c.series_of.ensures ∙ ap (λ (r : Repository). r.series) c.parts.ensures)) c.requires.above;
+}
 
-pub returns : goal.returns
-returns c =
-    let s = c.parts.inside in
-    retold_is s _ c.deref.ensures c.in_ok-lists.lists _ c.in_ok-lists.ensures s.next c.in_ok-filing.filing c.args.series.id c.in_ok-filing.ensures c.parts.invariant
-    (λ m o. series_agrees (arc_value s.types) s.lists.series s.lists.objects _ m (other_last (λ y. y.id) s.lists.series c.args.series c.args.series.id m refl o))
-    ∙ ap (λ r. with_series r c.args.series) (c.parts.view_is ∙ c.self.view_is)
+pub with_all_series-requires : goal.with_all_series-requires
+with_all_series-requires c = record {
+  others = λ m o. ap (λ ls. series_in ls m) (c.in-Ok.ensures ∙ ap (λ ls. ls ++ c.args.series ∷ []) (c.series_of.ensures ∙ ap (λ (r : Repository). r.series) c.parts.ensures)) ∙ other_last (λ y. y.id) c.args.self.series c.args.series c.args.series.id m refl o;
+}
 
-pub lists_with-requires : goal.lists_with-requires
-lists_with-requires c = record { above = subst (λ r. All (λ s. s.id.0 < c.args.series.id.0) r.series) (sym (c.parts.view_is ∙ c.self.view_is)) c.requires.above }
+pub returns-in-Ok : goal.returns-in-Ok
+returns-in-Ok c = subst (λ ls. IfOk c.with_all_series.result (λ d. d ≡ record c.args.self { series = ls })) (c.in-Ok.ensures ∙ ap (λ ls. ls ++ c.args.series ∷ []) (c.series_of.ensures ∙ ap (λ (r : Repository). r.series) c.parts.ensures)) c.with_all_series.ensures

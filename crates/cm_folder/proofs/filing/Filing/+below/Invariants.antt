@@ -1,6 +1,6 @@
 use Rattle.std.proofs.Common.{◌≡◌, ◌+◌, ◌*◌, ◌&&◌, map}
 use Rattle.std.specs.List.{list_any}
-use Rattle.map_keys.specs.Parts.{pointee}
+use Rattle.cm_map.specs.Parts.{pointee}
 use Rattle.cm_folder.specs.Depths.{is_first_in, has_far}
 use Rattle.cm_folder.proofs.filing.Filing.+below.Given as goal
 

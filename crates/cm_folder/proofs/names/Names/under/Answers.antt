@@ -1,7 +1,7 @@
 use Rattle.std.proofs.Common.{ap, ◌∙◌}
 use Rattle.core.specs.Ordering.{nat_cmp}
 use Rattle.core.specs.Cmp.Lexicographic.{slice_cmp}
-use Rattle.cm_lists.specs.Buckets.{find_in}
+use Rattle.cm_map.specs.Buckets.{find_in}
 use Rattle.cm_folder.proofs.names.Names.under.Goals as goal
 
 pub returns : goal.returns

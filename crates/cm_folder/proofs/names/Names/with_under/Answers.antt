@@ -1,7 +1,7 @@
 use Rattle.std.proofs.Common.{rules, ◌≡◌, ◌&&◌, None, Some, length, if◌then◌else◌, refl, sym, ◌∙◌}
 use Rattle.core.specs.Ordering.{nat_cmp, eq_by_cmp}
 use Rattle.core.specs.Cmp.Lexicographic.{slice_cmp}
-use Rattle.cm_lists.specs.Buckets.{find_in}
+use Rattle.cm_map.specs.Buckets.{find_in}
 use Rattle.cm_folder.proofs.Named.{under_now, no_length}
 use Rattle.cm_folder.proofs.names.Names.with_under.Goals as goal
 

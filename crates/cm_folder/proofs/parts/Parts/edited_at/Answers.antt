@@ -3,7 +3,7 @@ use Rattle.std.specs.List.{list_any}
 use Rattle.core.specs.Ordering.{nat_cmp}
 use Rattle.core.specs.FinMap.Entries.{find}
 use mathlib.Core.List.{map-append}
-use Rattle.map_keys.specs.Parts.{pointee}
+use Rattle.cm_map.specs.Parts.{pointee}
 use Rattle.cm_folder.specs.Filings.{edit_of}
 use Rattle.cm_folder.proofs.Indexing.{changed_more}
 use Rattle.cm_folder.proofs.parts.Parts.edited_at.Goals as goal

@@ -2,7 +2,7 @@ use Rattle.std.proofs.Common.{◌≡◌, ℕ, ◌==◌, map, option_and_then, if
 use Rattle.std.specs.List.{list_any}
 use Rattle.core.specs.Ordering.{nat_cmp}
 use Rattle.core.specs.FinMap.Entries.{find}
-use Rattle.map_keys.specs.Parts.{pointee}
+use Rattle.cm_map.specs.Parts.{pointee}
 use Rattle.cm_folder.specs.Filings.{edit_of}
 use Rattle.cm_folder.specs.Places.{IsIndexed}
 use Rattle.cm_folder.proofs.parts.Parts.edited_at.Given as goal

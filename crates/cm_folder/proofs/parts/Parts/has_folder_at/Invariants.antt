@@ -1,6 +1,6 @@
 use Rattle.std.proofs.Common.{◌≡◌, map}
 use Rattle.std.specs.List.{list_any}
-use Rattle.map_keys.specs.Parts.{pointee}
+use Rattle.cm_map.specs.Parts.{pointee}
 use Rattle.cm_folder.specs.Places.{is_folder_at}
 use Rattle.cm_folder.proofs.parts.Parts.has_folder_at.Given as goal
 

@@ -1,6 +1,6 @@
 use Rattle.std.proofs.Common.{map, filter, ap, ◌∙◌}
 use Rattle.std.proofs.lemmas.List.{take_all}
-use Rattle.map_keys.specs.Parts.{pointee, within}
+use Rattle.cm_map.specs.Parts.{pointee, within}
 use Rattle.cm_map.specs.Sets.{key_of}
 use Rattle.cm_map.proofs.Keyed.{keys_where}
 use Rattle.cm_map.proofs.set.Set.range.Goals as goal

@@ -1,5 +1,5 @@
 use Rattle.std.proofs.Common.{◌≡◌, map, take}
-use Rattle.map_keys.specs.Parts.{pointee}
+use Rattle.cm_map.specs.Parts.{pointee}
 use Rattle.cm_map.specs.Sets.{key_of}
 use Rattle.cm_map.proofs.set.Set.range.Given as goal
 

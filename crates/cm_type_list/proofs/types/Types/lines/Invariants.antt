@@ -1,6 +1,6 @@
 use Rattle.std.proofs.Common.{◌≡◌, ◌++◌, map, reverse, take}
 use Rattle.std.specs.List.{flat_map}
-use Rattle.map_keys.specs.Parts.{pointee}
+use Rattle.cm_map.specs.Parts.{pointee}
 use Rattle.cm_types.specs.Types.{chain}
 use Rattle.cm_type_list.proofs.types.Types.lines.Given as goal
 

@@ -1,5 +1,0 @@
-pub mod Faces
-pub mod Numbers
-pub mod Requests
-pub mod Sent
-pub mod Served

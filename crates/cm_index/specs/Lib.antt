@@ -1,2 +1,0 @@
-pub mod KeyFacts
-pub mod Pairs

@@ -1,4 +1,0 @@
-mod Nested
-mod Places
-mod Put
-mod Tables

@@ -1,0 +1,205 @@
+//! The machine of the server.
+ghost use Rattle.std.specs.Prelude.{◌≡◌, Result};
+ghost use Rattle.cm_base.specs.Judged.{Meets};
+ghost use Rattle.desk_model.specs.Halts.{Tells};
+ghost use Rattle.cm_repo.specs.Faces.{shown_step, shown_answer};
+ghost use Rattle.cm_repo.specs.Sent.{sent_children, sent_default, sent_found, sent_included, sent_object, sent_stream};
+
+use crate::calls::{advance, read};
+use bind_json::replies::{shown_json, text_of};
+use call_parts::place::Place;
+use cm_base::cause::Cause;
+use cm_base::fail::Fail;
+use cm_base::object::Object;
+use cm_base::shown::Shown;
+use cm_base::text::Text;
+use cm_call::question::Question;
+use cm_call::reply::Reply;
+use cm_call::write::Write;
+use cm_include::included::View;
+use cm_see::address::addressed;
+use cm_state::state::State;
+use cm_types::definition::BaseType;
+use desk_model::{Entry, Halt, Machine};
+use include_parts::readings::{ShowChildren, ShowDefault, ShowObject};
+use include_text::children::show_children_text;
+use include_text::object::{included_object_text, show_object_text};
+use rd_version::content::stream;
+use std::alloc::Global;
+
+fn shown_step(
+    alloc: Global,
+    state: &State,
+    entry: &Entry<Write>,
+) -> Result<(State, Shown), Halt<Cause>>
+    ensures { Tells (shown_step state.now entry.now) result }
+{
+    let (made, reply) = advance(alloc, state, entry)?;
+    match text_of(alloc, reply, made.step()) {
+        Ok(shown) => Ok((made, shown)),
+        Err(_) => Err(Halt::Memory),
+    }
+}
+
+// What is sent of a page of children, whose text is written from the state where nothing more is asked for.
+#[tactic(auto, using(crate::proofs::Sent::children_sent, crate::proofs::Sent::children_fail))]
+fn sent_children(alloc: Global, state: &State, user: &Text, q: &ShowChildren) -> Result<Shown, Fail>
+    ensures { Meets (λ s. s) result (sent_children state.now user.now q.now) }
+{
+    let text = show_children_text(alloc, state, user, q)?;
+    let shown = shown_json(alloc, 200, text, state.step())?;
+    Ok(shown)
+}
+
+// What is sent of an object, whose text is written from the state where nothing more is asked for.
+#[tactic(auto, using(crate::proofs::Sent::object_sent, crate::proofs::Sent::object_fails))]
+fn sent_object(alloc: Global, state: &State, user: &Text, q: &ShowObject) -> Result<Shown, Fail>
+    ensures { Meets (λ s. s) result (sent_object state.now user.now q.now) }
+{
+    let text = show_object_text(alloc, state, user, q)?;
+    let shown = shown_json(alloc, 200, text, state.step())?;
+    Ok(shown)
+}
+
+// What is sent of an object that is read without a selector.
+#[tactic(auto, using(crate::proofs::Sent::object_sent, crate::proofs::Sent::object_fails))]
+fn sent_included(alloc: Global, view: View<'_>, place: &Place) -> Result<Shown, Fail>
+    ensures { Meets (λ s. s) result (sent_included view.entry place.now) }
+{
+    let text = included_object_text(alloc, view, place)?;
+    let shown = shown_json(alloc, 200, text, view.state.step())?;
+    Ok(shown)
+}
+
+// What is sent of a content, whose bytes are shared.
+fn sent_stream(
+    alloc: Global,
+    state: &State,
+    user: &Text,
+    place: &Place,
+    asked: &Option<Text>,
+) -> Result<Shown, Fail>
+    ensures { Meets (λ s. s) result (sent_stream state.now user.now place.now asked.now) }
+{
+    let reply = stream(alloc, state, user, place, asked)?;
+    let shown = text_of(alloc, Reply::Content(reply), state.step())?;
+    Ok(shown)
+}
+
+fn sent_found(
+    alloc: Global,
+    state: &State,
+    user: &Text,
+    q: &ShowDefault,
+    x: &Object,
+) -> Result<Shown, Fail>
+    ensures { Meets (λ s. s) result (sent_found state.now user.now q.now x.now) }
+{
+    let asked = &q.children.children;
+    if state.is_a(BaseType::Folder, x) {
+        return sent_children(alloc, state, user, &q.children);
+    }
+    if state.is_a(BaseType::Document, x) {
+        return sent_stream(alloc, state, user, &asked.place, &q.stream);
+    }
+    let view = View {
+        state,
+        user,
+        filter: &asked.filter,
+        succinct: asked.succinct,
+        includes: &q.children.includes,
+    };
+    sent_included(alloc, view, &asked.place)
+}
+
+// What is sent without a selector, by the kind of what is addressed.
+fn sent_default(alloc: Global, state: &State, user: &Text, q: &ShowDefault) -> Result<Shown, Fail>
+    ensures { Meets (λ s. s) result (sent_default state.now user.now q.now) }
+{
+    match addressed(state, user, &q.children.children.place) {
+        Some(x) => sent_found(alloc, state, user, q, x),
+        None => Err(Fail::Refused(Cause::NotFound)),
+    }
+}
+
+// What is sent of a reply that is made first.
+fn sent_reply(alloc: Global, state: &State, user: &Text, question: &Question) -> Result<Shown, Fail>
+    ensures { Meets (λ s. s) result (shown_answer state.now user.now question.now) }
+{
+    let reply = read(alloc, state, user, question)?;
+    let shown = text_of(alloc, reply, state.step())?;
+    Ok(shown)
+}
+
+fn sent(alloc: Global, state: &State, user: &Text, question: &Question) -> Result<Shown, Fail>
+    ensures { Meets (λ s. s) result (shown_answer state.now user.now question.now) }
+{
+    match question {
+        Question::Object(q) => sent_object(alloc, state, user, q),
+        Question::Children(q) => sent_children(alloc, state, user, q),
+        Question::Default(q) => sent_default(alloc, state, user, q),
+        _ => sent_reply(alloc, state, user, question),
+    }
+}
+
+fn shown_answer(
+    alloc: Global,
+    state: &State,
+    user: &Text,
+    question: &Question,
+) -> Result<Shown, Halt<Cause>>
+    ensures { Tells (shown_answer state.now user.now question.now) result }
+{
+    match sent(alloc, state, user, question) {
+        Ok(shown) => Ok(shown),
+        Err(Fail::Refused(cause)) => Err(Halt::Refused(cause)),
+        Err(Fail::Memory) => Err(Halt::Memory),
+    }
+}
+
+/// The machine of the server: the bytes of a reply are made before its step is taken, so that a step that was taken can be told.
+///
+/// The status is 201 where the call made an object, and else 200; the media type is that of a content, and else application/json;
+/// the number is that of the state at which the reply was made.
+pub struct Face;
+
+impl Machine for Face {
+    type State = State;
+
+    type Call = Write;
+
+    type Question = Question;
+
+    type Shown = Shown;
+
+    type Cause = Cause;
+
+    ghost use Rattle.cm_repo.specs.Faces.{shown_step, shown_answer};
+
+    ghost next = { shown_step };
+
+    ghost answer = { shown_answer };
+
+    ghost number = { λ r. r.step };
+
+    fn next(
+        alloc: Global,
+        state: &State,
+        entry: &Entry<Write>,
+    ) -> Result<(State, Shown), Halt<Cause>> {
+        shown_step(alloc, state, entry)
+    }
+
+    fn answer(
+        alloc: Global,
+        state: &State,
+        user: &Text,
+        question: &Question,
+    ) -> Result<Shown, Halt<Cause>> {
+        shown_answer(alloc, state, user, question)
+    }
+
+    fn number(state: &State) -> u64 {
+        state.step()
+    }
+}

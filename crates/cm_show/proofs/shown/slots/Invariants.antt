@@ -1,7 +1,0 @@
-use Rattle.std.proofs.Common.{◌≡◌, map, take}
-use Rattle.map_keys.specs.Parts.{pointee}
-use Rattle.cm_show.specs.Shown.{shown_slot}
-use Rattle.cm_show.proofs.shown.slots.Given as goal
-
-abbrev pub invariant-loop-def : goal.invariant-loop-def
-invariant-loop-def l = l.all ≡ map (shown_slot l.state l.user l.x) (map pointee (take l.def-index l.defs))

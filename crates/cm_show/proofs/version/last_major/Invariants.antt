@@ -1,6 +1,0 @@
-use Rattle.std.proofs.Common.{◌≡◌, take}
-use Rattle.cm_show.specs.Shown.{last_major}
-use Rattle.cm_show.proofs.version.last_major.Given as goal
-
-abbrev pub invariant-loop-version : goal.invariant-loop-version
-invariant-loop-version l = l.last ≡ last_major (take l.version-index l.versions)

@@ -1,4 +1,0 @@
-pub mod Addressed
-pub mod Seen
-pub mod Shown
-pub mod System

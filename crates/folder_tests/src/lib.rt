@@ -1,5 +1,0 @@
-//! Tests of the folder tree.
-#![tactic(auto)]
-
-#[cfg(test)]
-mod tests;

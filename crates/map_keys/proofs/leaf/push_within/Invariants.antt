@@ -1,8 +1,0 @@
-use Rattle.std.proofs.Common.{◌≡◌, ◌++◌, map, take}
-use Rattle.std.specs.Arc.{arc_value}
-use Rattle.core.specs.FinMap.Entries.{where_key}
-use Rattle.map_keys.specs.Parts.{pointee, within}
-use Rattle.map_keys.proofs.leaf.push_within.Given as goal
-
-abbrev pub invariant-loop-x : goal.invariant-loop-x
-invariant-loop-x g l = map pointee l.out.items ≡ map pointee l.initial.out.items ++ where_key g.K.Ord.cmp (within g.K.Ord.cmp l.least l.most) (map arc_value (take l.x-index l.xs))

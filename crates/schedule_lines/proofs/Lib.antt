@@ -1,0 +1,6 @@
+mod Fronts
+mod Kept
+mod Names
+mod Pieces
+mod Standing
+mod Words

@@ -1,7 +1,0 @@
-pub mod Answers
-pub mod Lists
-pub mod Looks
-pub mod Objects
-pub mod Paths
-pub mod Shown
-pub mod Worlds
