@@ -59,44 +59,6 @@ pub(crate) fn filing_of(parts: &Parts) -> &Filing
     &parts.filing
 }
 
-// ---- other lists
-
-fn lists_objects(lists: Lists, objects: Objects) -> Lists
-    ensures { result ≡ record lists { objects = objects } }
-{
-    Lists { objects, ..lists }
-}
-
-fn lists_series(lists: Lists, series: Table<Series>) -> Lists
-    ensures { result ≡ record lists { series = series } }
-{
-    Lists { series, ..lists }
-}
-
-fn lists_access(lists: Lists, access: Table<AccessList>) -> Lists
-    ensures { result ≡ record lists { access = access } }
-{
-    Lists { access, ..lists }
-}
-
-fn lists_applied(lists: Lists, applied: Sequence<Applied>) -> Lists
-    ensures { result ≡ record lists { applied = applied } }
-{
-    Lists { applied, ..lists }
-}
-
-fn lists_contents(lists: Lists, contents: Table<Content>) -> Lists
-    ensures { result ≡ record lists { contents = contents } }
-{
-    Lists { contents, ..lists }
-}
-
-fn lists_log(lists: Lists, log: Sequence<Change>) -> Lists
-    ensures { result ≡ record lists { log = log } }
-{
-    Lists { log, ..lists }
-}
-
 // ---- the draft with them
 
 /// The draft with these objects, of which the filing tells.
@@ -105,7 +67,7 @@ pub(crate) fn put_objects(draft: Draft, objects: Objects, filing: Filing) -> Dra
     ensures { result ≡ record draft { objects = objects } }
 {
     let parts = draft.parts;
-    let lists = lists_objects(parts.lists, objects);
+    let lists = parts.lists.with_objects(objects);
     Draft {
         parts: Parts {
             filing,
@@ -121,7 +83,7 @@ pub(crate) fn put_series(draft: Draft, series: Table<Series>, filing: Filing) ->
     ensures { result ≡ record draft { series = series } }
 {
     let parts = draft.parts;
-    let lists = lists_series(parts.lists, series);
+    let lists = parts.lists.with_series(series);
     Draft {
         parts: Parts {
             filing,
@@ -147,7 +109,7 @@ pub(crate) fn put_access(draft: Draft, access: Table<AccessList>) -> Draft
     ensures { result ≡ record draft { access = access } }
 {
     let parts = draft.parts;
-    let lists = lists_access(parts.lists, access);
+    let lists = parts.lists.with_access(access);
     Draft {
         parts: Parts { lists, ..parts },
     }
@@ -158,7 +120,7 @@ pub(crate) fn put_applied(draft: Draft, applied: Sequence<Applied>) -> Draft
     ensures { result ≡ record draft { applied = applied } }
 {
     let parts = draft.parts;
-    let lists = lists_applied(parts.lists, applied);
+    let lists = parts.lists.with_applied(applied);
     Draft {
         parts: Parts { lists, ..parts },
     }
@@ -169,7 +131,7 @@ pub(crate) fn put_contents(draft: Draft, contents: Table<Content>) -> Draft
     ensures { result ≡ record draft { contents = contents } }
 {
     let parts = draft.parts;
-    let lists = lists_contents(parts.lists, contents);
+    let lists = parts.lists.with_contents(contents);
     Draft {
         parts: Parts { lists, ..parts },
     }
@@ -180,7 +142,7 @@ pub(crate) fn put_log(draft: Draft, log: Sequence<Change>) -> Draft
     ensures { result ≡ record draft { log = log } }
 {
     let parts = draft.parts;
-    let lists = lists_log(parts.lists, log);
+    let lists = parts.lists.with_log(log);
     Draft {
         parts: Parts { lists, ..parts },
     }

@@ -22,10 +22,16 @@ use std::alloc::{AllocError, Global};
 use std::marker::Model;
 
 /// Which child stands in which folder, seen as the list of the entries in the order in which they were made.
-#[derive(Drop)]
 pub struct Filing {
     pub(crate) parts: Parts,
     pub(crate) next: u64,
+}
+
+// That a filing goes is proved here once, and not at each place where one goes.
+impl Drop for Filing {
+    fn drop(self) {
+        let Filing { parts: _, next: _ } = self;
+    }
 }
 
 impl Model for Filing {

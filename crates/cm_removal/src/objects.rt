@@ -48,11 +48,7 @@ fn lists_left(alloc: Global, gone: &Gone, lists: Lists) -> Result<Lists, AllocEr
 {
     let applied = applied_left(alloc, gone, &lists.applied)?;
     let renditions = renditions_left(alloc, gone, &lists.renditions)?;
-    Ok(Lists {
-        applied,
-        renditions,
-        ..lists
-    })
+    Ok(lists.with_applied(applied).with_renditions(renditions))
 }
 
 // Without the policies on them, and their renditions.

@@ -16,7 +16,6 @@ use cm_objects::objects::Objects;
 use std::alloc::{AllocError, Global};
 
 /// What a repository has of each kind, but the filing. A changed list shares with the old one all that stays.
-#[derive(Drop)]
 pub struct Lists {
     pub objects: Objects,
     pub series: Table<Series>,
@@ -25,6 +24,21 @@ pub struct Lists {
     pub contents: Table<Content>,
     pub renditions: Table<Rendition>,
     pub log: Sequence<Change>,
+}
+
+// That the lists go is proved here once, and not at each place where they go.
+impl Drop for Lists {
+    fn drop(self) {
+        let Lists {
+            objects: _,
+            series: _,
+            access: _,
+            applied: _,
+            contents: _,
+            renditions: _,
+            log: _,
+        } = self;
+    }
 }
 
 impl Lists {
@@ -77,5 +91,68 @@ impl Lists {
             }
         }
         ""
+    }
+
+    /// The lists with these objects.
+    pub fn with_objects(self, objects: Objects) -> Lists
+        ensures { result ≡ record self { objects = objects } }
+    {
+        let mut lists = self;
+        lists.objects = objects;
+        lists
+    }
+
+    /// The lists with these series.
+    pub fn with_series(self, series: Table<Series>) -> Lists
+        ensures { result ≡ record self { series = series } }
+    {
+        let mut lists = self;
+        lists.series = series;
+        lists
+    }
+
+    /// The lists with these access control lists.
+    pub fn with_access(self, access: Table<AccessList>) -> Lists
+        ensures { result ≡ record self { access = access } }
+    {
+        let mut lists = self;
+        lists.access = access;
+        lists
+    }
+
+    /// The lists with these applied policies.
+    pub fn with_applied(self, applied: Sequence<Applied>) -> Lists
+        ensures { result ≡ record self { applied = applied } }
+    {
+        let mut lists = self;
+        lists.applied = applied;
+        lists
+    }
+
+    /// The lists with these contents.
+    pub fn with_contents(self, contents: Table<Content>) -> Lists
+        ensures { result ≡ record self { contents = contents } }
+    {
+        let mut lists = self;
+        lists.contents = contents;
+        lists
+    }
+
+    /// The lists with these renditions.
+    pub fn with_renditions(self, renditions: Table<Rendition>) -> Lists
+        ensures { result ≡ record self { renditions = renditions } }
+    {
+        let mut lists = self;
+        lists.renditions = renditions;
+        lists
+    }
+
+    /// The lists with this log.
+    pub fn with_log(self, log: Sequence<Change>) -> Lists
+        ensures { result ≡ record self { log = log } }
+    {
+        let mut lists = self;
+        lists.log = log;
+        lists
     }
 }

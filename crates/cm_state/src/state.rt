@@ -29,9 +29,15 @@ use std::marker::Model;
 use std::sync::ledger::Ledger;
 
 /// A repository that is well formed, seen as the record of its lists.
-#[derive(Drop)]
 pub struct State {
     parts: Parts,
+}
+
+// That a state goes is proved here once, and not at each place where one goes.
+impl Drop for State {
+    fn drop(self) {
+        let State { parts: _ } = self;
+    }
 }
 
 impl Model for State {

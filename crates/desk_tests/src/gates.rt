@@ -44,8 +44,8 @@ impl Gate for Holding {
     }
 }
 
-// A link with two requests, each of which adds 1.
-fn link(alloc: Global) -> Result<MemLink, AllocError>
+/// A link with two requests, each of which adds 1.
+pub fn link(alloc: Global) -> Result<MemLink, AllocError>
     ensures { IfOk result is_new }
 {
     MemLink::new(

@@ -8,6 +8,8 @@ mod gates;
 #[cfg(test)]
 mod locks;
 #[cfg(test)]
+mod moments;
+#[cfg(test)]
 mod passes;
 #[cfg(test)]
 mod replies;

@@ -61,7 +61,7 @@ fn lists_without(alloc: Global, lists: Lists, policy: Oid, object: Oid) -> Resul
         ≡ record lists { applied = filter (λ a. not (is_pair policy object a)) lists.applied }) }
 {
     let applied = others(alloc, &lists.applied, policy, object)?;
-    Ok(Lists { applied, ..lists })
+    Ok(lists.with_applied(applied))
 }
 
 /// The policy no longer on the object.

@@ -18,10 +18,7 @@ fn lists_with(alloc: Global, lists: Lists, rendition: Rendition) -> Result<Lists
     ensures { IfOk result (λ l. l ≡ record lists { renditions = lists.renditions ++ rendition ∷ [] }) }
 {
     let renditions = lists.renditions.with_last(alloc, rendition)?;
-    Ok(Lists {
-        renditions,
-        ..lists
-    })
+    Ok(lists.with_renditions(renditions))
 }
 
 // A rendition more, whose number is above those of all others.

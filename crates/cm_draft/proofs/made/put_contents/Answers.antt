@@ -6,9 +6,9 @@ use Rattle.cm_draft.proofs.made.put_contents.Goals as goal
 
 pub invariant_of-result : goal.invariant_of-result
 invariant_of-result c =
-    beside_parts c.parts.inside c.lists_contents-lists.result (ap (λ l. l.objects) c.lists_contents-lists.ensures) (ap (λ l. l.series) c.lists_contents-lists.ensures) c.parts.invariant
+    beside_parts c.parts.inside c.with_contents-lists.result (ap (λ l. l.objects) c.with_contents-lists.ensures) (ap (λ l. l.series) c.with_contents-lists.ensures) c.parts.invariant
 
 pub returns : goal.returns
 returns c =
-    ap (λ l. repository_of (record c.parts.inside { lists = l })) c.lists_contents-lists.ensures
+    ap (λ l. repository_of (record c.parts.inside { lists = l })) c.with_contents-lists.ensures
     ∙ ap (λ (r : Repository). record r { contents = c.args.contents }) (c.parts.view_is ∙ c.draft.view_is)
