@@ -1,11 +1,12 @@
 -- The JSON of replies, and what is sent of them (CMIS 1.1, sections 5.2.10 and 5.2.11).
-use Rattle.std.specs.Prelude.{ℕ, Bool, List, [], length, ◌==◌, codes, Some, if◌then◌else◌}
+use Rattle.std.specs.Prelude.{ℕ, Bool, length, ◌==◌, Some, if◌then◌else◌}
 use Rattle.serde_json.specs.Written.{compact_text}
 use Rattle.cm_base.specs.declared.shown.Shown.{Shown}
 use Rattle.delete_tree_parts.specs.declared.replies.DeleteTreeReply.{DeleteTreeReply}
 use Rattle.cm_call.specs.declared.reply.Reply.{Reply}
 use Rattle.cm_call.specs.declared.reply.Reply.TheVariants as replies
 use Rattle.object_json.specs.Objects.{shown_data}
+use Rattle.object_json.specs.Sent.{shown_json, shown_nothing}
 use Rattle.include_json.specs.Pages.{reply_data as included_data, children_data, objects_data as included_objects_data, page_data, parents_data}
 use Rattle.type_replies.specs.Infos.{infos_data}
 use Rattle.type_replies.specs.Types.{definition_data, types_data, type_tree_data}
@@ -22,14 +23,6 @@ use Rattle.action_replies.specs.Actions.{actions_data}
 -- 201 where the call made what is shown
 abbrev pub status_of : Bool → ℕ
 status_of created = if created then 201 else 200
-
--- what is sent of a text of JSON that was made at this step
-abbrev pub shown_json : ℕ → List ℕ → ℕ → Shown
-shown_json status text step = record { status = status; kind = codes "application/json"; body = text; number = Some step }
-
--- what is sent of a removal
-abbrev pub shown_nothing : ℕ → Shown
-shown_nothing step = record { status = 200; kind = []; body = []; number = Some step }
 
 -- what is sent of the removal of a tree: the ids that are left, if there are any
 abbrev pub shown_left : DeleteTreeReply → ℕ → Shown

@@ -13,7 +13,6 @@ use rendition_parts::replies::RenditionsReply;
 use type_parts::replies::{InfoReply, TypeReply, TypeTreeReply, TypesReply};
 
 /// What a call is answered.
-#[derive(Drop)]
 pub enum Reply {
     Object(ObjectReply),
     /// An object with what is asked for beside its properties.
@@ -40,4 +39,33 @@ pub enum Reply {
     Updated(UpdatedObjects),
     Renditions(RenditionsReply),
     Actions(ActionsReply),
+}
+
+// That a reply goes is proved here once, and not at each place where one goes.
+impl Drop for Reply {
+    fn drop(self) {
+        match self {
+            Reply::Object(_)
+            | Reply::Included(_)
+            | Reply::Children(_)
+            | Reply::Content(_)
+            | Reply::Type(_)
+            | Reply::Types(_)
+            | Reply::TypeTree(_)
+            | Reply::Info(_)
+            | Reply::Objects(_)
+            | Reply::IncludedObjects(_)
+            | Reply::Parents(_)
+            | Reply::Acl(_)
+            | Reply::Query(_)
+            | Reply::Nothing
+            | Reply::Tree(_)
+            | Reply::Page(_)
+            | Reply::Changes(_)
+            | Reply::DeleteTree(_)
+            | Reply::Updated(_)
+            | Reply::Renditions(_)
+            | Reply::Actions(_) => {}
+        }
+    }
 }

@@ -11,7 +11,7 @@ use Rattle.include_parts.specs.declared.replies.IncludedChildrenReply.{IncludedC
 use Rattle.include_parts.specs.declared.replies.IncludedReply.{IncludedReply}
 use Rattle.include_json.specs.Pages.{children_data, reply_data}
 use Rattle.include_text.specs.Texts.{included_children_text, included_text}
-use Rattle.bind_json.specs.Replies.{shown_json}
+use Rattle.object_json.specs.Sent.{shown_json}
 use Rattle.cm_repo.specs.Sent.{page_sent, reply_sent}
 
 no_cause : {A : Type 0} (c : Cause) (x : A) → ◌≡◌ {A = Result A Cause} (Err c) (Ok x) → ⊥

@@ -6,7 +6,7 @@ ghost use Rattle.cm_repo.specs.Faces.{shown_step, shown_answer};
 ghost use Rattle.cm_repo.specs.Sent.{sent_children, sent_default, sent_found, sent_included, sent_object, sent_stream};
 
 use crate::calls::{advance, read};
-use bind_json::replies::{shown_json, text_of};
+use bind_json::replies::text_of;
 use call_parts::place::Place;
 use cm_base::cause::Cause;
 use cm_base::fail::Fail;
@@ -24,6 +24,7 @@ use desk_model::{Entry, Halt, Machine};
 use include_parts::readings::{ShowChildren, ShowDefault, ShowObject};
 use include_text::children::show_children_text;
 use include_text::object::{included_object_text, show_object_text};
+use object_json::sent::shown_json;
 use rd_version::content::stream;
 use std::alloc::Global;
 
@@ -35,7 +36,7 @@ fn shown_step(
     ensures { Tells (shown_step state.now entry.now) result }
 {
     let (made, reply) = advance(alloc, state, entry)?;
-    match text_of(alloc, reply, made.step()) {
+    match text_of(alloc, &reply, made.step()) {
         Ok(shown) => Ok((made, shown)),
         Err(_) => Err(Halt::Memory),
     }
@@ -82,7 +83,7 @@ fn sent_stream(
     ensures { Meets (λ s. s) result (sent_stream state.now user.now place.now asked.now) }
 {
     let reply = stream(alloc, state, user, place, asked)?;
-    let shown = text_of(alloc, Reply::Content(reply), state.step())?;
+    let shown = text_of(alloc, &Reply::Content(reply), state.step())?;
     Ok(shown)
 }
 
@@ -127,7 +128,7 @@ fn sent_reply(alloc: Global, state: &State, user: &Text, question: &Question) ->
     ensures { Meets (λ s. s) result (shown_answer state.now user.now question.now) }
 {
     let reply = read(alloc, state, user, question)?;
-    let shown = text_of(alloc, reply, state.step())?;
+    let shown = text_of(alloc, &reply, state.step())?;
     Ok(shown)
 }
 

@@ -1,35 +1,15 @@
 -- A run ends with 3 or 4 only where the failure of that side was counted.
-use Rattle.std.specs.Prelude.{◌≡◌, ◌==◌, ℕ, Bool, true, false, List, Option, Some, None}
-use Rattle.std.proofs.Common.{refl, sym, ap, ◌∙◌, inl, inr}
-use Rattle.std.proofs.lemmas.Bool.{both_ways, le-leb}
+use Rattle.std.specs.Prelude.{◌==◌, ℕ, List, Option, Some, None}
+use Rattle.std.proofs.Common.{refl, sym, ◌∙◌, inl, inr}
+use Rattle.std.proofs.lemmas.Bool.{le-leb}
 use Rattle.outside.specs.Clocks.{Words}
 use Rattle.outside.specs.Outside.{SourceTold, SinkTold}
-use Rattle.talk.specs.declared.end.End.{End}
-use Rattle.talk.specs.declared.end.End.TheVariants.{Ended, Bad, ReadFault, WriteFault, Starved}
-use Rattle.talk.specs.Wire.{Wire}
-use Rattle.talk.specs.Session.{Turn, Ends}
 use Rattle.cmis_app.specs.Loads.{Loaded}
 use Rattle.cmis_words.specs.declared.words.Words.{Words as Asked}
 use Rattle.cmis_words.specs.declared.words.Words.TheVariants.{Pipe}
-use Rattle.cmis_app.specs.Runs.{status_of, Ran, OnlyWhereFailed}
-
--- the numbers differ
-pub apart : {G : Type 0} (p : ℕ → Bool) (m n : ℕ) → p m ≡ true → p n ≡ false → m ≡ n → G
-apart p m n h k e = absurd (both_ways false refl (sym k ∙ (sym (ap p e) ∙ h)))
-
-input_of : {C : Type 0} (w : Wire) (ts : List (Turn C)) (rest : List ℕ) (over : Bool) (output : List ℕ) (r f : Bool) (end : End) → Ends w ts rest over output r f end → status_of end ≡ 3 → r ≡ true
-input_of w ts rest over output r f Ended e h = apart (λ n. n == 0) 0 3 refl refl h
-input_of w ts rest over output r f (Bad fault) e h = apart (λ n. n == 8) 8 3 refl refl h
-input_of w ts rest over output r f ReadFault e h = e.1
-input_of w ts rest over output r f WriteFault e h = apart (λ n. n == 4) 4 3 refl refl h
-input_of w ts rest over output r f Starved e h = apart (λ n. n == 7) 7 3 refl refl h
-
-output_of : {C : Type 0} (w : Wire) (ts : List (Turn C)) (rest : List ℕ) (over : Bool) (output : List ℕ) (r f : Bool) (end : End) → Ends w ts rest over output r f end → status_of end ≡ 4 → f ≡ true
-output_of w ts rest over output r f Ended e h = apart (λ n. n == 0) 0 4 refl refl h
-output_of w ts rest over output r f (Bad fault) e h = apart (λ n. n == 8) 8 4 refl refl h
-output_of w ts rest over output r f ReadFault e h = apart (λ n. n == 3) 3 4 refl refl h
-output_of w ts rest over output r f WriteFault e h = e.1
-output_of w ts rest over output r f Starved e h = apart (λ n. n == 7) 7 4 refl refl h
+use Rattle.run_status.specs.Status.{OnlyWhereFailed}
+use Rattle.run_status.proofs.Failed.{apart, input_of, output_of}
+use Rattle.cmis_app.specs.Runs.{Ran}
 
 pub failed : (asked : Option Asked) (clock : Option Words) (before : SourceTold) (empty : SinkTold) (after : SourceTold) (full : SinkTold) (status : ℕ) → Ran asked clock before empty after full status → OnlyWhereFailed before empty after full status
 failed None clock before empty after full status (inl h) = record {

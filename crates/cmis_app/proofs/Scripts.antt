@@ -12,10 +12,10 @@ use Rattle.schedule_run.specs.declared.end.End.TheVariants.{Over, NotValid, Read
 use Rattle.cmis_words.specs.Scheduling.{are_schedule}
 use Rattle.cmis_app.specs.Loads.{beginning}
 use Rattle.cmis_app.specs.Once.{LoadsOrServes, RunsOnce}
-use Rattle.cmis_app.specs.Runs.{OnlyWhereFailed}
+use Rattle.run_status.specs.Status.{OnlyWhereFailed}
 use Rattle.cmis_app.specs.Schedules.{plain, status_at, Schedules}
 use Rattle.cmis_app.specs.Scripting.{script_calls}
-use Rattle.cmis_app.proofs.Failed.{apart}
+use Rattle.run_status.proofs.Failed.{apart}
 
 -- a run from the beginning
 pub begun : (opening : Repository) (before : SourceTold) (empty : SinkTold) (after : SourceTold) (full : SinkTold) (end : End) (status : ℕ)

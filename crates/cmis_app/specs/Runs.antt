@@ -1,8 +1,7 @@
 -- What a run of the program does: what it writes, and the status with which it ends.
-use Rattle.std.specs.Prelude.{◌≡◌, ◌⊎◌, ℕ, true, List, [], ◌∷◌, ◌++◌, codes, Option, Some, None, IfSome}
+use Rattle.std.specs.Prelude.{◌≡◌, ◌⊎◌, ℕ, List, [], Option, Some, None, IfSome}
 use Rattle.outside.specs.Clocks.{Words, first_word, rest_words}
-use Rattle.outside.specs.Outside.{SourceTold, SinkTold, Took, Rose}
-use Rattle.http_reply.specs.Sent.{TookFront}
+use Rattle.outside.specs.Outside.{SourceTold, SinkTold}
 use Rattle.cm_base.specs.declared.number.Moment.{Moment}
 use Rattle.cm_base.specs.declared.user.User.{User}
 use Rattle.cm_base.specs.declared.user.Group.{Group}
@@ -13,19 +12,10 @@ use Rattle.cm_repo.specs.Served.{repository}
 use Rattle.desk_model.specs.declared.entry.Entry.{Entry}
 use Rattle.desk_model.specs.Clocks.{moment_of}
 use Rattle.talk.specs.declared.end.End.{End}
-use Rattle.talk.specs.declared.end.End.TheVariants.{Ended, Bad, ReadFault, WriteFault, Starved}
 use Rattle.talk.specs.Ran.{RunAlone}
-use Rattle.talk.specs.Talked.{rose}
+use Rattle.run_status.specs.Status.{status_of, Refused, Unbegun}
 use Rattle.cmis_words.specs.declared.words.Words.{Words as Asked}
 use Rattle.cmis_words.specs.declared.words.Words.TheVariants.{Pipe}
-
--- the status of a session's end
-abbrev pub status_of : End → ℕ
-status_of Ended = 0
-status_of ReadFault = 3
-status_of WriteFault = 4
-status_of Starved = 7
-status_of (Bad fault) = 8
 
 -- A session over this opening and a clock with these words, with nobody beside it; the session takes no other words of the clock than its turns need, and leaves these.
 -- A session that ends well or by a fault of its bytes is the session alone on all that the source had left.
@@ -52,18 +42,6 @@ pub record Piped (users : List User) (groups : List Group) (at : Option Moment) 
   pub begins : Begins at clock root words
   pub served : Served (opening base_types users groups root from) users words before empty after full status
 
--- what is written for words that are none of the program's
-abbrev pub not_valid : List ℕ
-not_valid = codes "cmisd: words are not valid" ++ 10 ∷ []
-
--- Words that are none of the program's end with 2: the line was written, or the output failed in this call, and a front of it was written.
-abbrev pub Refused : SinkTold → SinkTold → ℕ → Type 0
-Refused empty full status = (status ≡ 2) × (Took empty full not_valid ⊎ Rose empty.faults full.faults × TookFront empty full not_valid)
-
--- 7: there was no memory to begin, and nothing was read or written
-abbrev pub Unbegun : SourceTold → SinkTold → SourceTold → SinkTold → ℕ → Type 0
-Unbegun before empty after full status = (status ≡ 7) × (after ≡ before) × (full ≡ empty)
-
 -- Of a run with these words, by the words that the clock had to give. Other words than the program's read nothing.
 abbrev pub Ran : Option Asked → Option Words → SourceTold → SinkTold → SourceTold → SinkTold → ℕ → Type 0
 Ran None clock before empty after full status =
@@ -72,8 +50,3 @@ Ran None clock before empty after full status =
 Ran (Some (Pipe asked)) clock before empty after full status =
     Unbegun before empty after full status
     ⊎ Piped asked.users asked.groups asked.at asked.from clock before empty after full status
-
--- 3 and 4 come only where the input, the output failed in this call
-pub record OnlyWhereFailed (before : SourceTold) (empty : SinkTold) (after : SourceTold) (full : SinkTold) (status : ℕ) : Type 0 where
-  pub input : status ≡ 3 → rose before.faults after.faults ≡ true
-  pub output : status ≡ 4 → rose empty.faults full.faults ≡ true

@@ -3,8 +3,6 @@
 
 ghost use Rattle.std.specs.Prelude.{◌≡◌};
 
-mod lent;
-mod line;
 mod loaded;
 mod made;
 mod many;
@@ -16,6 +14,6 @@ mod summary;
 
 pub use loaded::load;
 pub use many::serve;
-pub use once::{refuse, run_once};
+pub use once::run_once;
 pub use program::{Ran, run};
 pub use scheduled::schedule;

@@ -7,9 +7,9 @@ ghost use Rattle.desk_model.specs.Clocks.{moment_of};
 ghost use Rattle.cmis_words.specs.Programs.{words_of};
 ghost use Rattle.cmis_words.specs.Bounds.{IsMoment};
 ghost use Rattle.cmis_app.specs.Once.{LoadsOrServes, RunsOnce};
-ghost use Rattle.cmis_app.specs.Runs.{status_of, OnlyWhereFailed, always, Refused, Unbegun, Served, Piped, Ran};
+ghost use Rattle.run_status.specs.Status.{OnlyWhereFailed, Unbegun};
+ghost use Rattle.cmis_app.specs.Runs.{always, Served, Piped, Ran};
 
-use crate::lent::Lent;
 use crate::load;
 use crate::scheduled::schedule;
 use cm_base::number::Moment;
@@ -22,53 +22,13 @@ use cmis_words::load::read_load;
 use cmis_words::schedule::are_schedule;
 use cmis_words::words::{Pipe, Words, WordsStop, read_words};
 use desk_model::moment_of_word;
-use http_reply::send;
 use outside::{Clock, FixedClock, Link, OpenGate, Sink, Source};
+use run_status::{Lent, refused, status_of};
 use std::alloc::Global;
-use talk::{End, run_alone};
-
-/// The line for words that the program does not have.
-const NOT_VALID: &str = "cmisd: words are not valid\n";
-
-/// The status of words that the program does not have.
-const NOT_THE_PROGRAMS: u8 = 2;
+use talk::run_alone;
 
 /// The status where memory is wanted.
 const WANTS_MEMORY: u8 = 7;
-
-/// Writes the line for words that the program does not have, and answers the status 2, also where it could not be written.
-pub fn refuse<O: Sink>(output: &mut O) -> u8
-    ensures { Refused (O.told output.old) (O.told output.new) result }
-{
-    match send(output, NOT_VALID.as_bytes()) {
-        Ok(()) => NOT_THE_PROGRAMS,
-        Err(_) => NOT_THE_PROGRAMS,
-    }
-}
-
-// The same on a link.
-fn refused<L: Link>(link: &mut L) -> u8
-    ensures line { Refused (L.Sink.told link.old) (L.Sink.told link.new) result }
-    ensures unread { L.Source.told link.new ≡ L.Source.told link.old }
-    ensures stands_for { L.stands_for link.new ≡ L.stands_for link.old }
-{
-    match send(link, NOT_VALID.as_bytes()) {
-        Ok(()) => NOT_THE_PROGRAMS,
-        Err(_) => NOT_THE_PROGRAMS,
-    }
-}
-
-fn status_of(end: End) -> u8
-    ensures { result ≡ status_of end }
-{
-    match end {
-        End::Ended => 0,
-        End::ReadFault => 3,
-        End::WriteFault => 4,
-        End::Starved => WANTS_MEMORY,
-        End::Bad(_) => 8,
-    }
-}
 
 // Serves one session over an opening.
 fn serve<L: Link, C: Clock + Drop>(

@@ -5,18 +5,17 @@ ghost use Rattle.desk_model.specs.Histories.{state_of};
 ghost use Rattle.cm_repo.specs.Faces.{shown_step};
 ghost use Rattle.cmis_words.specs.Serving.{serve_of};
 ghost use Rattle.cmis_app.specs.Once.{RunsOnce};
-ghost use Rattle.cmis_app.specs.Runs.{OnlyWhereFailed};
-ghost use Rattle.cmis_app.specs.Many.{ServedAll, Hosted, Summed, Unserved, summary, status_of_end, status_of_loss};
+ghost use Rattle.run_status.specs.Status.{OnlyWhereFailed, Summed, summary};
+ghost use Rattle.cmis_app.specs.Many.{ServedAll, Hosted, Unserved};
 
-use crate::line::summary;
 use crate::many::serve;
 use crate::once::run_once;
 use cm_repo::face::Face;
 use cmis_words::serve::{Serve, read_serve};
 use cmis_words::words::WordsStop;
-use desk_serve::{Closing, HostEnd};
-use http_reply::send;
+use desk_serve::Closing;
 use outside::{Clock, Gate, Host, Link, Sink, Source};
+use run_status::sum_up;
 use std::alloc::Global;
 use std::sync::Wait;
 use std::thread::Threads;
@@ -24,45 +23,11 @@ use std::thread::Threads;
 /// The status where memory is wanted.
 const WANTS_MEMORY: u8 = 7;
 
-/// The status where the host fails.
-const HOST_FAILED: u8 = 5;
-
 /// What a run answers: its status, and what stands once all connections are served, if they were.
 #[derive(Drop)]
 pub struct Ran<L> {
     pub status: u8,
     pub closing: Option<Closing<Face, L>>,
-}
-
-fn status_of_end(end: HostEnd) -> u8
-    ensures { result ≡ status_of_end end }
-{
-    match end {
-        HostEnd::Empty | HostEnd::Many => 0,
-        HostEnd::Fault => HOST_FAILED,
-        HostEnd::Memory => WANTS_MEMORY,
-    }
-}
-
-fn status_of_loss(end: HostEnd) -> u8
-    ensures { result ≡ status_of_loss end }
-{
-    match end {
-        HostEnd::Empty | HostEnd::Many => 4,
-        HostEnd::Fault => HOST_FAILED,
-        HostEnd::Memory => WANTS_MEMORY,
-    }
-}
-
-// Writes the line that is written in the end, and answers the status.
-fn sum_up<O: Sink>(output: &mut O, sessions: u64, steps: u64, end: HostEnd) -> u8
-    ensures { Summed end (summary sessions steps) (O.told output.old) (O.told output.new) result }
-{
-    let line = summary(sessions, steps);
-    match send(output, line.bytes()) {
-        Ok(()) => status_of_end(end),
-        Err(_) => status_of_loss(end),
-    }
 }
 
 // Serves many connections.

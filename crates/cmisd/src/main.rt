@@ -1,9 +1,10 @@
 //! The program: it makes the real objects, calls the top call and ends with its status.
 #![tactic(auto)]
 
-use cmis_app::{refuse, run};
+use cmis_app::run;
 use outside::OpenGate;
 use real_edge::{StdSink, StdSource, SystemClock, TcpHost};
+use run_status::refuse;
 use std::alloc::{AllocError, Global};
 use std::io::ErrorKind;
 use std::process::ExitCode;

@@ -2,3 +2,4 @@ pub mod Access
 pub mod Lists
 pub mod Objects
 pub mod Pages
+pub mod Sent

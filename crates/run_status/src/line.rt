@@ -1,13 +1,13 @@
 //! The line that is written once all connections are served, put together in a fixed array.
 ghost use Rattle.std.specs.Prelude.{◌≡◌, ◌++◌, ◌≤◌, ◌+◌, [], take, length};
-ghost use Rattle.cmis_app.specs.Many.{summary};
+ghost use Rattle.run_status.specs.Status.{summary};
 
 use itoa::Buffer;
 use std::marker::Model;
 
 /// The bytes of a line, of which there are never more than 64.
 #[derive(Drop)]
-pub(crate) struct Line {
+pub struct Line {
     bytes: [u8; 64],
     len: usize,
 }
@@ -40,7 +40,7 @@ impl Line {
     }
 
     /// Its bytes.
-    pub(crate) fn bytes(&self) -> &[u8]
+    pub fn bytes(&self) -> &[u8]
         ensures { result.now ≡ self.now }
     {
         &self.bytes[..self.len]
@@ -56,7 +56,7 @@ impl Line {
 }
 
 /// How many sessions there were, and the step that the repository has reached. It takes no memory.
-pub(crate) fn summary(sessions: u64, steps: u64) -> Line
+pub fn summary(sessions: u64, steps: u64) -> Line
     ensures { result ≡ summary sessions steps }
 {
     let mut line = Line::new();
