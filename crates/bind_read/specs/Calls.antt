@@ -15,31 +15,31 @@ use Rattle.bind_parts.specs.declared.asking.Asking.{Asking}
 use Rattle.bind_parts.specs.Askings.{with_query, host_of}
 use Rattle.bind_form.specs.Forms.{method_of, form_of}
 use Rattle.bind_words.specs.Words.{service_of}
-use Rattle.bind_tree.specs.CreateFolder.{create_folder_of}
-use Rattle.bind_include.specs.Objects.{show_object_of, show_properties_of}
-use Rattle.bind_include.specs.Children.{show_children_of, show_default_of}
-use Rattle.bind_include.specs.Lists.{show_parents_of, show_versions_of}
-use Rattle.bind_document.specs.Writes.{create_document_of, check_out_of, check_in_of, delete_of, cancel_check_out_of}
-use Rattle.bind_document.specs.Readings.{content_of}
-use Rattle.bind_types.specs.Types.{type_definition_of, type_children_of, type_descendants_of, info_of}
-use Rattle.bind_content.specs.Writes.{set_content_of, append_content_of, delete_content_of}
-use Rattle.bind_access.specs.Readings.{parent_of, policies_of, acl_of}
-use Rattle.bind_change.specs.Filing.{move_of, add_to_folder_of, remove_from_folder_of}
-use Rattle.bind_query.specs.Query.{query_of as query_asked}
-use Rattle.bind_change.specs.Update.{update_of}
-use Rattle.bind_acl.specs.Writes.{apply_acl_of}
-use Rattle.bind_trees.specs.Readings.{descendants_of, folder_tree_of, checked_out_of}
-use Rattle.bind_log.specs.Readings.{changes_of}
-use Rattle.bind_type_change.specs.Writes.{create_type_of, update_type_of, delete_type_of}
-use Rattle.bind_create.specs.Writes.{create_item_of, create_policy_of, create_relationship_of}
-use Rattle.bind_source.specs.Writes.{create_document_from_source_of}
-use Rattle.bind_delete_tree.specs.Writes.{delete_tree_of}
-use Rattle.bind_policy.specs.Writes.{apply_policy_of, remove_policy_of}
-use Rattle.bind_bulk.specs.Writes.{bulk_update_of}
-use Rattle.bind_rendition.specs.Writes.{add_rendition_of}
-use Rattle.bind_rendition.specs.Readings.{renditions_of}
-use Rattle.bind_actions.specs.Readings.{actions_of}
-use Rattle.bind_relationships.specs.Readings.{relationships_of}
+use Rattle.bind_writes.specs.CreateFolder.{create_folder_of}
+use Rattle.bind_readings.specs.Objects.{show_object_of, show_properties_of}
+use Rattle.bind_readings.specs.Children.{show_children_of, show_default_of}
+use Rattle.bind_readings.specs.Lists.{show_parents_of, show_versions_of}
+use Rattle.bind_writes.specs.Documents.{create_document_of, check_out_of, check_in_of, delete_of, cancel_check_out_of}
+use Rattle.bind_readings.specs.Documents.{content_of}
+use Rattle.bind_readings.specs.Types.{type_definition_of, type_children_of, type_descendants_of, info_of}
+use Rattle.bind_writes.specs.Content.{set_content_of, append_content_of, delete_content_of}
+use Rattle.bind_readings.specs.Access.{parent_of, policies_of, acl_of}
+use Rattle.bind_writes.specs.Filing.{move_of, add_to_folder_of, remove_from_folder_of}
+use Rattle.bind_readings.specs.Query.{query_of as query_asked}
+use Rattle.bind_writes.specs.Update.{update_of}
+use Rattle.bind_writes.specs.Acl.{apply_acl_of}
+use Rattle.bind_readings.specs.Trees.{descendants_of, folder_tree_of, checked_out_of}
+use Rattle.bind_readings.specs.Log.{changes_of}
+use Rattle.bind_writes.specs.TypeChange.{create_type_of, update_type_of, delete_type_of}
+use Rattle.bind_writes.specs.Create.{create_item_of, create_policy_of, create_relationship_of}
+use Rattle.bind_writes.specs.Source.{create_document_from_source_of}
+use Rattle.bind_writes.specs.DeleteTree.{delete_tree_of}
+use Rattle.bind_writes.specs.Policy.{apply_policy_of, remove_policy_of}
+use Rattle.bind_writes.specs.Bulk.{bulk_update_of}
+use Rattle.bind_writes.specs.Rendition.{add_rendition_of}
+use Rattle.bind_readings.specs.Renditions.{renditions_of}
+use Rattle.bind_readings.specs.Actions.{actions_of}
+use Rattle.bind_readings.specs.Relationships.{relationships_of}
 
 -- the arguments of each service
 abbrev pub bound : Service → Asking → Judged Asked

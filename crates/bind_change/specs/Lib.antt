@@ -1,2 +1,0 @@
-pub mod Filing
-pub mod Update

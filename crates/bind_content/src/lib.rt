@@ -1,6 +1,0 @@
-//! The arguments of the calls on the content of documents (CMIS 1.1, section 5.4).
-#![tactic(auto)]
-
-ghost use Rattle.std.specs.Prelude.{◌≡◌};
-
-pub mod writes;

@@ -1,6 +1,0 @@
-//! The arguments of deleteTree (CMIS 1.1, section 5.4).
-#![tactic(auto)]
-
-ghost use Rattle.std.specs.Prelude.{◌≡◌};
-
-pub mod writes;

@@ -1,4 +1,0 @@
-pub mod Children
-pub mod Includes
-pub mod Lists
-pub mod Objects

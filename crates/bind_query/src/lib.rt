@@ -1,6 +1,0 @@
-//! The arguments of a query.
-#![tactic(auto)]
-
-ghost use Rattle.std.specs.Prelude.{◌≡◌};
-
-pub mod query;

@@ -1,0 +1,15 @@
+pub mod Access
+pub mod Actions
+pub mod Children
+pub mod Documents
+pub mod Filters
+pub mod Includes
+pub mod Lists
+pub mod Log
+pub mod Objects
+pub mod Order
+pub mod Query
+pub mod Relationships
+pub mod Renditions
+pub mod Trees
+pub mod Types

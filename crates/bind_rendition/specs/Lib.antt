@@ -1,3 +1,0 @@
-pub mod Filters
-pub mod Readings
-pub mod Writes

@@ -1,0 +1,13 @@
+pub mod Acl
+pub mod Bulk
+pub mod Content
+pub mod Create
+pub mod CreateFolder
+pub mod DeleteTree
+pub mod Documents
+pub mod Filing
+pub mod Policy
+pub mod Rendition
+pub mod Source
+pub mod TypeChange
+pub mod Update
