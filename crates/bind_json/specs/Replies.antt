@@ -12,13 +12,13 @@ use Rattle.type_replies.specs.Infos.{infos_data}
 use Rattle.type_replies.specs.Types.{definition_data, types_data, type_tree_data}
 use Rattle.object_json.specs.Lists.{objects_data}
 use Rattle.object_json.specs.Access.{acl_data}
-use Rattle.query_replies.specs.Rows.{query_data}
-use Rattle.tree_replies.specs.Trees.{tree_data}
-use Rattle.log_replies.specs.Changes.{changes_data}
-use Rattle.delete_tree_replies.specs.Left.{left_data}
-use Rattle.bulk_replies.specs.Updated.{updated_objects_data}
-use Rattle.rendition_replies.specs.Renditions.{reply_data}
-use Rattle.action_replies.specs.Actions.{actions_data}
+use Rattle.include_json.specs.Rows.{query_data}
+use Rattle.include_json.specs.Trees.{tree_data}
+use Rattle.call_json.specs.Changes.{changes_data}
+use Rattle.call_json.specs.Left.{left_data}
+use Rattle.call_json.specs.Updated.{updated_objects_data}
+use Rattle.call_json.specs.Renditions.{reply_data}
+use Rattle.call_json.specs.Actions.{actions_data}
 
 -- 201 where the call made what is shown
 abbrev pub status_of : Bool → ℕ

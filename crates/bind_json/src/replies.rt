@@ -2,26 +2,26 @@
 ghost use Rattle.std.specs.Prelude.{◌≡◌, Some, IfOk};
 ghost use Rattle.bind_json.specs.Replies.{status_of, shown_left, shown_reply};
 
-use action_replies::actions::actions_json;
-use bulk_replies::updated::updated_objects_json;
+use call_json::actions::actions_json;
+use call_json::changes::changes_json;
+use call_json::left::left_json;
+use call_json::renditions::reply_json;
+use call_json::updated::updated_objects_json;
 use call_parts::replies::ContentReply;
 use cm_base::shown::Shown;
 use cm_call::reply::Reply;
 use delete_tree_parts::replies::DeleteTreeReply;
-use delete_tree_replies::left::left_json;
 use include_json::pages::{
     children_json, objects_json as included_objects_json, page_json, parents_json,
     reply_json as included_json,
 };
-use log_replies::changes::changes_json;
+use include_json::rows::query_json;
+use include_json::tree::tree_json;
 use object_json::access::acl_json;
 use object_json::lists::objects_json;
 use object_json::objects::object_json;
 use object_json::sent::{sent, shown_as, shown_nothing};
-use query_replies::rows::query_json;
-use rendition_replies::renditions::reply_json;
 use std::alloc::{AllocError, Global};
-use tree_replies::tree::tree_json;
 use type_replies::info::info_reply_json;
 use type_replies::tree::type_tree_json;
 use type_replies::types::{type_json, types_json};

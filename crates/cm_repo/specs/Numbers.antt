@@ -11,7 +11,7 @@ use Rattle.cm_call.specs.declared.reply.Reply.{Reply}
 use Rattle.cm_call.specs.declared.reply.Reply.TheVariants as replies
 use Rattle.serde_json.specs.Written.{compact_text}
 use Rattle.delete_tree_parts.specs.declared.replies.DeleteTreeReply.{DeleteTreeReply}
-use Rattle.delete_tree_replies.specs.Left.{left_data}
+use Rattle.call_json.specs.Left.{left_data}
 use Rattle.object_json.specs.Sent.{shown_json, shown_nothing}
 use Rattle.bind_json.specs.Replies.{shown_reply}
 use Rattle.cmis_spec.specs.Repository.{Repository}

@@ -3,11 +3,11 @@ use Rattle.std.specs.Prelude.{ℕ, true, List, [], ◌∷◌, ◌++◌, codes, m
 use Rattle.serde_json.specs.Data.{Data, boolean, string}
 use Rattle.json_text.specs.Build.{object_data, list_data}
 use Rattle.action_parts.specs.declared.replies.ActionFlag.{ActionFlag}
-use Rattle.action_replies.specs.Actions.{flags_data}
+use Rattle.call_json.specs.Actions.{flags_data}
 use Rattle.call_parts.specs.declared.replies.AclReply.{AclReply}
 use Rattle.call_parts.specs.declared.replies.ShownObject.{ShownObject}
 use Rattle.rendition_parts.specs.declared.replies.ShownRendition.{ShownRendition}
-use Rattle.rendition_replies.specs.Renditions.{renditions_data}
+use Rattle.call_json.specs.Renditions.{renditions_data}
 use Rattle.include_parts.specs.declared.replies.IncludedObject.{IncludedObject}
 use Rattle.include_parts.specs.declared.replies.ShownBeside.{ShownBeside}
 use Rattle.object_json.specs.Access.{acl_data}

@@ -1,2 +1,4 @@
 pub mod Included
 pub mod Pages
+pub mod Rows
+pub mod Trees

@@ -7,7 +7,8 @@ ghost use Rattle.object_json.specs.Objects.{properties_data, properties_of_objec
 ghost use Rattle.include_json.specs.Included.{acl_fields, action_fields, fields_beside, ids_data, included_data, policy_fields, relationship_fields, rendition_fields};
 
 use action_parts::replies::AllowableActions;
-use action_replies::actions::flags_json;
+use call_json::actions::flags_json;
+use call_json::renditions::renditions_json;
 use call_parts::replies::{AclReply, Properties, ShownObject, ShownObjects, ShownProperty};
 use cm_base::text::{Text, Texts};
 use cm_base::value::Slot;
@@ -17,7 +18,6 @@ use json_text::values::value_json;
 use object_json::access::acl_json;
 use object_json::objects::{alone, object_json, property_json};
 use rendition_parts::replies::ShownRenditions;
-use rendition_replies::renditions::renditions_json;
 use std::alloc::{AllocError, Global};
 
 fn properties_json(alloc: Global, properties: &[ShownProperty]) -> Result<Json, AllocError>

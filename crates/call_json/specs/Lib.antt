@@ -1,0 +1,5 @@
+pub mod Actions
+pub mod Changes
+pub mod Left
+pub mod Renditions
+pub mod Updated

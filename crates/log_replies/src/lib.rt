@@ -1,7 +1,0 @@
-//! Replies on the change log as JSON (CMIS 1.1, section 5.2.11).
-#![tactic(auto)]
-
-ghost use Rattle.std.specs.Prelude.{◌≡◌};
-
-pub mod changes;
-mod event;

@@ -1,6 +1,0 @@
-//! Replies with renditions as JSON (CMIS 1.1, section 5.2.11).
-#![tactic(auto)]
-
-ghost use Rattle.std.specs.Prelude.{◌≡◌};
-
-pub mod renditions;
