@@ -8,6 +8,7 @@ use call_json::left::left_json;
 use call_json::renditions::reply_json;
 use call_json::updated::updated_objects_json;
 use call_parts::replies::ContentReply;
+use cm_base::copies::Copies;
 use cm_base::shown::Shown;
 use cm_call::reply::Reply;
 use delete_tree_parts::replies::DeleteTreeReply;

@@ -23,6 +23,9 @@ use std::thread::Threads;
 /// The status where memory is wanted.
 const WANTS_MEMORY: u8 = 7;
 
+/// The status where the host fails.
+const HOST_FAILED: u8 = 5;
+
 /// What a run answers: its status, and what stands once all connections are served, if they were.
 #[derive(Drop)]
 pub struct Ran<L> {
