@@ -11,6 +11,7 @@ use crate::block::Block;
 use crate::blocks::{Leaf, Middle};
 use crate::key::{Headed, Key};
 use crate::leaf::{find_in, gap, range_in};
+use crate::places::cut;
 use crate::row::{joined, row_changed, row_found, row_ranged};
 use crate::rows::{push_all, spliced};
 use std::alloc::{AllocError, Global};
@@ -47,7 +48,7 @@ pub fn shared<B: Drop>(alloc: Global, xs: &[Arc<B>]) -> Result<Vec<Arc<B>>, Allo
     ensures items { IfOk result (λ v. map arc_value v.items ≡ map arc_value xs.now) }
     ensures len { IfOk result (λ v. length v.items ≡ length xs.now) }
 {
-    let mut out = Vec::new(alloc);
+    let mut out = Vec::with_capacity(alloc, xs.len())?;
     push_all(&mut out, xs)?;
     Ok(out)
 }
@@ -85,12 +86,15 @@ fn middle_of<K: Key, V: Drop>(
     Ok(middle)
 }
 
-/// The entries as one or two leaves, or none: 129 entries are split in two.
+/// The entries as one or two leaves, or none: 129 entries are split in two at `cut`.
 pub fn leaf_pieces<K: Key, V: Drop>(
     alloc: Global,
     entries: Vec<Arc<(K, V)>>,
+    cut: usize,
 ) -> Result<Vec<Arc<Leaf<K, V>>>, AllocError>
-    requires { length entries.items ≤ 129 }
+    requires few { length entries.items ≤ 129 }
+    requires least { 1 ≤ cut }
+    requires most { cut ≤ 128 }
     ensures entries { IfOk result (λ v. flat_map leaf_entries (map arc_value v.items) ≡ map arc_value entries.items) }
     ensures whole { IfOk result (λ v. AllByRecursion IsLeaf (map arc_value v.items)) }
     ensures spaced { IfOk result (λ v. Spaced (map leaf_count (map arc_value v.items))) }
@@ -105,7 +109,7 @@ pub fn leaf_pieces<K: Key, V: Drop>(
         out.push(leaf)?;
         return Ok(out);
     }
-    let (low, high) = halves(alloc, &entries, 64)?;
+    let (low, high) = halves(alloc, &entries, cut)?;
     let first = Arc::new(alloc, Leaf { entries: low })?;
     out.push(first)?;
     let second = Arc::new(alloc, Leaf { entries: high })?;
@@ -113,12 +117,15 @@ pub fn leaf_pieces<K: Key, V: Drop>(
     Ok(out)
 }
 
-/// The leaves as one or two middle blocks, or none: 129 leaves are split in two.
+/// The leaves as one or two middle blocks, or none: 129 leaves are split in two at `cut`.
 pub fn middle_pieces<K: Key, V: Drop>(
     alloc: Global,
     leaves: Vec<Arc<Leaf<K, V>>>,
+    cut: usize,
 ) -> Result<Vec<Arc<Middle<K, V>>>, AllocError>
     requires few { length leaves.items ≤ 129 }
+    requires least { 1 ≤ cut }
+    requires most { cut ≤ 128 }
     requires whole { AllByRecursion IsLeaf (map arc_value leaves.items) }
     requires spaced { Spaced (map leaf_count (map arc_value leaves.items)) }
     ensures entries { IfOk result (λ v. flat_map middle_entries (map arc_value v.items) ≡ flat_map leaf_entries (map arc_value leaves.items)) }
@@ -135,7 +142,7 @@ pub fn middle_pieces<K: Key, V: Drop>(
         out.push(middle)?;
         return Ok(out);
     }
-    let (low, high) = halves(alloc, &leaves, 64)?;
+    let (low, high) = halves(alloc, &leaves, cut)?;
     let first = middle_of(alloc, low)?;
     out.push(first)?;
     let second = middle_of(alloc, high)?;
@@ -184,8 +191,9 @@ impl<K: Key, V: Drop> Block<K, V> for Leaf<K, V> {
         ensures spaced { IfOk result (λ v. Spaced (map leaf_count (map arc_value v.items))) }
         ensures few { IfOk result (λ v. length v.items ≤ 2) }
     {
+        let cut = cut::<K, (K, V)>(&self.entries, key);
         let entries = change_in(alloc, &self.entries, key, new)?;
-        let pieces = leaf_pieces(alloc, entries)?;
+        let pieces = leaf_pieces(alloc, entries, cut)?;
         Ok(pieces)
     }
 
@@ -257,8 +265,9 @@ impl<K: Key, V: Drop> Block<K, V> for Middle<K, V> {
         ensures spaced { IfOk result (λ v. Spaced (map middle_count (map arc_value v.items))) }
         ensures few { IfOk result (λ v. length v.items ≤ 2) }
     {
+        let cut = cut::<K, Leaf<K, V>>(&self.leaves, key);
         let leaves = row_changed::<K, V, Leaf<K, V>>(alloc, &self.leaves, key, new)?;
-        let pieces = middle_pieces(alloc, leaves)?;
+        let pieces = middle_pieces(alloc, leaves, cut)?;
         Ok(pieces)
     }
 

@@ -56,8 +56,8 @@ fn blocks_changed<K: Key, V: Drop>(
         match new {
             Some(entry) => {
                 entries.push(entry)?;
-                let leaves = leaf_pieces(alloc, entries)?;
-                let blocks = middle_pieces(alloc, leaves)?;
+                let leaves = leaf_pieces(alloc, entries, 1)?;
+                let blocks = middle_pieces(alloc, leaves, 1)?;
                 return Ok(blocks);
             }
             None => {

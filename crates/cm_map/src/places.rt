@@ -1,5 +1,5 @@
 //! Where a key falls in a row whose members begin with rising keys.
-ghost use Rattle.std.specs.Prelude.{◌≡◌, ◌+◌, ◌<◌, false, map, length, drop, IfSome, IsSome};
+ghost use Rattle.std.specs.Prelude.{◌≡◌, ◌+◌, ◌<◌, ◌≤◌, false, map, length, drop, IfSome, IsSome};
 ghost use Rattle.std.specs.Arc.{arc_value};
 ghost use Rattle.core.specs.List.{AllByRecursion};
 ghost use Rattle.core.specs.Ordering.{is_gt};
@@ -31,6 +31,24 @@ pub fn place<K: Key, B: Headed<K>>(xs: &[Arc<B>], key: &K) -> usize
         }
     }
     lo
+}
+
+/// Where a row of 129 members is split that the key made too long: behind all others where the key falls there, so that what
+/// grows at its end fills its blocks, and else in the middle.
+pub fn cut<K: Key, B: Headed<K>>(xs: &[Arc<B>], key: &K) -> usize
+    requires heads { AllByRecursion (λ b. IsSome (B.first b)) (map arc_value xs.now) }
+    ensures least { 1 ≤ result }
+    ensures most { result ≤ 128 }
+{
+    if xs.is_empty() {
+        return 64;
+    }
+    let last: &Arc<B> = &xs[xs.len() - 1];
+    if last.head().cmp(key).is_lt() {
+        128
+    } else {
+        64
+    }
 }
 
 /// The members that can hold keys from `least` to `most`: none before these and none past them does.

@@ -71,9 +71,9 @@ pub fn replaced<K: Key, V: Drop, B: Block<K, V>>(
     ensures spaced { IfOk result (λ v. Spaced (map B.count (map arc_value v.items))) }
     ensures most { IfOk result (λ v. length v.items + 1 ≤ length xs.now + length pieces.now) }
 {
-    let mut left = Vec::new(alloc);
-    push_all(&mut left, &xs[..i])?;
-    let left = joined::<K, V, B>(alloc, left, pieces)?;
+    let mut before = Vec::with_capacity(alloc, xs.len().saturating_add(1))?;
+    push_all(&mut before, &xs[..i])?;
+    let left = joined::<K, V, B>(alloc, before, pieces)?;
     let row = joined::<K, V, B>(alloc, left, &xs[i + 1..])?;
     Ok(row)
 }

@@ -7,7 +7,7 @@ pub returns : goal.returns
 returns g c =
     let xs = c.args.xs.now in
     let rest = take (length xs - c.args.to) (drop c.args.to xs) in
-    let a = c.in_ok-push_all.ensures ∙ ap (λ v. map arc_value v ++ map arc_value (take c.args.from xs)) c.new-out.ensures.items in
+    let a = c.in_ok-push_all.ensures ∙ ap (λ v. map arc_value v ++ map arc_value (take c.args.from xs)) c.in_ok-out.ensures.items in
     let b = c.in_ok-push_all-2.ensures in
     let d = c.in_ok-push_all-3.ensures in
     d ∙ ap (λ l. l ++ map arc_value rest) (b ∙ ap (λ l. l ++ map arc_value c.args.new.now) a)
