@@ -1,4 +1,4 @@
--- An action that is shown on an object, and the call that it names (CMIS 1.1, section 2.2.4.6): where the action is not allowed the call is refused,
+-- An action that is shown on an object, and the call that it names (CMIS 1.1, section 2.2.4.7): where the action is not allowed the call is refused,
 -- and where it is allowed, it is refused by none of the causes that stand for the action.
 use Rattle.std.specs.Prelude.{◌≡◌, ◌≢◌, ℕ, Bool, true, false, ◌&&◌, not, List, [], ◌∷◌, All, Option, Some, None, Err, is_err, unwrap_or, option_map, option_and_then, codes}
 use Rattle.std.specs.List.{list_any}

@@ -1,5 +1,5 @@
 //! Where an action is shown as not allowed on an object, the call that it names is refused, and where it is shown as allowed, that call is
-//! refused by none of the causes that stand for the action (CMIS 1.1, section 2.2.4.6): laws alone, each as a clause of a function
+//! refused by none of the causes that stand for the action (CMIS 1.1, section 2.2.4.7): laws alone, each as a clause of a function
 //! that does nothing. Five of the thirty actions are always allowed and need no law: GetAcl, GetAppliedPolicies,
 //! GetObjectRelationships, GetProperties and GetRenditions.
 #![tactic(auto)]

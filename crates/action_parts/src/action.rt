@@ -1,4 +1,4 @@
-//! The actions on an object, and their names (CMIS 1.1, sections 2.1.12.3 and 2.2.4.6).
+//! The actions on an object, and their names (CMIS 1.1, sections 2.1.12.3 and 2.2.4.7).
 ghost use Rattle.std.specs.Prelude.{◌≡◌};
 ghost use Rattle.action_parts.specs.Actions.{all_actions, name_of_action};
 

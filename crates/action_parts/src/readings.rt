@@ -1,4 +1,4 @@
-//! The arguments of the reading of allowable actions (CMIS 1.1, section 2.2.4.6).
+//! The arguments of the reading of allowable actions (CMIS 1.1, section 2.2.4.7).
 use call_parts::place::Place;
 
 /// Which actions the caller may do on an object.

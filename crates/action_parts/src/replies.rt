@@ -1,4 +1,4 @@
-//! What replies hold of the actions on an object (CMIS 1.1, sections 2.2.4.6 and 5.2.11).
+//! What replies hold of the actions on an object (CMIS 1.1, sections 2.2.4.7 and 5.2.11).
 use crate::action::Action;
 use cm_base::items::Items;
 

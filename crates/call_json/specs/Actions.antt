@@ -1,4 +1,4 @@
--- The JSON of the actions that a caller is allowed on an object (CMIS 1.1, sections 2.2.4.6 and 5.2.11).
+-- The JSON of the actions that a caller is allowed on an object (CMIS 1.1, sections 2.2.4.7 and 5.2.11).
 use Rattle.std.specs.Prelude.{ℕ, List, map}
 use Rattle.serde_json.specs.Data.{Data, boolean}
 use Rattle.json_text.specs.Build.{object_data}

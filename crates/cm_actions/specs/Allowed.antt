@@ -1,4 +1,4 @@
--- The actions that a caller is allowed on an object (CMIS 1.1, section 2.2.4.6): the table of this project's profile.
+-- The actions that a caller is allowed on an object (CMIS 1.1, section 2.2.4.7): the table of this project's profile.
 use Rattle.std.specs.Prelude.{ℕ, Bool, true, false, ◌&&◌, ◌||◌, not, List, map, is_some, unwrap_or, option_map, bytes_eq, codes}
 use Rattle.std.specs.Result.{is_ok}
 use Rattle.cm_base.specs.declared.object.Object.{Object}

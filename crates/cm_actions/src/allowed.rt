@@ -93,7 +93,7 @@ fn flags(alloc: Global, g: &Grounds, actions: &[Action]) -> Result<AllowableActi
     Ok(Items::from_vec(all))
 }
 
-/// Each action on the object, and whether the caller, who reads it, may do it (CMIS 1.1, section 2.2.4.6). Its look-ups are made once.
+/// Each action on the object, and whether the caller, who reads it, may do it (CMIS 1.1, section 2.2.4.7). Its look-ups are made once.
 pub fn actions(
     alloc: Global,
     state: &State,

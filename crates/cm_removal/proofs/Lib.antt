@@ -1,7 +1,7 @@
-mod Filters
-mod Ones
-mod Tied
-mod Lefts
-mod Leaving
-mod Renditions
-mod Whole
+pub mod Filters
+pub mod Ones
+pub mod Tied
+pub mod Lefts
+pub mod Leaving
+pub mod Renditions
+pub mod Whole

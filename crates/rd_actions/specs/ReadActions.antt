@@ -1,4 +1,4 @@
--- The actions that the caller is allowed on an object (CMIS 1.1, section 2.2.4.6).
+-- The actions that the caller is allowed on an object (CMIS 1.1, section 2.2.4.7).
 use Rattle.std.specs.Prelude.{ℕ, List, Ok}
 use Rattle.cm_base.specs.declared.object.Object.{Object}
 use Rattle.cm_base.specs.declared.cause.Cause.TheVariants as causes

@@ -1,4 +1,4 @@
-//! The actions that the caller is allowed on an object (CMIS 1.1, section 2.2.4.6).
+//! The actions that the caller is allowed on an object (CMIS 1.1, section 2.2.4.7).
 ghost use Rattle.std.specs.Prelude.{◌≡◌, IfOk};
 ghost use Rattle.cm_base.specs.Judged.{Meets};
 ghost use Rattle.rd_actions.specs.ReadActions.{actions_reply, answer_actions};

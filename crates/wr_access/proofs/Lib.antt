@@ -1,3 +1,3 @@
-mod Allowed
-mod Changed
-mod Permits
+pub mod Allowed
+pub mod Changed
+pub mod Permits

@@ -1,5 +1,5 @@
-mod Ends
-mod KeptUpdated
-mod Put
-mod Renamed
-mod Updating
+pub mod Ends
+pub mod KeptUpdated
+pub mod Put
+pub mod Renamed
+pub mod Updating

@@ -1,6 +1,6 @@
-mod Allowed
-mod AppendContent
-mod Changed
-mod DeleteContent
-mod SetContent
-mod Wholes
+pub mod Allowed
+pub mod AppendContent
+pub mod Changed
+pub mod DeleteContent
+pub mod SetContent
+pub mod Wholes

@@ -1,4 +1,4 @@
-mod Answered
-mod Keeping
-mod Values
-mod Visiting
+pub mod Answered
+pub mod Keeping
+pub mod Values
+pub mod Visiting

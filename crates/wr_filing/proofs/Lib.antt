@@ -1,9 +1,9 @@
-mod Adding
-mod Deep
+pub mod Adding
+pub mod Deep
 pub mod Entry
 pub mod Folders
-mod Moving
-mod Outs
-mod Removing
-mod Shifted
-mod Unfiled
+pub mod Moving
+pub mod Outs
+pub mod Removing
+pub mod Shifted
+pub mod Unfiled

@@ -1,2 +1,2 @@
-mod Applying
-mod Removing
+pub mod Applying
+pub mod Removing

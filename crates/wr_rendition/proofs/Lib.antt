@@ -1,3 +1,3 @@
-mod Added
-mod Kept
-mod Parts
+pub mod Added
+pub mod Kept
+pub mod Parts

@@ -1,6 +1,6 @@
-mod Changing
-mod Lines
-mod Making
-mod Numbers
-mod Removing
-mod Staying
+pub mod Changing
+pub mod Lines
+pub mod Making
+pub mod Numbers
+pub mod Removing
+pub mod Staying
