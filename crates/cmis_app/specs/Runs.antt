@@ -16,15 +16,18 @@ use Rattle.talk.specs.Ran.{RunAlone}
 use Rattle.run_status.specs.Status.{status_of, Refused, Unbegun}
 use Rattle.cmis_words.specs.declared.words.Words.{Words as Asked}
 use Rattle.cmis_words.specs.declared.words.Words.TheVariants.{Pipe}
+use Rattle.cmis_app.specs.Alike.{RepliesOfSeen}
 
 -- A session over this opening and a clock with these words, with nobody beside it; the session takes no other words of the clock than its turns need, and leaves these.
--- A session that ends well or by a fault of its bytes is the session alone on all that the source had left.
+-- A session that ends well or by a fault of its bytes is the session alone on all that the source had left. What a reading is replied is that of every
+-- well-formed repository in which its caller sees the same.
 pub record Served (opened : Repository) (users : List User) (words : Option Words) (before : SourceTold) (empty : SinkTold) (after : SourceTold) (full : SinkTold) (status : ℕ) : Type 0 where
   pub end : End
   pub status_is : status ≡ status_of end
   pub journal : List (Entry Write)
   pub left : Option Words
   pub ran : RunAlone repository opened users words before empty after full end journal left
+  pub alike : RepliesOfSeen opened
 
 -- a clock that always gives this word
 abbrev pub always : ℕ → Words

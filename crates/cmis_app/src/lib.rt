@@ -3,6 +3,7 @@
 
 ghost use Rattle.std.specs.Prelude.{◌≡◌};
 
+mod alike;
 mod loaded;
 mod made;
 mod many;
@@ -12,6 +13,7 @@ mod scheduled;
 mod scripting;
 mod summary;
 
+pub use alike::replies_of_seen;
 pub use loaded::load;
 pub use many::serve;
 pub use once::run_once;

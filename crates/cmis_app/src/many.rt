@@ -4,6 +4,7 @@ ghost use Rattle.cmis_spec.specs.Well.{HasGroups};
 ghost use Rattle.desk_serve.specs.Sessions.{Taken, EndsFor};
 ghost use Rattle.cmis_app.specs.Many.{ServedAll};
 
+use crate::alike::replies_of_seen;
 use cm_opening::open::open;
 use cm_repo::face::Face;
 use cmis_words::serve::Serve;
@@ -38,6 +39,8 @@ where
     let users = asked.users;
     let root = moment_of_word(clock.now());
     let opening = open(alloc, &users, asked.groups, root, 0)?;
+    replies_of_seen();
+    let _step = opening.step();
     match desk_serve::serve::<Face, H, &mut C, G, R>(
         rt,
         alloc,

@@ -10,6 +10,7 @@ ghost use Rattle.cmis_app.specs.Once.{LoadsOrServes, RunsOnce};
 ghost use Rattle.run_status.specs.Status.{OnlyWhereFailed, Unbegun};
 ghost use Rattle.cmis_app.specs.Runs.{always, Served, Piped, Ran};
 
+use crate::alike::replies_of_seen;
 use crate::load;
 use crate::scheduled::schedule;
 use cm_base::number::Moment;
@@ -44,6 +45,8 @@ fn serve<L: Link, C: Clock + Drop>(
         (L.Source.told link.new) (L.Sink.told link.new) result }
     ensures stands_for { L.stands_for link.new ≡ L.stands_for link.old }
 {
+    replies_of_seen();
+    let _step = opening.step();
     match run_alone::<Face, C, L, OpenGate>(alloc, opening, clock, users, link, &OpenGate) {
         Ok(run) => status_of(run.end),
         Err(_) => WANTS_MEMORY,

@@ -1,0 +1,12 @@
+use Rattle.std.proofs.Common.{inr}
+use Rattle.cmis_app.proofs.once.serve.Goals as goal
+
+pub returns-in-Ok-clause-ran : goal.returns-in-Ok-clause-ran
+returns-in-Ok-clause-ran g c = inr (record {
+  end = c.in-Ok.run.end;
+  status_is = c.status_of.ensures;
+  journal = c.in-Ok.run.last.journal;
+  left = g.C.Clock.words c.in-Ok.run.clock;
+  ran = c.in-Ok.ensures.ran;
+  alike = c.replies_of_seen.ensures c.args.opening c.step-_step.ensures.well;
+})

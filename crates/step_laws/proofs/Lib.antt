@@ -1,0 +1,9 @@
+pub mod Contents
+pub mod Moments
+pub mod Ordered
+pub mod Passing
+pub mod Replays
+pub mod Seen
+pub mod Steps
+pub mod Trees
+pub mod Updates
