@@ -2,14 +2,12 @@
 use Rattle.std.specs.Prelude.{◌≡◌, ℕ, List, Ok, is_some}
 use Rattle.std.proofs.Common.{refl, subst}
 use Rattle.cm_base.specs.declared.number.Moment.{Moment}
-use Rattle.cm_base.specs.Judged.{◌>>◌}
 use Rattle.call_parts.specs.declared.changes.AppendContent.{AppendContent}
 use Rattle.call_parts.specs.declared.changes.DeleteContent.{DeleteContent}
 use Rattle.call_parts.specs.declared.changes.SetContent.{SetContent}
 use Rattle.rendition_parts.specs.declared.writes.AddRendition.{AddRendition}
 use Rattle.cm_state.specs.Looks.{content_at}
 use Rattle.cmis_spec.specs.Repository.{Repository}
-use Rattle.cmis_spec.specs.Retention.{judge_kept}
 use Rattle.cmis_spec.specs.Well.{IsWellFormed}
 use Rattle.cmis_laws.proofs.Lists.{by_test}
 use Rattle.wr_content.specs.Changed.{changed_by}

@@ -1,7 +1,7 @@
 -- Why a write is refused, at another moment.
 use Rattle.std.specs.Prelude.{◌≡◌, ℕ, Bool, true, false, if◌then◌else◌, List, [], ◌∷◌, filter_map, Option, Some, None, Err, Ok, option_and_then, option_map}
 use Rattle.std.specs.List.{list_any}
-use Rattle.std.proofs.Common.{refl, sym, ap, subst, ◌∙◌}
+use Rattle.std.proofs.Common.{refl, ap, subst}
 use Rattle.std.proofs.lemmas.Bool.{both_ways}
 use Rattle.cm_base.specs.declared.cause.Cause.{Cause}
 use Rattle.cm_base.specs.declared.cause.Cause.TheVariants as causes
@@ -25,7 +25,7 @@ use Rattle.cm_see.specs.Addressed.{addressed}
 use Rattle.cmis_spec.specs.Access.{lacks}
 use Rattle.cmis_spec.specs.Documents.{is_working_copy}
 use Rattle.cmis_spec.specs.Repository.{Repository, object_at}
-use Rattle.cmis_spec.specs.Retention.{is_under_hold, judge_kept, judge_retention, retained_cause, retained_until, shortened_cause, ends_before}
+use Rattle.cmis_spec.specs.Retention.{is_under_hold, judge_kept, judge_retention, retained_cause, retained_until, ends_before}
 use Rattle.wr_rules.specs.Documents.{form_slots}
 use Rattle.wr_rules.specs.Rules.{judge_storage, unknown_type}
 use Rattle.wr_change.specs.Update.{cost_update, judge_allowed, judge_new_name, judge_update, props_updated, refusal_update, secondary_named, secondary_updated, values_updated}
@@ -60,19 +60,19 @@ steady_retention j k only = λ cause h no_retention. absurd (both_ways (is_of_re
 ok_err : {A : Type 0} (x : A) (c : Cause) → Ok x ≡ Err c → ⊥
 ok_err x c h = both_ways false refl (ap (λ j. elim j [ Ok y ↦ false | Err d ↦ true ]) h)
 
-err_eq : {A : Type 0} (x : Cause) (c : Cause) → Err {A = A} x ≡ Err c → x ≡ c
-err_eq x c h = ap (λ j. elim j [ Ok y ↦ x | Err d ↦ d ]) h
+cause_is : (x c : Cause) → judge_by (Some x) ≡ Err c → x ≡ c
+cause_is x c h = ap (λ j. elim j [ Ok y ↦ x | Err d ↦ d ]) h
 
 retained_only : (m : Moment) (o : Option Moment) (rest : Judged (Unit {0})) → IsRetention rest → IsRetention (judge_by (option_map (causes.Retained m) o) >> rest)
 retained_only m None rest only = only
-retained_only m (Some e) rest only = λ cause h. subst (λ c. is_of_retention c ≡ true) (err_eq (causes.Retained m e) cause h) refl
+retained_only m (Some e) rest only = λ cause h. subst (λ c. is_of_retention c ≡ true) (cause_is (causes.Retained m e) cause h) refl
 
 kept_only : (r : Repository) (m : Moment) (xs : List Object) → IsRetention (first_cause (retained_cause r m) xs)
 kept_only r m [] = λ cause h. absurd (ok_err tt cause h)
 kept_only r m (x ∷ xs) = retained_only m (retained_until r m x) (first_cause (retained_cause r m) xs) (kept_only r m xs)
 
 shortened_by : (m e : Moment) (b : Bool) → IsRetention (judge_by (if b then Some (causes.Shortened m e) else None))
-shortened_by m e true = λ cause h. subst (λ c. is_of_retention c ≡ true) (err_eq (causes.Shortened m e) cause h) refl
+shortened_by m e true = λ cause h. subst (λ c. is_of_retention c ≡ true) (cause_is (causes.Shortened m e) cause h) refl
 shortened_by m e false = λ cause h. absurd (ok_err tt cause h)
 
 shortened_only : (r : Repository) (m : Moment) (secondary : List (List ℕ)) (values : List Slot) (o : Option Moment)

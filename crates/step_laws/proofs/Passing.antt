@@ -26,5 +26,5 @@ found r u cost place lines h =
 
 -- of two choices, each where its test has come out so
 pub choose : {A : Type 0} (P : A → Type 0) (b : Bool) (x y : A) → (b ≡ true → P x) → (b ≡ false → P y) → P (if b then x else y)
-choose P true x y yes other = yes refl
-choose P false x y yes other = other refl
+choose P true x y one other = one refl
+choose P false x y one other = other refl

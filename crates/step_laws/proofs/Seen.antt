@@ -1,12 +1,12 @@
 -- What is sent of an answer follows from what the caller sees.
 use Rattle.std.specs.Prelude.{◌≡◌, ℕ, List, Ok}
 use Rattle.std.proofs.Common.{ap, sym}
-use Rattle.cm_base.specs.Judged.{Judged, ◌>>=◌}
+use Rattle.cm_base.specs.Judged.{◌>>=◌}
 use Rattle.bind_json.specs.Replies.{shown_reply}
 use Rattle.cm_call.specs.declared.reply.Reply.{Reply}
 use Rattle.cm_call.specs.declared.question.Question.{Question}
 use Rattle.cmis_spec.specs.Repository.{Repository}
-use Rattle.cmis_spec.specs.Seen.{OfSeen, seen}
+use Rattle.cmis_spec.specs.Seen.{OfSeen}
 use Rattle.cm_repo.specs.Calls.{answer_of}
 use Rattle.cm_repo.specs.Faces.{shown_answer}
 

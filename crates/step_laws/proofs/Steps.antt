@@ -1,6 +1,6 @@
 -- Each write keeps what is well formed, and so does each step.
-use Rattle.std.specs.Prelude.{◌≡◌, ℕ, List, Result, Ok, Err}
-use Rattle.std.proofs.Common.{refl, sym, ap, subst}
+use Rattle.std.specs.Prelude.{◌≡◌, ℕ, List, Ok, Err}
+use Rattle.std.proofs.Common.{refl, ap, subst}
 use Rattle.cm_base.specs.declared.number.Moment.{Moment}
 use Rattle.cm_base.specs.Judged.{Judged, ◌>>◌}
 use Rattle.cm_call.specs.declared.reply.Reply.{Reply}

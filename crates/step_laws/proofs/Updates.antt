@@ -1,5 +1,5 @@
 -- The update of one object and of several, and changed access lists, keep what is well formed.
-use Rattle.std.specs.Prelude.{◌≡◌, ℕ, false, List, [], ◌∷◌, fold, Option, Some, None, IfSome, Ok, Err, option_map, unwrap_or}
+use Rattle.std.specs.Prelude.{◌≡◌, ℕ, true, false, List, [], ◌∷◌, fold, Option, Some, None, IfSome, Ok, Err, option_map, unwrap_or}
 use Rattle.std.proofs.Common.{refl, sym, ap, subst}
 use Rattle.std.proofs.lemmas.Bool.{both_ways}
 use Rattle.cm_base.specs.declared.number.Moment.{Moment}
@@ -43,7 +43,7 @@ keeps_update r u m cost call w h =
 
 not_refused : (j : Judged (Unit {0})) → is_refused j ≡ false → j ≡ Ok tt
 not_refused (Ok x) e = refl
-not_refused (Err c) e = absurd (both_ways false e refl)
+not_refused (Err c) e = absurd (both_ways true e refl)
 
 abbrev IsWellThen : Option (Repository × Oid) → Type 0
 IsWellThen o = IfSome o (λ c. IsWellFormed c.0)
