@@ -11,5 +11,5 @@ returns-in-Ok-clause-served g c = record {
   begins = search rules;
   closed = subst (λ (o : Repository). Closed (record { kind = repository; source = g.H.Link.Source.told; sink = g.H.Link.Sink.told; users = c.args.asked.users; links = g.H.Host.left c.args.host.now }) o c.in-Ok.closing.last c.in-Ok.closing.ended)
       c.in_ok-opening.ensures c.in-Ok.ensures.closed;
-  alike = subst RepliesOfSeen c.in_ok-opening.ensures (c.replies_of_seen.ensures c.in_ok-opening.opening c.step-_step.ensures.well);
+  alike = subst RepliesOfSeen c.in_ok-opening.ensures (c.replies_of_seen.ensures c.in_ok-opening.opening c.step-step.ensures.well);
 }

@@ -8,5 +8,5 @@ returns-in-Ok-clause-ran g c = inr (record {
   journal = c.in-Ok.run.last.journal;
   left = g.C.Clock.words c.in-Ok.run.clock;
   ran = c.in-Ok.ensures.ran;
-  alike = c.replies_of_seen.ensures c.args.opening c.step-_step.ensures.well;
+  alike = c.replies_of_seen.ensures c.args.opening c.step-step.ensures.well;
 })
