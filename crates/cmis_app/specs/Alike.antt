@@ -10,12 +10,12 @@ use Rattle.desk_model.specs.declared.entry.Entry.{Entry}
 use Rattle.desk_model.specs.Histories.{replay}
 use Rattle.talk.specs.Session.{Setting, reading_text}
 
--- the same, over another opening
-abbrev pub over : Repository → Setting Repository → Setting Repository
-over opened at = record at { opening = opened }
+-- with another repository at its start
+abbrev pub begun_with : Repository → Setting Repository → Setting Repository
+begun_with opened at = record at { opening = opened }
 
--- After each history of this opening, the text of a reading's reply is the one over every well-formed repository in which its caller sees the same.
+-- After any history of this opening, each reading's reply is that of every well-formed repository in which its caller sees the same.
 abbrev pub RepliesOfSeen : Repository → Type 0
 RepliesOfSeen opened =
-    (at : Setting Repository) (h : List (Entry Write)) (last : Bool) (u : List ℕ) (least : ℕ) (question : Question)
-    → OfSeen (λ other. reading_text repository (over other at) [] last u least question) (replay shown_step opened h) u (reading_text repository (over opened at) h last u least question)
+    (at : Setting Repository) (h : List (Entry Write)) (last : Bool) (u : List ℕ) (least : ℕ) (q : Question)
+    → OfSeen (λ other. reading_text repository (begun_with other at) [] last u least q) (replay shown_step opened h) u (reading_text repository (begun_with opened at) h last u least q)

@@ -10,10 +10,10 @@ use Rattle.cmis_app.proofs.alike.replies_of_seen.Goals as goal
 
 -- the step and the answer are the same, and the text is made of them
 pub returns : goal.returns
-returns c opened w at h last u least question other v e =
+returns c opened w at h last u least q other v e =
     let s : Repository = replay shown_step opened h in
     let step : s.step ≡ other.step = sym (ap (λ k. k.step) e) in
-    let answer : shown_answer s u question ≡ shown_answer other u question = c.answers_of_seen.ensures s u question (c.replay_keeps.ensures opened h w) other v e in
+    let answer : shown_answer s u q ≡ shown_answer other u q = c.answers_of_seen.ensures s u q (c.replay_keeps.ensures opened h w) other v e in
     λ i. if nat_lt (step i) least
     then refusal_text repository.wire last (causes.StepAhead least (step i)) (step i)
     else answer_text repository.wire last (step i) (answer i)
