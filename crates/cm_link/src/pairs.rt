@@ -177,7 +177,8 @@ impl Pairs {
         requires indexed { IsIndexed self.now.entries self.now.by_object self.now.by_policy }
         ensures indexed { IfOk result (λ s. IsIndexed s.entries s.by_object s.by_policy) }
         ensures found { IfOk result (λ s. (p : ℕ) → find nat_cmp p s.entries
-            ≡ option_and_then (but (λ a. same a.policy policy && same a.object object)) (find nat_cmp p self.now.entries)) }
+            ≡ option_and_then (but (λ a. same a.policy policy && same a.object object))
+            (find nat_cmp p self.now.entries)) }
     {
         match self.by_object.bucket(&object.0) {
             Some(policies) => {
