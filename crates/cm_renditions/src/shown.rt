@@ -44,8 +44,7 @@ fn kept_of<'a>(
 {
     let mut all = Vec::new(alloc);
     for rendition in renditions {
-        let at: &'a Rendition = rendition;
-        add_kept(&mut all, which, at)?;
+        add_kept(&mut all, which, *rendition)?;
     }
     Ok(all)
 }
