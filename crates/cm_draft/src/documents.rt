@@ -4,7 +4,9 @@ ghost use Rattle.cmis_spec.specs.Documents.{with_member, with_policies, with_con
 
 use crate::change::applied_with;
 use crate::draft::Draft;
-use crate::made::{applied_of, contents_of, counted, given_up, objects_of, put_applied, put_contents};
+use crate::made::{
+    applied_of, contents_of, counted, given_up, objects_of, put_applied, put_contents,
+};
 use crate::told::with_objects;
 use cm_base::content::Content;
 use cm_base::number::Oid;

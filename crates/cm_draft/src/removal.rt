@@ -5,8 +5,8 @@ ghost use Rattle.cm_draft.specs.Without.{without_series, without_policy, without
 
 use crate::draft::Draft;
 use crate::made::{
-    access_of, applied_of, contents_of, given_up, objects_of, put_access, put_applied, put_contents,
-    put_renditions, renditions_of, series_of,
+    access_of, applied_of, contents_of, given_up, objects_of, put_access, put_applied,
+    put_contents, put_renditions, renditions_of, series_of,
 };
 use crate::told::{with_all_series, with_objects};
 use cm_base::number::Oid;
