@@ -98,11 +98,7 @@ impl Renditions {
     }
 
     // The index without the rendition that has this number.
-    fn index_without(
-        &self,
-        alloc: Global,
-        number: u64,
-    ) -> Result<Buckets<u64, u64, ()>, AllocError>
+    fn index_without(&self, alloc: Global, number: u64) -> Result<Buckets<u64, u64, ()>, AllocError>
         ensures { IfOk result (λ s. IsIndexOf (filter (λ d. not (d.id.0 == number)) self.now) s) }
     {
         match self.table.get(number) {
@@ -140,11 +136,7 @@ impl Renditions {
     }
 
     /// All renditions of the document gone, as where it is deleted. It looks at them and at a bounded number of others.
-    pub fn without_document(
-        &self,
-        alloc: Global,
-        document: Oid,
-    ) -> Result<Renditions, AllocError>
+    pub fn without_document(&self, alloc: Global, document: Oid) -> Result<Renditions, AllocError>
         ensures { IfOk result (λ l. l ≡ filter (λ d. not (same d.of document)) self.now) }
     {
         let _rising = self.table.len();

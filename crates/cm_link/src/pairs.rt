@@ -45,11 +45,7 @@ fn add_place(all: &mut Vec<u64>, at: &(u64, Oid), policy: Oid) -> Result<(), All
 }
 
 // The places that have the policy.
-fn places_of(
-    alloc: Global,
-    policies: &Map<u64, Oid>,
-    policy: Oid,
-) -> Result<Vec<u64>, AllocError>
+fn places_of(alloc: Global, policies: &Map<u64, Oid>, policy: Oid) -> Result<Vec<u64>, AllocError>
     ensures value { IfOk result (λ all. all.items
         ≡ map (λ e. e.0) (filter (λ e. same e.1 policy) policies.now)) }
     ensures sorted { T (is_sorted nat_cmp policies.now) }
@@ -111,12 +107,7 @@ impl Pairs {
     }
 
     // The pairs without one that is there.
-    fn without_pair(
-        &self,
-        alloc: Global,
-        place: u64,
-        pair: &Applied,
-    ) -> Result<Pairs, AllocError>
+    fn without_pair(&self, alloc: Global, place: u64, pair: &Applied) -> Result<Pairs, AllocError>
         requires indexed { IsIndexed self.now.entries self.now.by_object self.now.by_policy }
         requires there { find nat_cmp place self.now.entries ≡ Some pair.now }
         ensures indexed { IfOk result (λ s. IsIndexed s.entries s.by_object s.by_policy) }
