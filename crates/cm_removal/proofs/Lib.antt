@@ -3,4 +3,5 @@ pub mod Ones
 pub mod Tied
 pub mod Lefts
 pub mod Leaving
+pub mod Renditions
 pub mod Whole
