@@ -7,30 +7,25 @@ use crate::draft::Draft;
 use crate::made::{counted, given_up, objects_of, put_log};
 use crate::told::with_objects;
 use cm_base::access::{AccessList, Aces};
-use cm_base::filing::Applied;
 use cm_base::log::{Change, ChangeKind, Marks};
 use cm_base::number::{Moment, Oid};
 use cm_base::object::Object;
-use cm_map::sequence::Sequence;
+use cm_link::links::Links;
 use cm_state::parts::Parts;
 use std::alloc::{AllocError, Global};
 
 // The applied pairs, with each of the policies on the object.
 pub(crate) fn applied_with(
     alloc: Global,
-    pairs: &Sequence<Applied>,
+    pairs: &Links,
     policies: &[Oid],
     object: Oid,
-) -> Result<Sequence<Applied>, AllocError>
+) -> Result<Links, AllocError>
     ensures { IfOk result (λ all. all ≡ pairs.now ++ map (λ p. record { policy = p; object = object }) policies.now) }
 {
     let mut all = pairs.share(alloc)?;
     for policy in policies {
-        let pair = Applied {
-            policy: *policy,
-            object,
-        };
-        all = all.with_last(alloc, pair)?;
+        all = all.apply(alloc, *policy, object)?;
     }
     Ok(all)
 }

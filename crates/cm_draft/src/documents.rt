@@ -4,7 +4,9 @@ ghost use Rattle.cmis_spec.specs.Documents.{with_member, with_policies, with_con
 
 use crate::change::applied_with;
 use crate::draft::Draft;
-use crate::made::{contents_of, counted, given_up, objects_of, put_applied, put_contents};
+use crate::made::{
+    applied_of, contents_of, counted, given_up, objects_of, put_applied, put_contents,
+};
 use crate::told::with_objects;
 use cm_base::content::Content;
 use cm_base::number::Oid;
@@ -36,7 +38,7 @@ impl Draft {
     ) -> Result<Draft, AllocError>
         ensures { IfOk result (λ d. d ≡ with_policies self object policies.now) }
     {
-        match applied_with(alloc, self.parts().applied(), policies, object) {
+        match applied_with(alloc, applied_of(self.parts()), policies, object) {
             Ok(applied) => Ok(put_applied(self, applied)),
             Err(short) => Err(given_up(self, short)),
         }

@@ -9,10 +9,11 @@ ghost use Rattle.cm_state.specs.Told.{entries_of};
 use crate::draft::Draft;
 use cm_base::access::AccessList;
 use cm_base::content::Content;
-use cm_base::filing::Applied;
 use cm_base::log::Change;
 use cm_base::series::Series;
+use cm_content::renditions::Renditions;
 use cm_folder::filing::Filing;
+use cm_link::links::Links;
 use cm_map::sequence::Sequence;
 use cm_map::table::Table;
 use cm_objects::objects::Objects;
@@ -50,6 +51,20 @@ pub(crate) fn contents_of(parts: &Parts) -> &Table<Content>
     ensures { result.now ≡ parts.now.contents }
 {
     &parts.lists.contents
+}
+
+/// The applied policies.
+pub(crate) fn applied_of(parts: &Parts) -> &Links
+    ensures { result.now ≡ parts.now.applied }
+{
+    &parts.lists.applied
+}
+
+/// The renditions.
+pub(crate) fn renditions_of(parts: &Parts) -> &Renditions
+    ensures { result.now ≡ parts.now.renditions }
+{
+    &parts.lists.renditions
 }
 
 /// The filing.
@@ -116,7 +131,7 @@ pub(crate) fn put_access(draft: Draft, access: Table<AccessList>) -> Draft
 }
 
 /// The draft with these applied policies.
-pub(crate) fn put_applied(draft: Draft, applied: Sequence<Applied>) -> Draft
+pub(crate) fn put_applied(draft: Draft, applied: Links) -> Draft
     ensures { result ≡ record draft { applied = applied } }
 {
     let parts = draft.parts;
@@ -132,6 +147,17 @@ pub(crate) fn put_contents(draft: Draft, contents: Table<Content>) -> Draft
 {
     let parts = draft.parts;
     let lists = parts.lists.with_contents(contents);
+    Draft {
+        parts: Parts { lists, ..parts },
+    }
+}
+
+/// The draft with these renditions.
+pub(crate) fn put_renditions(draft: Draft, renditions: Renditions) -> Draft
+    ensures { result ≡ record draft { renditions = renditions } }
+{
+    let parts = draft.parts;
+    let lists = parts.lists.with_renditions(renditions);
     Draft {
         parts: Parts { lists, ..parts },
     }

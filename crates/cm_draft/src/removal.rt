@@ -1,11 +1,12 @@
 //! What goes with a deletion.
 ghost use Rattle.std.specs.Prelude.{◌≡◌, IfOk};
 ghost use Rattle.cmis_spec.specs.Changes.{without_object, without_list, without_content};
-ghost use Rattle.cm_draft.specs.Without.{without_series};
+ghost use Rattle.cm_draft.specs.Without.{without_series, without_policy, without_policies, without_renditions};
 
 use crate::draft::Draft;
 use crate::made::{
-    access_of, contents_of, given_up, objects_of, put_access, put_contents, series_of,
+    access_of, applied_of, contents_of, given_up, objects_of, put_access, put_applied,
+    put_contents, put_renditions, renditions_of, series_of,
 };
 use crate::told::{with_all_series, with_objects};
 use cm_base::number::Oid;
@@ -48,6 +49,41 @@ impl Draft {
     {
         match contents_of(self.parts()).without(alloc, n.0) {
             Ok(contents) => Ok(put_contents(self, contents)),
+            Err(short) => Err(given_up(self, short)),
+        }
+    }
+
+    /// The policy no longer on the object.
+    pub fn without_policy(
+        self,
+        alloc: Global,
+        policy: Oid,
+        object: Oid,
+    ) -> Result<Draft, AllocError>
+        ensures { IfOk result (λ d. d ≡ without_policy self policy object) }
+    {
+        match applied_of(self.parts()).remove(alloc, policy, object) {
+            Ok(applied) => Ok(put_applied(self, applied)),
+            Err(short) => Err(given_up(self, short)),
+        }
+    }
+
+    /// No policy on the object any more.
+    pub fn without_policies(self, alloc: Global, n: Oid) -> Result<Draft, AllocError>
+        ensures { IfOk result (λ d. d ≡ without_policies self n) }
+    {
+        match applied_of(self.parts()).without_object(alloc, n) {
+            Ok(applied) => Ok(put_applied(self, applied)),
+            Err(short) => Err(given_up(self, short)),
+        }
+    }
+
+    /// The renditions of the document gone.
+    pub fn without_renditions(self, alloc: Global, n: Oid) -> Result<Draft, AllocError>
+        ensures { IfOk result (λ d. d ≡ without_renditions self n) }
+    {
+        match renditions_of(self.parts()).without_document(alloc, n) {
+            Ok(renditions) => Ok(put_renditions(self, renditions)),
             Err(short) => Err(given_up(self, short)),
         }
     }

@@ -9,7 +9,7 @@ use Rattle.cmis_laws.proofs.Lists.{same_eq, same_refl, some_eq, none_some}
 use Rattle.cm_folder.specs.declared.entry.FilingEntry.{FilingEntry}
 use Rattle.cm_folder.specs.Filings.{pairs_of, is_entry, folder_of, folders_up_in, depth_in, is_under_in, is_too_deep}
 use Rattle.cm_folder.specs.Depths.{is_first_in, is_far, has_far}
-use Rattle.cm_folder.proofs.Placing.{by_test}
+use Rattle.place_laws.proofs.Placing.{by_test}
 
 and_left : (a b : Bool) → a && b ≡ true → a ≡ true
 and_left true b h = refl

@@ -6,7 +6,7 @@ use Rattle.cmis_laws.proofs.Lists.{same_eq}
 use Rattle.cm_folder.specs.declared.entry.FilingEntry.{FilingEntry}
 use Rattle.cm_folder.specs.declared.edit.Edit.TheVariants as edits
 use Rattle.cm_folder.specs.Filings.{edit_child, is_entry, in_folder, under_name, unfiled, shifted, renamed, told, retold}
-use Rattle.cm_folder.proofs.Placing.{by_test}
+use Rattle.place_laws.proofs.Placing.{by_test}
 
 pub taken_out : (f c : Oid) (es : List FilingEntry) → filter_map (edit_child (edits.TakeOut f) c) es ≡ unfiled es f c
 taken_out f c [] = refl

@@ -11,8 +11,9 @@ use Rattle.cm_map.specs.Buckets.{find_in}
 use Rattle.cm_folder.specs.declared.entry.FilingEntry.{FilingEntry}
 use Rattle.cm_folder.specs.declared.edit.Edit.{Edit}
 use Rattle.cm_folder.specs.Filings.{edit_of, edit_child}
-use Rattle.cm_folder.specs.Places.{value_at, name_order, name_key, child_key, folder_key, find_named, IsIndexed}
-use Rattle.cm_folder.proofs.Placing.{by_test, find_under, find-put_at, Turns, tells_changed, changed_is, values_changed}
+use Rattle.place_laws.specs.Places.{value_at}
+use Rattle.cm_folder.specs.Places.{name_order, name_key, child_key, folder_key, find_named, IsIndexed}
+use Rattle.place_laws.proofs.Placing.{by_test, find_under, find-put_at, Turns, tells_changed}
 
 -- an entry that comes or goes keeps the indexes
 pub indexed_changed : (es fs : List (ℕ × FilingEntry)) (n : ℕ) (e : FilingEntry) (now : Option FilingEntry) (children more inside inner : List (ℕ × List (ℕ × Oid))) (names others : List (ℕ × List (List ℕ × List (ℕ × Oid))))
@@ -24,9 +25,9 @@ pub indexed_changed : (es fs : List (ℕ × FilingEntry)) (n : ℕ) (e : FilingE
     → IsIndexed fs more inner others
 indexed_changed es fs n e now children more inside inner names others w turns sorted found c f k = record {
   sorted = sorted;
-  children = tells_changed nat_cmp child_key (λ d. d.folder) es fs n e now (find_in nat_cmp nat_cmp children) (find_in nat_cmp nat_cmp more) w.children turns found c;
-  folders = tells_changed nat_cmp folder_key (λ d. d.child) es fs n e now (find_in nat_cmp nat_cmp inside) (find_in nat_cmp nat_cmp inner) w.folders turns found f;
-  names = tells_changed name_order name_key (λ d. d.child) es fs n e now (find_named names) (find_named others) w.names turns found k;
+  children = tells_changed nat_cmp child_key (λ d. d.folder) (λ p. find nat_cmp p es) (λ p. find nat_cmp p fs) n e now (find_in nat_cmp nat_cmp children) (find_in nat_cmp nat_cmp more) w.children turns found c;
+  folders = tells_changed nat_cmp folder_key (λ d. d.child) (λ p. find nat_cmp p es) (λ p. find nat_cmp p fs) n e now (find_in nat_cmp nat_cmp inside) (find_in nat_cmp nat_cmp inner) w.folders turns found f;
+  names = tells_changed name_order name_key (λ d. d.child) (λ p. find nat_cmp p es) (λ p. find nat_cmp p fs) n e now (find_named names) (find_named others) w.names turns found k;
 }
 
 self_test : (n : ℕ) → (n == n) ≡ true
@@ -97,14 +98,3 @@ changed_child edit c es children inside names w o at p =
         by_test (same e.child c)
         (λ t. rw (at, t) refl)
         (λ t. rw (at, t) refl)
-
--- the list of the entries after a change
-pub list_changed : (f : FilingEntry → Option FilingEntry) (es fs : List (ℕ × FilingEntry)) → T (is_sorted nat_cmp es) → T (is_sorted nat_cmp fs)
-    → ((p : ℕ) → find nat_cmp p fs ≡ option_and_then f (find nat_cmp p es)) → map (λ e. e.1) fs ≡ filter_map f (map (λ e. e.1) es)
-list_changed f es fs sorted rising found = ap (map (λ e. e.1)) (changed_is f es fs sorted rising found) ∙ values_changed f es
-
--- the places stay below the next one
-pub below_put : {X : Type 0} (n : ℕ) (e : X) (es fs : List (ℕ × X)) → ((p : ℕ) → n ≤ p → find nat_cmp p es ≡ None) → fs ≡ put nat_cmp n e es → (p : ℕ) → n + 1 ≤ p → find nat_cmp p fs ≡ None
-below_put n e es fs below at p le =
-    let other : (p == n) ≡ false = by_test (p == n) (λ t. let k : p ≡ n = eqb-true p n t in absurd (omega (arith, k, le))) (λ t. t) in
-    ap (find nat_cmp p) at ∙ (find-put_at p n e es ∙ (ap (λ b. cond b (Some e) (find nat_cmp p es)) other ∙ below p (omega (arith, le))))

@@ -13,9 +13,11 @@ use Rattle.cmis_spec.specs.Repository.{same, root, path_by}
 use Rattle.cm_map.specs.Buckets.{find_in}
 use Rattle.cm_folder.specs.declared.entry.FilingEntry.{FilingEntry}
 use Rattle.cm_folder.specs.Filings.{pair_of, is_entry, is_filed_in, is_name_taken, child_named, children_in, folders_in, folder_of, folders_up_in}
-use Rattle.cm_folder.specs.Places.{placed, name_order, name_key, child_key, folder_key, is_folder_at, names_under, IsIndexed}
+use Rattle.place_laws.specs.Places.{placed}
+use Rattle.place_laws.proofs.Clearing.{all_values}
+use Rattle.cm_folder.specs.Places.{name_order, name_key, child_key, folder_key, is_folder_at, names_under, IsIndexed}
 use Rattle.cm_folder.specs.Trees.{is_folder_in}
-use Rattle.cm_folder.proofs.Placing.{any_placed, any_at, by_test, placed_at, bucket_is, values_are}
+use Rattle.place_laws.proofs.Placing.{any_placed, any_at, by_test, placed_at, bucket_is, values_are}
 
 flip : (a b : ℕ) → (b == a) ≡ (a == b)
 flip a b = grind arith
@@ -134,14 +136,6 @@ first_value R key value k t alike [] = refl
 first_value R key value k t alike (e ∷ es) = by_test (t e.1)
     (λ h. rw (alike e.1 ∙ h, h) refl)
     (λ h. rw (alike e.1 ∙ h, h) (first_value R key value k t alike es))
-
--- all values that have a key
-all_values : {K X : Type 0} (R : K → K → Ordering) (key : FilingEntry → K) (value : FilingEntry → X) (k : K) (t : FilingEntry → Bool) → ((e : FilingEntry) → eq_by_cmp R k (key e) ≡ t e) → (es : List (ℕ × FilingEntry))
-    → map (λ d. d.1) (placed R key value k es) ≡ map value (filter t (map (λ e. e.1) es))
-all_values R key value k t alike [] = refl
-all_values R key value k t alike (e ∷ es) = by_test (t e.1)
-    (λ h. rw (alike e.1 ∙ h, h) (ap (λ l. value e.1 ∷ l) (all_values R key value k t alike es)))
-    (λ h. rw (alike e.1 ∙ h, h) (all_values R key value k t alike es))
 
 pub name_ties : (f : Oid) (name : List ℕ) (e : FilingEntry) → eq_by_cmp name_order (f.0, name) (name_key e) ≡ (same e.folder f && bytes_eq e.name name)
 name_ties f name e = tied_then (nat_cmp f.0 e.folder.0) (slice_cmp nat_cmp name e.name) ∙ (λ i. (unsigned_tied f.0 e.folder.0 ∙ flip e.folder.0 f.0) i && text_flip name e.name i)

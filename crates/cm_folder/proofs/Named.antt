@@ -11,7 +11,7 @@ use Rattle.cm_map.specs.Parts.{without_key}
 use Rattle.cm_base.specs.declared.number.Oid.{Oid}
 use Rattle.cm_map.specs.Buckets.{find_in}
 use Rattle.cm_folder.specs.Places.{name_order, names_under, find_named}
-use Rattle.cm_folder.proofs.Placing.{by_test, find-without_at}
+use Rattle.place_laws.proofs.Placing.{by_test, find-without_at}
 use Rattle.cm_folder.proofs.Lookups.{tied_then}
 
 -- what is found where other children stand under one folder and name

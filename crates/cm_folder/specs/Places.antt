@@ -6,15 +6,8 @@ use Rattle.core.specs.declared.cmp.Ordering.{Ordering}
 use Rattle.core.specs.FinMap.Entries.{find, is_sorted}
 use Rattle.cm_base.specs.declared.number.Oid.{Oid}
 use Rattle.cm_map.specs.Buckets.{find_in}
+use Rattle.place_laws.specs.Places.{value_at}
 use Rattle.cm_folder.specs.declared.entry.FilingEntry.{FilingEntry}
-
--- the values of the entries that have the key, by their places
-abbrev pub placed : {K E X : Type 0} → (K → K → Ordering) → (E → K) → (E → X) → K → List (ℕ × E) → List (ℕ × X)
-placed R key value q entries = map (λ e. (e.0, value e.1)) (filter (λ e. eq_by_cmp R q (key e.1)) entries)
-
--- the value of an entry, where it has the key
-abbrev pub value_at : {K E X : Type 0} → (K → K → Ordering) → (E → K) → (E → X) → K → Option E → Option X
-value_at R key value q entry = option_and_then (λ e. if eq_by_cmp R q (key e) then Some (value e) else None) entry
 
 -- a folder and a name: by the folder's number, then by the name's bytes
 abbrev pub name_order : ℕ × List ℕ → ℕ × List ℕ → Ordering

@@ -4,8 +4,9 @@ ghost use Rattle.std.specs.List.{list_any, find as find_by};
 ghost use Rattle.core.specs.Ordering.{nat_cmp};
 ghost use Rattle.core.specs.FinMap.Entries.{find, put, is_sorted};
 ghost use Rattle.cmis_spec.specs.Repository.{same};
+ghost use Rattle.place_laws.specs.Places.{placed};
 ghost use Rattle.cm_folder.specs.Filings.{is_entry, edit_of, edit_child};
-ghost use Rattle.cm_folder.specs.Places.{placed, child_key, is_folder_at, IsIndexed};
+ghost use Rattle.cm_folder.specs.Places.{child_key, is_folder_at, IsIndexed};
 ghost use Rattle.cm_folder.specs.Trees.{is_folder_in};
 
 use crate::edit::Edit;

@@ -10,6 +10,7 @@ use Rattle.std.proofs.lemmas.List.Concat.{flat_map-append}
 use Rattle.cm_map.specs.Parts.{HeadIs, first_of, without_key}
 use Rattle.cm_map.proofs.Parting.{Below, Above, put_below, put_above, find_below, find_above, without_key_below, without_key_above, parted, Parted, split_at, drop_at_split, sorted_left, sorted_right}
 use Rattle.cm_map.specs.Rows.{Spaced, change}
+use Rattle.cm_map.specs.Sizes.{full, half}
 
 pub all_left : {X : Type 0} (P : X → Type 0) (xs ys : List X) → AllByRecursion P (xs ++ ys) → AllByRecursion P xs
 all_left P [] ys h = tt
@@ -43,19 +44,19 @@ head_meet : (P : ℕ → Type 0) (L : List ℕ) (l : ℕ) (R : List ℕ) → Hea
 head_meet P [] l R h = h
 head_meet P (x ∷ L) l R h = h
 
-pub spaced_meet : (L : List ℕ) (l r : ℕ) (R : List ℕ) → Spaced (L ++ l ∷ []) → Spaced (r ∷ R) → 64 < l + r → Spaced (L ++ l ∷ r ∷ R)
+pub spaced_meet : (L : List ℕ) (l r : ℕ) (R : List ℕ) → Spaced (L ++ l ∷ []) → Spaced (r ∷ R) → half < l + r → Spaced (L ++ l ∷ r ∷ R)
 spaced_meet [] l r R h k m = (h.0, h.1, m, k)
 spaced_meet (x ∷ L) l r R h k m = (h.0, h.1, head_meet _ L l (r ∷ R) h.2, spaced_meet L l r R h.3 k m)
 
-head_merge : (x : ℕ) (L : List ℕ) (l b : ℕ) (R : List ℕ) → l ≤ b → HeadIs (λ y. 64 < x + y) (L ++ l ∷ []) → HeadIs (λ y. 64 < x + y) (L ++ b ∷ R)
+head_merge : (x : ℕ) (L : List ℕ) (l b : ℕ) (R : List ℕ) → l ≤ b → HeadIs (λ y. half < x + y) (L ++ l ∷ []) → HeadIs (λ y. half < x + y) (L ++ b ∷ R)
 head_merge x [] l b R le h = omega (arith, h)
 head_merge x (y ∷ L) l b R le h = h
 
-head_more : (r b : ℕ) (R : List ℕ) → r ≤ b → HeadIs (λ y. 64 < r + y) R → HeadIs (λ y. 64 < b + y) R
+head_more : (r b : ℕ) (R : List ℕ) → r ≤ b → HeadIs (λ y. half < r + y) R → HeadIs (λ y. half < b + y) R
 head_more r b [] le h = tt
 head_more r b (y ∷ R) le h = omega (arith, h)
 
-pub spaced_merge : (L : List ℕ) (l r b : ℕ) (R : List ℕ) → Spaced (L ++ l ∷ []) → Spaced (r ∷ R) → l ≤ b → r ≤ b → b ≤ 128 → Spaced (L ++ b ∷ R)
+pub spaced_merge : (L : List ℕ) (l r b : ℕ) (R : List ℕ) → Spaced (L ++ l ∷ []) → Spaced (r ∷ R) → l ≤ b → r ≤ b → b ≤ full → Spaced (L ++ b ∷ R)
 spaced_merge [] l r b R h k m n o = (omega (arith, h.0), o, head_more r b R n k.2, k.3)
 spaced_merge (x ∷ L) l r b R h k m n o = (h.0, h.1, head_merge x L l b R m h.2, spaced_merge L l r b R h.3 k m n o)
 
@@ -74,14 +75,14 @@ module _ {B : Type 0} (count : B → ℕ) (left L : List B) (l : B) (right : Lis
   right_counts : Spaced (count r ∷ map count (drop 1 right))
   right_counts = subst (λ x. Spaced (map count x)) (drop_one right r lt is) k
 
-  pub meet_rows : 64 < count l + count r → Spaced (map count ((L ++ l ∷ []) ++ right))
+  pub meet_rows : half < count l + count r → Spaced (map count ((L ++ l ∷ []) ++ right))
   meet_rows m =
       let s = spaced_meet (map count L) (count l) (count r) (map count (drop 1 right)) left_counts right_counts m in
       subst Spaced
       (sym (map-append count (L ++ l ∷ []) right ∙ (λ i. map-append count L (l ∷ []) i ++ map count (drop_one right r lt is i)) ∙ append_assoc (map count L) (count l ∷ []) (count r ∷ map count (drop 1 right))))
       s
 
-  pub merge_rows : (b : B) → count l ≤ count b → count r ≤ count b → count b ≤ 128 → Spaced (map count ((L ++ b ∷ []) ++ drop 1 right))
+  pub merge_rows : (b : B) → count l ≤ count b → count r ≤ count b → count b ≤ full → Spaced (map count ((L ++ b ∷ []) ++ drop 1 right))
   merge_rows b m n o =
       let s = spaced_merge (map count L) (count l) (count r) (count b) (map count (drop 1 right)) left_counts right_counts m n o in
       subst Spaced

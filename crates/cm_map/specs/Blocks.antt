@@ -1,10 +1,11 @@
--- What leaves and middle blocks hold.
+-- What blocks hold.
 use Rattle.std.specs.Prelude.{ℕ, ◌≤◌, List, map, length, Option}
 use Rattle.std.specs.Arc.{arc_value}
 use Rattle.core.specs.List.{AllByRecursion, flat_map}
 use Rattle.cm_map.specs.Parts.{first_of}
+use Rattle.cm_map.specs.Sizes.{full}
 use Rattle.cm_map.specs.declared.blocks.Leaf.{Leaf}
-use Rattle.cm_map.specs.declared.blocks.Middle.{Middle}
+use Rattle.cm_map.specs.declared.blocks.Group.{Group}
 use Rattle.cm_map.specs.Rows.{Spaced, first_block}
 
 module _ {K V : Type 0} where
@@ -18,16 +19,33 @@ module _ {K V : Type 0} where
   leaf_first l = first_of (leaf_entries l)
 
   abbrev pub IsLeaf : Leaf K V → Type 0
-  IsLeaf l = (1 ≤ leaf_count l) × (leaf_count l ≤ 128)
+  IsLeaf l = (1 ≤ leaf_count l) × (leaf_count l ≤ full)
 
-  abbrev pub middle_entries : Middle K V → List (K × V)
-  middle_entries m = flat_map leaf_entries (map arc_value m.leaves.items)
+-- ---- blocks of blocks, by what their members hold
 
-  abbrev pub middle_count : Middle K V → ℕ
-  middle_count m = length m.leaves.items
+abbrev pub group_entries : {K V B : Type 0} → (B → List (K × V)) → Group B → List (K × V)
+group_entries entries g = flat_map entries (map arc_value g.members.items)
 
-  abbrev pub middle_first : Middle K V → Option K
-  middle_first m = first_block leaf_first (map arc_value m.leaves.items)
+abbrev pub group_count : {B : Type 0} → Group B → ℕ
+group_count g = length g.members.items
 
-  abbrev pub IsMiddle : Middle K V → Type 0
-  IsMiddle m = (1 ≤ middle_count m) × (middle_count m ≤ 128) × AllByRecursion IsLeaf (map arc_value m.leaves.items) × Spaced (map leaf_count (map arc_value m.leaves.items))
+abbrev pub group_first : {K B : Type 0} → (B → Option K) → Group B → Option K
+group_first first g = first_block first (map arc_value g.members.items)
+
+abbrev pub IsGroup : {B : Type 0} → (B → Type 0) → (B → ℕ) → Group B → Type 0
+IsGroup Whole count g = (1 ≤ group_count g) × (group_count g ≤ full) × AllByRecursion Whole (map arc_value g.members.items) × Spaced (map count (map arc_value g.members.items))
+
+-- ---- the two levels above leaves
+
+module _ {K V : Type 0} where
+  abbrev pub middle_entries : Group (Leaf K V) → List (K × V)
+  middle_entries m = group_entries leaf_entries m
+
+  abbrev pub IsMiddle : Group (Leaf K V) → Type 0
+  IsMiddle m = IsGroup IsLeaf leaf_count m
+
+  abbrev pub branch_entries : Group (Group (Leaf K V)) → List (K × V)
+  branch_entries b = group_entries middle_entries b
+
+  abbrev pub IsBranch : Group (Group (Leaf K V)) → Type 0
+  IsBranch b = IsGroup IsMiddle group_count b

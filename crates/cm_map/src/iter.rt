@@ -3,21 +3,23 @@ ghost use Rattle.std.specs.Prelude.{◌≡◌, ℕ, ◌+◌, ◌<◌, ◌⊎◌,
 ghost use Rattle.std.specs.Iterator.{YieldsFirstRef, item_count};
 ghost use Rattle.cm_map.specs.Rests.{rest};
 
-use crate::blocks::{Leaf, Middle};
+use crate::blocks::{Branch, Leaf, Middle};
 use crate::key::Key;
 use std::sync::Arc;
 
 /// An iterator over a map's entries in the order of their keys.
 ///
-/// It takes no memory, and keeps what is left of one leaf, of one middle block and of the map.
+/// It takes no memory, and keeps what is left of one block of each level and of the map.
 #[derive(Drop)]
 pub struct Iter<'a, K: Key, V: Drop> {
     /// What is left of the leaf at hand.
     pub entries: &'a [Arc<(K, V)>],
-    /// The leaves after it in its middle block.
+    /// The leaves after it in their block.
     pub leaves: &'a [Arc<Leaf<K, V>>],
-    /// The middle blocks after that one.
-    pub blocks: &'a [Arc<Middle<K, V>>],
+    /// The blocks of leaves after that one in theirs.
+    pub middles: &'a [Arc<Middle<K, V>>],
+    /// The top blocks after that one.
+    pub blocks: &'a [Arc<Branch<K, V>>],
 }
 
 // The same entries, with the next one in the leaf at hand.
@@ -27,15 +29,20 @@ fn filled<'a, K: Key, V: Drop>(it: Iter<'a, K, V>) -> Iter<'a, K, V>
 {
     let mut entries = it.entries;
     let mut leaves = it.leaves;
+    let mut middles = it.middles;
     let mut blocks = it.blocks;
     while entries.is_empty() {
         if let Some((leaf, others)) = leaves.split_first() {
             let leaf: &'a Leaf<K, V> = leaf;
             entries = &leaf.entries;
             leaves = others;
+        } else if let Some((middle, others)) = middles.split_first() {
+            let middle: &'a Middle<K, V> = middle;
+            leaves = &middle.members;
+            middles = others;
         } else if let Some((block, others)) = blocks.split_first() {
-            let block: &'a Middle<K, V> = block;
-            leaves = &block.leaves;
+            let block: &'a Branch<K, V> = block;
+            middles = &block.members;
             blocks = others;
         } else {
             break;
@@ -44,6 +51,7 @@ fn filled<'a, K: Key, V: Drop>(it: Iter<'a, K, V>) -> Iter<'a, K, V>
     Iter {
         entries,
         leaves,
+        middles,
         blocks,
     }
 }
@@ -59,10 +67,12 @@ impl<'a, K: Key, V: Drop> Iterator for Iter<'a, K, V> {
         let it = filled(Iter {
             entries: self.entries,
             leaves: self.leaves,
+            middles: self.middles,
             blocks: self.blocks,
         });
         self.entries = it.entries;
         self.leaves = it.leaves;
+        self.middles = it.middles;
         self.blocks = it.blocks;
         let (first, others) = it.entries.split_first()?;
         self.entries = others;

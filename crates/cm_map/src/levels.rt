@@ -1,19 +1,23 @@
-//! Leaves and middle blocks as blocks of rows.
+//! Leaves, and blocks of blocks, as blocks of rows.
 ghost use Rattle.std.specs.Prelude.{◌≡◌, ◌+◌, ◌≤◌, ◌++◌, map, length, T, IfOk, IfSome, option_map, option_copied};
 ghost use Rattle.std.specs.Arc.{arc_value};
 ghost use Rattle.core.specs.List.{AllByRecursion, flat_map};
 ghost use Rattle.core.specs.FinMap.Entries.{find, is_sorted, where_key};
 ghost use Rattle.cm_map.specs.Parts.{pointee, within};
+ghost use Rattle.cm_map.specs.Pieces.{blocks_of};
 ghost use Rattle.cm_map.specs.Rows.{Spaced, change};
-ghost use Rattle.cm_map.specs.Blocks.{leaf_entries, leaf_count, leaf_first, IsLeaf, middle_entries, middle_count, middle_first, IsMiddle};
+ghost use Rattle.cm_map.specs.Sizes.{full};
+ghost use Rattle.cm_map.specs.Blocks.{leaf_entries, leaf_count, leaf_first, IsLeaf, group_entries, group_count, group_first, IsGroup};
 
 use crate::block::Block;
-use crate::blocks::{Leaf, Middle};
+use crate::blocks::{Group, Leaf};
 use crate::key::{Headed, Key};
 use crate::leaf::{find_in, gap, range_in};
+use crate::pieces::Pieces;
 use crate::places::cut;
 use crate::row::{joined, row_changed, row_found, row_ranged};
 use crate::rows::{push_all, spliced};
+use crate::sizes::FULL;
 use std::alloc::{AllocError, Global};
 use std::sync::Arc;
 
@@ -69,85 +73,75 @@ fn halves<B: Drop>(
     Ok((low, high))
 }
 
-// One middle block.
-fn middle_of<K: Key, V: Drop>(
+/// One block of blocks.
+pub fn group_of<K: Key, V: Drop, B: Block<K, V>>(
     alloc: Global,
-    leaves: Vec<Arc<Leaf<K, V>>>,
-) -> Result<Arc<Middle<K, V>>, AllocError>
-    requires some { 1 ≤ length leaves.items }
-    requires few { length leaves.items ≤ 128 }
-    requires whole { AllByRecursion IsLeaf (map arc_value leaves.items) }
-    requires spaced { Spaced (map leaf_count (map arc_value leaves.items)) }
-    ensures entries { IfOk result (λ m. middle_entries (arc_value m) ≡ flat_map leaf_entries (map arc_value leaves.items)) }
-    ensures whole { IfOk result (λ m. IsMiddle (arc_value m)) }
-    ensures count { IfOk result (λ m. middle_count (arc_value m) ≡ length leaves.items) }
+    members: Vec<Arc<B>>,
+) -> Result<Arc<Group<B>>, AllocError>
+    requires some { 1 ≤ length members.items }
+    requires few { length members.items ≤ full }
+    requires whole { AllByRecursion B.whole (map arc_value members.items) }
+    requires spaced { Spaced (map B.count (map arc_value members.items)) }
+    ensures entries { IfOk result (λ g. group_entries B.entries (arc_value g) ≡ flat_map B.entries (map arc_value members.items)) }
+    ensures whole { IfOk result (λ g. IsGroup B.whole B.count (arc_value g)) }
+    ensures count { IfOk result (λ g. group_count (arc_value g) ≡ length members.items) }
 {
-    let middle = Arc::new(alloc, Middle { leaves })?;
-    Ok(middle)
+    let group = Arc::new(alloc, Group { members })?;
+    Ok(group)
 }
 
-/// The entries as one or two leaves, or none: 129 entries are split in two at `cut`.
+/// The entries as one or two leaves, or none: `FULL` + 1 entries are split in two at `cut`.
 pub fn leaf_pieces<K: Key, V: Drop>(
     alloc: Global,
     entries: Vec<Arc<(K, V)>>,
     cut: usize,
-) -> Result<Vec<Arc<Leaf<K, V>>>, AllocError>
-    requires few { length entries.items ≤ 129 }
+) -> Result<Pieces<Leaf<K, V>>, AllocError>
+    requires few { length entries.items ≤ full + 1 }
     requires least { 1 ≤ cut }
-    requires most { cut ≤ 128 }
-    ensures entries { IfOk result (λ v. flat_map leaf_entries (map arc_value v.items) ≡ map arc_value entries.items) }
-    ensures whole { IfOk result (λ v. AllByRecursion IsLeaf (map arc_value v.items)) }
-    ensures spaced { IfOk result (λ v. Spaced (map leaf_count (map arc_value v.items))) }
-    ensures few { IfOk result (λ v. length v.items ≤ 2) }
+    requires most { cut ≤ full }
+    ensures entries { IfOk result (λ p. flat_map leaf_entries (blocks_of p) ≡ map arc_value entries.items) }
+    ensures whole { IfOk result (λ p. AllByRecursion IsLeaf (blocks_of p)) }
+    ensures spaced { IfOk result (λ p. Spaced (map leaf_count (blocks_of p))) }
 {
-    let mut out = Vec::new(alloc);
     if entries.is_empty() {
-        return Ok(out);
+        return Ok(Pieces::Gone);
     }
-    if entries.len() <= 128 {
+    if entries.len() <= FULL {
         let leaf = Arc::new(alloc, Leaf { entries })?;
-        out.push(leaf)?;
-        return Ok(out);
+        return Ok(Pieces::One(leaf));
     }
     let (low, high) = halves(alloc, &entries, cut)?;
     let first = Arc::new(alloc, Leaf { entries: low })?;
-    out.push(first)?;
     let second = Arc::new(alloc, Leaf { entries: high })?;
-    out.push(second)?;
-    Ok(out)
+    Ok(Pieces::Two(first, second))
 }
 
-/// The leaves as one or two middle blocks, or none: 129 leaves are split in two at `cut`.
-pub fn middle_pieces<K: Key, V: Drop>(
+/// The blocks as one or two blocks of them, or none: `FULL` + 1 are split in two at `cut`.
+pub fn group_pieces<K: Key, V: Drop, B: Block<K, V>>(
     alloc: Global,
-    leaves: Vec<Arc<Leaf<K, V>>>,
+    members: Vec<Arc<B>>,
     cut: usize,
-) -> Result<Vec<Arc<Middle<K, V>>>, AllocError>
-    requires few { length leaves.items ≤ 129 }
+) -> Result<Pieces<Group<B>>, AllocError>
+    requires few { length members.items ≤ full + 1 }
     requires least { 1 ≤ cut }
-    requires most { cut ≤ 128 }
-    requires whole { AllByRecursion IsLeaf (map arc_value leaves.items) }
-    requires spaced { Spaced (map leaf_count (map arc_value leaves.items)) }
-    ensures entries { IfOk result (λ v. flat_map middle_entries (map arc_value v.items) ≡ flat_map leaf_entries (map arc_value leaves.items)) }
-    ensures whole { IfOk result (λ v. AllByRecursion IsMiddle (map arc_value v.items)) }
-    ensures spaced { IfOk result (λ v. Spaced (map middle_count (map arc_value v.items))) }
-    ensures few { IfOk result (λ v. length v.items ≤ 2) }
+    requires most { cut ≤ full }
+    requires whole { AllByRecursion B.whole (map arc_value members.items) }
+    requires spaced { Spaced (map B.count (map arc_value members.items)) }
+    ensures entries { IfOk result (λ p. flat_map (group_entries B.entries) (blocks_of p) ≡ flat_map B.entries (map arc_value members.items)) }
+    ensures whole { IfOk result (λ p. AllByRecursion (IsGroup B.whole B.count) (blocks_of p)) }
+    ensures spaced { IfOk result (λ p. Spaced (map group_count (blocks_of p))) }
 {
-    let mut out = Vec::new(alloc);
-    if leaves.is_empty() {
-        return Ok(out);
+    if members.is_empty() {
+        return Ok(Pieces::Gone);
     }
-    if leaves.len() <= 128 {
-        let middle = middle_of(alloc, leaves)?;
-        out.push(middle)?;
-        return Ok(out);
+    if members.len() <= FULL {
+        let group = group_of::<K, V, B>(alloc, members)?;
+        return Ok(Pieces::One(group));
     }
-    let (low, high) = halves(alloc, &leaves, cut)?;
-    let first = middle_of(alloc, low)?;
-    out.push(first)?;
-    let second = middle_of(alloc, high)?;
-    out.push(second)?;
-    Ok(out)
+    let (low, high) = halves(alloc, &members, cut)?;
+    let first = group_of::<K, V, B>(alloc, low)?;
+    let second = group_of::<K, V, B>(alloc, high)?;
+    Ok(Pieces::Two(first, second))
 }
 
 impl<K: Key, V: Drop> Headed<K> for Leaf<K, V> {
@@ -182,14 +176,13 @@ impl<K: Key, V: Drop> Block<K, V> for Leaf<K, V> {
         alloc: Global,
         key: &K,
         new: Option<Arc<(K, V)>>,
-    ) -> Result<Vec<Arc<Self>>, AllocError>
+    ) -> Result<Pieces<Self>, AllocError>
         requires whole { IsLeaf self.now }
         requires sorted { T (is_sorted K.cmp (leaf_entries self.now)) }
         requires at_key { IfSome new (λ e. (arc_value e).0 ≡ key.now) }
-        ensures entries { IfOk result (λ v. flat_map leaf_entries (map arc_value v.items) ≡ change K.cmp key.now (option_map arc_value new) (leaf_entries self.now)) }
-        ensures whole { IfOk result (λ v. AllByRecursion IsLeaf (map arc_value v.items)) }
-        ensures spaced { IfOk result (λ v. Spaced (map leaf_count (map arc_value v.items))) }
-        ensures few { IfOk result (λ v. length v.items ≤ 2) }
+        ensures entries { IfOk result (λ p. flat_map leaf_entries (blocks_of p) ≡ change K.cmp key.now (option_map arc_value new) (leaf_entries self.now)) }
+        ensures whole { IfOk result (λ p. AllByRecursion IsLeaf (blocks_of p)) }
+        ensures spaced { IfOk result (λ p. Spaced (map leaf_count (blocks_of p))) }
     {
         let cut = cut::<K, (K, V)>(&self.entries, key);
         let entries = change_in(alloc, &self.entries, key, new)?;
@@ -224,31 +217,31 @@ impl<K: Key, V: Drop> Block<K, V> for Leaf<K, V> {
     ghost heads = { leaf_heads };
 }
 
-impl<K: Key, V: Drop> Headed<K> for Middle<K, V> {
-    ghost first = { middle_first };
+impl<K, B: Headed<K>> Headed<K> for Group<B> {
+    ghost first = { group_first B.first };
 
     fn head(&self) -> &K {
-        let leaf: &Arc<Leaf<K, V>> = &self.leaves[0];
-        leaf.head()
+        let member: &Arc<B> = &self.members[0];
+        member.head()
     }
 }
 
-impl<K: Key, V: Drop> Block<K, V> for Middle<K, V> {
-    ghost entries = { middle_entries };
+impl<K: Key, V: Drop, B: Block<K, V>> Block<K, V> for Group<B> {
+    ghost entries = { group_entries B.entries };
 
-    ghost count = { middle_count };
+    ghost count = { group_count };
 
-    ghost whole = { IsMiddle };
+    ghost whole = { IsGroup B.whole B.count };
 
     fn size(&self) -> usize {
-        self.leaves.len()
+        self.members.len()
     }
 
     fn join(&self, other: &Self, alloc: Global) -> Result<Arc<Self>, AllocError> {
-        let low = shared(alloc, &self.leaves)?;
-        let leaves = joined::<K, V, Leaf<K, V>>(alloc, low, &other.leaves)?;
-        let middle = Arc::new(alloc, Middle { leaves })?;
-        Ok(middle)
+        let low = shared(alloc, &self.members)?;
+        let members = joined::<K, V, B>(alloc, low, &other.members)?;
+        let group = Arc::new(alloc, Group { members })?;
+        Ok(group)
     }
 
     fn changed(
@@ -256,27 +249,26 @@ impl<K: Key, V: Drop> Block<K, V> for Middle<K, V> {
         alloc: Global,
         key: &K,
         new: Option<Arc<(K, V)>>,
-    ) -> Result<Vec<Arc<Self>>, AllocError>
-        requires whole { IsMiddle self.now }
-        requires sorted { T (is_sorted K.cmp (middle_entries self.now)) }
+    ) -> Result<Pieces<Self>, AllocError>
+        requires whole { IsGroup B.whole B.count self.now }
+        requires sorted { T (is_sorted K.cmp (group_entries B.entries self.now)) }
         requires at_key { IfSome new (λ e. (arc_value e).0 ≡ key.now) }
-        ensures entries { IfOk result (λ v. flat_map middle_entries (map arc_value v.items) ≡ change K.cmp key.now (option_map arc_value new) (middle_entries self.now)) }
-        ensures whole { IfOk result (λ v. AllByRecursion IsMiddle (map arc_value v.items)) }
-        ensures spaced { IfOk result (λ v. Spaced (map middle_count (map arc_value v.items))) }
-        ensures few { IfOk result (λ v. length v.items ≤ 2) }
+        ensures entries { IfOk result (λ p. flat_map (group_entries B.entries) (blocks_of p) ≡ change K.cmp key.now (option_map arc_value new) (group_entries B.entries self.now)) }
+        ensures whole { IfOk result (λ p. AllByRecursion (IsGroup B.whole B.count) (blocks_of p)) }
+        ensures spaced { IfOk result (λ p. Spaced (map group_count (blocks_of p))) }
     {
-        let cut = cut::<K, Leaf<K, V>>(&self.leaves, key);
-        let leaves = row_changed::<K, V, Leaf<K, V>>(alloc, &self.leaves, key, new)?;
-        let pieces = middle_pieces(alloc, leaves, cut)?;
+        let cut = cut::<K, B>(&self.members, key);
+        let members = row_changed::<K, V, B>(alloc, &self.members, key, new)?;
+        let pieces = group_pieces::<K, V, B>(alloc, members, cut)?;
         Ok(pieces)
     }
 
     fn found(&self, key: &K) -> Option<&V>
-        requires whole { IsMiddle self.now }
-        requires sorted { T (is_sorted K.cmp (middle_entries self.now)) }
-        ensures { option_copied result ≡ find K.cmp key.now (middle_entries self.now) }
+        requires whole { IsGroup B.whole B.count self.now }
+        requires sorted { T (is_sorted K.cmp (group_entries B.entries self.now)) }
+        ensures { option_copied result ≡ find K.cmp key.now (group_entries B.entries self.now) }
     {
-        row_found::<K, V, Leaf<K, V>>(&self.leaves, key)
+        row_found::<K, V, B>(&self.members, key)
     }
 
     fn ranged<'a>(
@@ -285,15 +277,15 @@ impl<K: Key, V: Drop> Block<K, V> for Middle<K, V> {
         least: &K,
         most: &K,
     ) -> Result<(), AllocError>
-        requires whole { IsMiddle self.now }
-        requires sorted { T (is_sorted K.cmp (middle_entries self.now)) }
-        ensures { IfOk result (λ _. map pointee out.new.items ≡ map pointee out.old.items ++ where_key K.cmp (within K.cmp least.now most.now) (middle_entries self.now)) }
+        requires whole { IsGroup B.whole B.count self.now }
+        requires sorted { T (is_sorted K.cmp (group_entries B.entries self.now)) }
+        ensures { IfOk result (λ _. map pointee out.new.items ≡ map pointee out.old.items ++ where_key K.cmp (within K.cmp least.now most.now) (group_entries B.entries self.now)) }
     {
-        row_ranged::<K, V, Leaf<K, V>>(out, &self.leaves, least, most)?;
+        row_ranged::<K, V, B>(out, &self.members, least, most)?;
         Ok(())
     }
 
-    ghost use Rattle.cm_map.specs.LeafFacts.{middle_heads};
+    ghost use Rattle.cm_map.specs.LeafFacts.{group_heads};
 
-    ghost heads = { middle_heads };
+    ghost heads = { group_heads B.first B.entries B.whole B.count B.heads };
 }

@@ -1,18 +1,18 @@
 //! Finite maps that keep their older states.
-ghost use Rattle.std.specs.Prelude.{◌≡◌, ◌↔◌, ℕ, ◌+◌, ◌*◌, ◌/◌, ◌≤◌, List, [], None, Some, map, length, T, IsTrue, IfOk, IfSome, option_map, option_copied};
+ghost use Rattle.std.specs.Prelude.{◌≡◌, ◌↔◌, ℕ, ◌+◌, ◌*◌, ◌/◌, ◌≤◌, List, [], ◌∷◌, None, Some, map, length, T, IsTrue, IfOk, IfSome, option_map, option_copied};
 ghost use Rattle.std.specs.Arc.{arc_value};
 ghost use Rattle.core.specs.List.{AllByRecursion, flat_map};
 ghost use Rattle.core.specs.FinMap.Entries.{put, find, is_sorted, where_key};
 ghost use Rattle.cm_map.specs.Parts.{without_key, pointee, within};
 ghost use Rattle.cm_map.specs.Rows.{Spaced, change};
-ghost use Rattle.cm_map.specs.Blocks.{middle_entries, middle_count, IsMiddle};
+ghost use Rattle.cm_map.specs.Blocks.{branch_entries, group_count, IsBranch};
 ghost use Rattle.cm_map.specs.Maps.{IsMap, IsWidth};
 ghost use Rattle.cm_map.specs.Rests.{rest};
 
-use crate::blocks::Middle;
+use crate::blocks::{Branch, Leaf, Middle};
 use crate::iter::Iter;
 use crate::key::Key;
-use crate::levels::{leaf_pieces, middle_pieces, shared};
+use crate::levels::{group_of, shared};
 use crate::row::{row_changed, row_found, row_ranged};
 use std::alloc::{AllocError, Global};
 use std::marker::Model;
@@ -24,40 +24,65 @@ use std::sync::Arc;
 /// `put`, `find` and `where_key` of the contracts are std's words for a list of entries in order.
 #[derive(Drop)]
 pub struct Map<K: Key, V: Drop> {
-    blocks: Vec<Arc<Middle<K, V>>>,
+    blocks: Vec<Arc<Branch<K, V>>>,
     len: u64,
 }
 
 impl<K: Key, V: Drop> Model for Map<K, V> {
     ghost Value = { List (K × V) };
 
-    ghost view = { λ m. flat_map middle_entries (map arc_value m.blocks.items) };
+    ghost view = { λ m. flat_map branch_entries (map arc_value m.blocks.items) };
 
     ghost invariant = { λ m. IsMap K.cmp m.len (map arc_value m.blocks.items) };
 }
 
-// The middle blocks with a new entry in place of the key's, or with none.
+// A row of one member.
+fn alone<B: Drop>(alloc: Global, member: Arc<B>) -> Result<Vec<Arc<B>>, AllocError>
+    ensures { IfOk result (λ v. v.items ≡ member ∷ []) }
+{
+    let mut row = Vec::with_capacity(alloc, 1)?;
+    row.push(member)?;
+    Ok(row)
+}
+
+// The top blocks of a map with one entry.
+fn single<K: Key, V: Drop>(
+    alloc: Global,
+    entry: Arc<(K, V)>,
+) -> Result<Vec<Arc<Branch<K, V>>>, AllocError>
+    ensures entries { IfOk result (λ v. flat_map branch_entries (map arc_value v.items) ≡ arc_value entry ∷ []) }
+    ensures whole { IfOk result (λ v. AllByRecursion IsBranch (map arc_value v.items)) }
+    ensures spaced { IfOk result (λ v. Spaced (map group_count (map arc_value v.items))) }
+{
+    let entries = alone(alloc, entry)?;
+    let leaf = Arc::new(alloc, Leaf { entries })?;
+    let leaves = alone(alloc, leaf)?;
+    let middle = group_of::<K, V, Leaf<K, V>>(alloc, leaves)?;
+    let middles = alone(alloc, middle)?;
+    let branch = group_of::<K, V, Middle<K, V>>(alloc, middles)?;
+    let row = alone(alloc, branch)?;
+    Ok(row)
+}
+
+// The top blocks with a new entry in place of the key's, or with none.
 fn blocks_changed<K: Key, V: Drop>(
     alloc: Global,
-    xs: &[Arc<Middle<K, V>>],
+    xs: &[Arc<Branch<K, V>>],
     key: &K,
     new: Option<Arc<(K, V)>>,
-) -> Result<Vec<Arc<Middle<K, V>>>, AllocError>
-    requires whole { AllByRecursion IsMiddle (map arc_value xs.now) }
-    requires spaced { Spaced (map middle_count (map arc_value xs.now)) }
-    requires sorted { T (is_sorted K.cmp (flat_map middle_entries (map arc_value xs.now))) }
+) -> Result<Vec<Arc<Branch<K, V>>>, AllocError>
+    requires whole { AllByRecursion IsBranch (map arc_value xs.now) }
+    requires spaced { Spaced (map group_count (map arc_value xs.now)) }
+    requires sorted { T (is_sorted K.cmp (flat_map branch_entries (map arc_value xs.now))) }
     requires at_key { IfSome new (λ e. (arc_value e).0 ≡ key.now) }
-    ensures entries { IfOk result (λ v. flat_map middle_entries (map arc_value v.items) ≡ change K.cmp key.now (option_map arc_value new) (flat_map middle_entries (map arc_value xs.now))) }
-    ensures whole { IfOk result (λ v. AllByRecursion IsMiddle (map arc_value v.items)) }
-    ensures spaced { IfOk result (λ v. Spaced (map middle_count (map arc_value v.items))) }
+    ensures entries { IfOk result (λ v. flat_map branch_entries (map arc_value v.items) ≡ change K.cmp key.now (option_map arc_value new) (flat_map branch_entries (map arc_value xs.now))) }
+    ensures whole { IfOk result (λ v. AllByRecursion IsBranch (map arc_value v.items)) }
+    ensures spaced { IfOk result (λ v. Spaced (map group_count (map arc_value v.items))) }
 {
     if xs.is_empty() {
-        let mut entries = Vec::new(alloc);
         match new {
             Some(entry) => {
-                entries.push(entry)?;
-                let leaves = leaf_pieces(alloc, entries, 1)?;
-                let blocks = middle_pieces(alloc, leaves, 1)?;
+                let blocks = single(alloc, entry)?;
                 return Ok(blocks);
             }
             None => {
@@ -65,7 +90,7 @@ fn blocks_changed<K: Key, V: Drop>(
             }
         }
     }
-    let blocks = row_changed::<K, V, Middle<K, V>>(alloc, xs, key, new)?;
+    let blocks = row_changed::<K, V, Branch<K, V>>(alloc, xs, key, new)?;
     Ok(blocks)
 }
 
@@ -95,7 +120,7 @@ impl<K: Key, V: Drop> Map<K, V> {
         self.len == 0
     }
 
-    /// The number of middle blocks. A map of this width has at least 2048 entries for each two of them.
+    /// The number of top blocks. A map of this width has at least 2048 entries for each two of them.
     pub fn width(&self) -> u64
         ensures blocks { IsWidth result self.now }
         ensures long { 2048 * (result / 2) ≤ length self.now }
@@ -103,11 +128,12 @@ impl<K: Key, V: Drop> Map<K, V> {
         self.blocks.len() as u64
     }
 
-    /// The middle blocks: each has 1 to 128 leaves of 1 to 128 entries, and two neighbours have together more than 64 members.
-    pub fn blocks(&self) -> &[Arc<Middle<K, V>>]
-        ensures entries { flat_map middle_entries (map arc_value result.now) ≡ self.now }
-        ensures bounded { AllByRecursion IsMiddle (map arc_value result.now) }
-        ensures spaced { Spaced (map middle_count (map arc_value result.now)) }
+    /// The top blocks. Each has 1 to `FULL` blocks, each of these as many leaves, and each leaf as many entries; two neighbours in a row
+    /// have together more than `HALF` members.
+    pub fn blocks(&self) -> &[Arc<Branch<K, V>>]
+        ensures entries { flat_map branch_entries (map arc_value result.now) ≡ self.now }
+        ensures bounded { AllByRecursion IsBranch (map arc_value result.now) }
+        ensures spaced { Spaced (map group_count (map arc_value result.now)) }
     {
         &self.blocks
     }
@@ -116,7 +142,7 @@ impl<K: Key, V: Drop> Map<K, V> {
     pub fn get(&self, key: &K) -> Option<&V>
         ensures { option_copied result ≡ find K.cmp key.now self.now }
     {
-        row_found::<K, V, Middle<K, V>>(&self.blocks, key)
+        row_found::<K, V, Branch<K, V>>(&self.blocks, key)
     }
 
     // The map with a new entry in place of the key's, or with none.
@@ -168,7 +194,7 @@ impl<K: Key, V: Drop> Map<K, V> {
         Ok(map)
     }
 
-    /// The same map once more. The middle blocks are shared, and no entry is copied.
+    /// The same map once more. The top blocks are shared, and no entry is copied.
     pub fn share(&self, alloc: Global) -> Result<Self, AllocError>
         ensures { IfOk result (λ m. m ≡ self.now) }
     {
@@ -186,7 +212,7 @@ impl<K: Key, V: Drop> Map<K, V> {
         ensures { IfOk result (λ r. map pointee r.items ≡ where_key K.cmp (within K.cmp least.now most.now) self.now) }
     {
         let mut out = Vec::new(alloc);
-        row_ranged::<K, V, Middle<K, V>>(&mut out, &self.blocks, least, most)?;
+        row_ranged::<K, V, Branch<K, V>>(&mut out, &self.blocks, least, most)?;
         Ok(out)
     }
 
@@ -198,6 +224,7 @@ impl<K: Key, V: Drop> Map<K, V> {
         Iter {
             entries: &[],
             leaves: &[],
+            middles: &[],
             blocks: &self.blocks,
         }
     }

@@ -5,8 +5,10 @@ ghost use Rattle.core.specs.List.{AllByRecursion};
 ghost use Rattle.core.specs.Ordering.{is_gt};
 ghost use Rattle.core.specs.declared.cmp.Ordering.TheVariants.{Greater};
 ghost use Rattle.cm_map.specs.Parts.{HeadIs, IsBetween};
+ghost use Rattle.cm_map.specs.Sizes.{full};
 
 use crate::key::{Headed, Key};
+use crate::sizes::{FULL, HALF};
 use std::sync::Arc;
 
 /// The last member whose first key isn't above `key`, or else the first.
@@ -33,21 +35,21 @@ pub fn place<K: Key, B: Headed<K>>(xs: &[Arc<B>], key: &K) -> usize
     lo
 }
 
-/// Where a row of 129 members is split that the key made too long: behind all others where the key falls there, so that what
+/// Where a row of `FULL` + 1 members is split that the key made too long: behind all others where the key falls there, so that what
 /// grows at its end fills its blocks, and else in the middle.
 pub fn cut<K: Key, B: Headed<K>>(xs: &[Arc<B>], key: &K) -> usize
     requires heads { AllByRecursion (λ b. IsSome (B.first b)) (map arc_value xs.now) }
     ensures least { 1 ≤ result }
-    ensures most { result ≤ 128 }
+    ensures most { result ≤ full }
 {
     if xs.is_empty() {
-        return 64;
+        return HALF;
     }
     let last: &Arc<B> = &xs[xs.len() - 1];
     if last.head().cmp(key).is_lt() {
-        128
+        FULL
     } else {
-        64
+        HALF
     }
 }
 

@@ -4,12 +4,15 @@ ghost use Rattle.std.specs.Arc.{arc_value};
 ghost use Rattle.core.specs.List.{AllByRecursion, flat_map};
 ghost use Rattle.core.specs.FinMap.Entries.{find, is_sorted, where_key};
 ghost use Rattle.cm_map.specs.Parts.{pointee, within};
+ghost use Rattle.cm_map.specs.Pieces.{blocks_of};
 ghost use Rattle.cm_map.specs.Rows.{Spaced, change};
 
 use crate::block::Block;
 use crate::key::Key;
+use crate::pieces::Pieces;
 use crate::places::{between, place};
 use crate::rows::push_all;
+use crate::sizes::HALF;
 use std::alloc::{AllocError, Global};
 use std::sync::Arc;
 
@@ -40,7 +43,7 @@ pub fn joined<K: Key, V: Drop, B: Block<K, V>>(
             Ok(out)
         }
         Some(first) => {
-            if first.size() + second.size() > 64 {
+            if first.size() + second.size() > HALF {
                 out.push(first)?;
                 push_all(&mut out, right)?;
                 Ok(out)
@@ -54,26 +57,57 @@ pub fn joined<K: Key, V: Drop, B: Block<K, V>>(
     }
 }
 
+/// The row with what a block became at its end.
+pub fn put_pieces<K: Key, V: Drop, B: Block<K, V>>(
+    alloc: Global,
+    row: Vec<Arc<B>>,
+    pieces: Pieces<B>,
+) -> Result<Vec<Arc<B>>, AllocError>
+    requires whole { AllByRecursion B.whole (map arc_value row.items) }
+    requires spaced { Spaced (map B.count (map arc_value row.items)) }
+    requires pieces_whole { AllByRecursion B.whole (blocks_of pieces) }
+    requires pieces_spaced { Spaced (map B.count (blocks_of pieces)) }
+    ensures entries { IfOk result (λ v. flat_map B.entries (map arc_value v.items) ≡
+        flat_map B.entries (map arc_value row.items) ++ flat_map B.entries (blocks_of pieces)) }
+    ensures whole { IfOk result (λ v. AllByRecursion B.whole (map arc_value v.items)) }
+    ensures spaced { IfOk result (λ v. Spaced (map B.count (map arc_value v.items))) }
+    ensures most { IfOk result (λ v. length v.items ≤ length row.items + 2) }
+{
+    match pieces {
+        Pieces::Gone => Ok(row),
+        Pieces::One(block) => {
+            let one = [block];
+            let out = joined::<K, V, B>(alloc, row, &one)?;
+            Ok(out)
+        }
+        Pieces::Two(first, second) => {
+            let two = [first, second];
+            let out = joined::<K, V, B>(alloc, row, &two)?;
+            Ok(out)
+        }
+    }
+}
+
 /// The row with `pieces` in place of the block at `i`.
 pub fn replaced<K: Key, V: Drop, B: Block<K, V>>(
     alloc: Global,
     xs: &[Arc<B>],
     i: usize,
-    pieces: &[Arc<B>],
+    pieces: Pieces<B>,
 ) -> Result<Vec<Arc<B>>, AllocError>
     requires in_range { i < length xs.now }
     requires whole { AllByRecursion B.whole (map arc_value xs.now) }
     requires spaced { Spaced (map B.count (map arc_value xs.now)) }
-    requires pieces_whole { AllByRecursion B.whole (map arc_value pieces.now) }
-    requires pieces_spaced { Spaced (map B.count (map arc_value pieces.now)) }
-    ensures entries { IfOk result (λ v. flat_map B.entries (map arc_value v.items) ≡ flat_map B.entries (take i (map arc_value xs.now)) ++ (flat_map B.entries (map arc_value pieces.now) ++ flat_map B.entries (drop (i + 1) (map arc_value xs.now)))) }
+    requires pieces_whole { AllByRecursion B.whole (blocks_of pieces) }
+    requires pieces_spaced { Spaced (map B.count (blocks_of pieces)) }
+    ensures entries { IfOk result (λ v. flat_map B.entries (map arc_value v.items) ≡ flat_map B.entries (take i (map arc_value xs.now)) ++ (flat_map B.entries (blocks_of pieces) ++ flat_map B.entries (drop (i + 1) (map arc_value xs.now)))) }
     ensures whole { IfOk result (λ v. AllByRecursion B.whole (map arc_value v.items)) }
     ensures spaced { IfOk result (λ v. Spaced (map B.count (map arc_value v.items))) }
-    ensures most { IfOk result (λ v. length v.items + 1 ≤ length xs.now + length pieces.now) }
+    ensures most { IfOk result (λ v. length v.items ≤ length xs.now + 1) }
 {
     let mut before = Vec::with_capacity(alloc, xs.len().saturating_add(1))?;
     push_all(&mut before, &xs[..i])?;
-    let left = joined::<K, V, B>(alloc, before, pieces)?;
+    let left = put_pieces::<K, V, B>(alloc, before, pieces)?;
     let row = joined::<K, V, B>(alloc, left, &xs[i + 1..])?;
     Ok(row)
 }
@@ -98,7 +132,7 @@ pub fn row_changed<K: Key, V: Drop, B: Block<K, V>>(
     let i = place::<K, B>(xs, key);
     let member: &Arc<B> = &xs[i];
     let pieces = member.changed(alloc, key, new)?;
-    let row = replaced::<K, V, B>(alloc, xs, i, &pieces)?;
+    let row = replaced::<K, V, B>(alloc, xs, i, pieces)?;
     Ok(row)
 }
 

@@ -26,12 +26,6 @@ pub filter_whole : {A : Type 0} (p : A → Bool) (xs : List A) → All (λ x. p 
 filter_whole p [] h = refl
 filter_whole p (x ∷ xs) h = rw (All-head (λ x. p x ≡ true) x xs h) (ap (λ l. x ∷ l) (filter_whole p xs (All-tail (λ x. p x ≡ true) x xs h)))
 
-pub filter_none : {A : Type 0} (p : A → Bool) (xs : List A) → list_any p xs ≡ false → filter (λ x. not (p x)) xs ≡ xs
-filter_none p [] h = refl
-filter_none p (x ∷ xs) h = by_test (p x)
-    (λ e. absurd (both_ways true (rw e at h) refl))
-    (λ e. rw e (ap (λ l. x ∷ l) (filter_none p xs (rw e at h))))
-
 -- one more that is tested
 pub any_last : {A : Type 0} (t : A → Bool) (xs : List A) (x : A) → list_any t (xs ++ x ∷ []) ≡ (list_any t xs || t x)
 any_last t [] x = or_false (t x)

@@ -3,5 +3,4 @@ pub mod Ones
 pub mod Tied
 pub mod Lefts
 pub mod Leaving
-pub mod Renditions
 pub mod Whole

@@ -5,7 +5,6 @@ use Rattle.cm_map.specs.Sets.{has_key}
 use Rattle.cm_base.specs.declared.number.Oid.{Oid}
 use Rattle.cm_base.specs.declared.series.Series.{Series}
 use Rattle.cm_base.specs.declared.filing.Filed.{Filed}
-use Rattle.cm_base.specs.declared.content.Rendition.{Rendition}
 use Rattle.cm_types.specs.declared.definition.BaseType.TheVariants as bases
 use Rattle.cmis_spec.specs.Repository.{Repository, same, object_at, series_at, is_a, entry_of}
 use Rattle.cmis_spec.specs.Changes.{edited_series}
@@ -41,10 +40,6 @@ with_last ns n = if among ns n then ns else ns ++ n ∷ []
 -- the set has the numbers
 pub record IsSetOf (set : List ℕ) (ns : List Oid) : Type 0 where
   pub has : (n : Oid) → has_key nat_cmp n.0 set ≡ among ns n
-
--- the rendition has the number of this one, whose object goes
-abbrev pub is_going : (Oid → Bool) → Rendition → Rendition → Bool
-is_going gone e d = gone d.of && same e.id d.id
 
 -- without the pairs, lists and series of what goes
 abbrev pub unlisted : Repository → (Oid → Bool) → Repository

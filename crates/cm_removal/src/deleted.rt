@@ -6,7 +6,7 @@ ghost use Rattle.cm_removal.specs.Steps.{unlisted};
 use crate::entries::{entries_of, leaving, without_lists, without_pairs};
 use crate::gone::Gone;
 use crate::marks::noted;
-use crate::objects::{without_belongings, without_contents, without_objects};
+use crate::objects::{without_contents, without_objects, without_policies, without_renditions};
 use crate::series::with_lefts;
 use crate::ties::going;
 use cm_base::number::{Moment, Oid};
@@ -34,8 +34,9 @@ pub fn removed(alloc: Global, state: &State, gone: &Gone) -> Result<Draft, Alloc
     ensures { IfOk result (λ d. d ≡ removed state.now (among gone.now)) }
 {
     let draft = unlisted(alloc, state, gone)?;
-    let bare = without_belongings(alloc, draft, gone)?;
-    let empty = without_contents(alloc, bare, gone.as_slice())?;
+    let bare = without_policies(alloc, draft, gone.as_slice())?;
+    let plain = without_renditions(alloc, bare, gone.as_slice())?;
+    let empty = without_contents(alloc, plain, gone.as_slice())?;
     let left = without_objects(alloc, empty, gone.as_slice())?;
     Ok(left)
 }

@@ -1,20 +1,13 @@
-//! The lists of which a part goes with objects.
+//! The series of which a part goes with objects.
 ghost use Rattle.std.specs.Prelude.{◌≡◌, not, if◌then◌else◌, IfOk, filter, None, Some, false, unwrap_or, option_map, option_and_then};
 ghost use Rattle.std.specs.List.{list_any};
 ghost use Rattle.cmis_spec.specs.Removal.{left_in, has_members, among};
-ghost use Rattle.cm_removal.specs.Steps.{is_going};
 
 use crate::gone::Gone;
-use cm_base::content::Rendition;
 use cm_base::copies::Copies;
-use cm_base::filing::Applied;
 use cm_base::items::Items;
 use cm_base::series::{DocumentVersion, DocumentVersions, Series, WorkingCopy};
-use cm_map::sequence::Sequence;
-use cm_map::table::Table;
 use std::alloc::{AllocError, Global};
-
-// ---- series
 
 fn any_left(gone: &Gone, versions: &[DocumentVersion]) -> bool
     ensures { result ≡ list_any (λ v. not (among gone.now v.object)) versions.now }
@@ -79,79 +72,4 @@ pub(crate) fn left_in(alloc: Global, gone: &Gone, series: &Series) -> Result<Ser
         versions,
         working,
     })
-}
-
-// ---- applied policies
-
-fn touches(gone: &Gone, pairs: &Sequence<Applied>) -> bool
-    ensures { result ≡ list_any (λ p. among gone.now p.object) pairs.now }
-{
-    let mut any = false;
-    for pair in pairs.iter() {
-        any = any || gone.has(pair.1.object);
-    }
-    any
-}
-
-fn others(
-    alloc: Global,
-    gone: &Gone,
-    pairs: &Sequence<Applied>,
-) -> Result<Sequence<Applied>, AllocError>
-    ensures { IfOk result (λ all. all ≡ filter (λ p. not (among gone.now p.object)) pairs.now) }
-{
-    let mut all = Sequence::empty(alloc);
-    for pair in pairs.iter() {
-        if !gone.has(pair.1.object) {
-            all = all.with_last(alloc, pair.1)?;
-        }
-    }
-    Ok(all)
-}
-
-/// The pairs whose objects stay.
-pub(crate) fn applied_left(
-    alloc: Global,
-    gone: &Gone,
-    pairs: &Sequence<Applied>,
-) -> Result<Sequence<Applied>, AllocError>
-    ensures { IfOk result (λ all. all ≡ filter (λ p. not (among gone.now p.object)) pairs.now) }
-{
-    if touches(gone, pairs) {
-        others(alloc, gone, pairs)
-    } else {
-        pairs.share(alloc)
-    }
-}
-
-// ---- renditions
-
-// The renditions without those that have the number of one whose object goes.
-fn thinned(
-    alloc: Global,
-    gone: &Gone,
-    renditions: &Table<Rendition>,
-) -> Result<Table<Rendition>, AllocError>
-    ensures { IfOk result (λ all. all ≡ filter (λ d. not (list_any (is_going (among gone.now) d) renditions.now)) renditions.now) }
-{
-    let mut all = renditions.share(alloc)?;
-    for entry in renditions.iter() {
-        if gone.has(entry.1.of) {
-            all = all.without(alloc, entry.1.id.0)?;
-        }
-    }
-    Ok(all)
-}
-
-/// The renditions whose objects stay.
-pub(crate) fn renditions_left(
-    alloc: Global,
-    gone: &Gone,
-    renditions: &Table<Rendition>,
-) -> Result<Table<Rendition>, AllocError>
-    ensures { IfOk result (λ all. all ≡ filter (λ d. not (among gone.now d.of)) renditions.now) }
-{
-    let _rising = renditions.len();
-    let all = thinned(alloc, gone, renditions)?;
-    Ok(all)
 }

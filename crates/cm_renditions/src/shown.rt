@@ -1,16 +1,12 @@
 //! The renditions of an object that a filter keeps.
 ghost use Rattle.std.specs.Prelude.{◌≡◌, ◌++◌, ◌∷◌, [], IfOk, OnOk, filter, map};
 ghost use Rattle.cm_map.specs.Parts.{pointee};
-ghost use Rattle.cmis_spec.specs.Repository.{same};
 ghost use Rattle.cm_renditions.specs.Shown.{is_kept, kept_renditions, shown_rendition, shown_renditions};
 
 use cm_base::content::Rendition;
 use cm_base::copies::Copies;
 use cm_base::items::Items;
-use cm_base::number::Oid;
 use cm_base::object::Object;
-use cm_map::table::Table;
-use cm_state::parts::Parts;
 use cm_state::state::State;
 use rendition_parts::filter::RenditionFilter;
 use rendition_parts::replies::{ShownRendition, ShownRenditions};
@@ -22,50 +18,39 @@ fn is_kept(which: &RenditionFilter, rendition: &Rendition) -> bool
     which.keeps(&rendition.kind, &rendition.media)
 }
 
-// Adds the rendition where it is one of the object and the filter keeps it.
+// Adds the rendition where the filter keeps it.
 fn add_kept<'a>(
     all: &mut Vec<&'a Rendition>,
     which: &RenditionFilter,
-    n: Oid,
     rendition: &'a Rendition,
 ) -> Result<(), AllocError>
     ensures { OnOk result (map pointee all.new.items ≡ map pointee all.old.items
-        ++ filter (is_kept which.now) (filter (λ d. same d.of n) (rendition.now ∷ []))) }
+        ++ filter (is_kept which.now) (rendition.now ∷ [])) }
 {
-    if rendition.of == n {
-        if is_kept(which, rendition) {
-            all.push(rendition)?;
-        }
+    if is_kept(which, rendition) {
+        all.push(rendition)?;
     }
     Ok(())
 }
 
-// Those of the object that the filter keeps, in their order.
+// Those that the filter keeps, in their order.
 fn kept_of<'a>(
     alloc: Global,
-    renditions: &'a Table<Rendition>,
+    renditions: &[&'a Rendition],
     which: &RenditionFilter,
-    n: Oid,
 ) -> Result<Vec<&'a Rendition>, AllocError>
     ensures { IfOk result (λ all. map pointee all.items
-        ≡ filter (is_kept which.now) (filter (λ d. same d.of n) renditions.now)) }
+        ≡ filter (is_kept which.now) (map pointee renditions.now)) }
 {
     let mut all = Vec::new(alloc);
-    for entry in renditions.iter() {
-        let at: &'a (u64, Rendition) = entry;
-        add_kept(&mut all, which, n, &at.1)?;
+    for rendition in renditions {
+        add_kept(&mut all, which, *rendition)?;
     }
     Ok(all)
 }
 
-fn renditions(parts: &Parts) -> &Table<Rendition>
-    ensures { result.now ≡ parts.now.renditions }
-{
-    &parts.lists.renditions
-}
-
-/// The renditions of the object that the filter keeps, in the order of their numbers. All renditions of the repository are gone through,
-/// since there is no index of them by their objects; no objects are.
+/// The renditions of the object that the filter keeps, in the order of their numbers. It looks at those of the object and at a bounded
+/// number of others; no objects are gone through.
 pub fn kept_renditions<'a>(
     alloc: Global,
     state: &'a State,
@@ -74,7 +59,8 @@ pub fn kept_renditions<'a>(
 ) -> Result<Vec<&'a Rendition>, AllocError>
     ensures { IfOk result (λ all. map pointee all.items ≡ kept_renditions state.now which.now x.now) }
 {
-    let all = kept_of(alloc, renditions(state.parts()), which, x.id)?;
+    let own = state.renditions_of(alloc, x.id)?;
+    let all = kept_of(alloc, &own, which)?;
     Ok(all)
 }
 

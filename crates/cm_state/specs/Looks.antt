@@ -23,6 +23,22 @@ content_at r n = find (λ c. same c.of n) r.contents
 abbrev pub rendition_at : Repository → Oid → Option Rendition
 rendition_at r n = find (λ d. same d.id n) r.renditions
 
+-- the renditions of a document, in the order of their numbers
+abbrev pub renditions_of : Repository → Oid → List Rendition
+renditions_of r n = filter (λ d. same d.of n) r.renditions
+
+-- the policies that are applied to the object, in the order in which they were
+abbrev pub policies_on : Repository → Oid → List Oid
+policies_on r n = map (λ a. a.policy) (filter (λ a. same a.object n) r.applied)
+
+-- the policy is applied to the object
+abbrev pub is_applied : Repository → Oid → Oid → Bool
+is_applied r policy n = list_any (λ a. same a.policy policy && same a.object n) r.applied
+
+-- the policy is applied to an object
+abbrev pub is_policy_used : Repository → Oid → Bool
+is_policy_used r policy = list_any (λ a. same a.policy policy) r.applied
+
 -- the children of a folder, in the order of their pairs
 abbrev pub entries_in : Repository → Oid → List Oid
 entries_in r f = map (λ p. p.child) (filter (λ p. same p.folder f) r.filed)

@@ -4,12 +4,13 @@ ghost use Rattle.std.specs.Option.{option_copied};
 ghost use Rattle.cm_state.specs.Told.{object_in, series_in, name_by};
 
 use cm_base::access::AccessList;
-use cm_base::content::{Content, Rendition};
-use cm_base::filing::Applied;
+use cm_base::content::Content;
 use cm_base::log::Change;
 use cm_base::number::Oid;
 use cm_base::object::Object;
 use cm_base::series::Series;
+use cm_content::renditions::Renditions;
+use cm_link::links::Links;
 use cm_map::sequence::Sequence;
 use cm_map::table::Table;
 use cm_objects::objects::Objects;
@@ -20,9 +21,9 @@ pub struct Lists {
     pub objects: Objects,
     pub series: Table<Series>,
     pub access: Table<AccessList>,
-    pub applied: Sequence<Applied>,
+    pub applied: Links,
     pub contents: Table<Content>,
-    pub renditions: Table<Rendition>,
+    pub renditions: Renditions,
     pub log: Sequence<Change>,
 }
 
@@ -121,7 +122,7 @@ impl Lists {
     }
 
     /// The lists with these applied policies.
-    pub fn with_applied(self, applied: Sequence<Applied>) -> Lists
+    pub fn with_applied(self, applied: Links) -> Lists
         ensures { result ≡ record self { applied = applied } }
     {
         let mut lists = self;
@@ -139,7 +140,7 @@ impl Lists {
     }
 
     /// The lists with these renditions.
-    pub fn with_renditions(self, renditions: Table<Rendition>) -> Lists
+    pub fn with_renditions(self, renditions: Renditions) -> Lists
         ensures { result ≡ record self { renditions = renditions } }
     {
         let mut lists = self;

@@ -1,17 +1,17 @@
-//! Look-ups in the parts of a repository. None takes memory.
+//! Look-ups in the parts of a repository. Those that are passed no allocator take no memory.
 ghost use Rattle.std.specs.Prelude.{◌≡◌, Option, Some, None, map, length, unwrap_or};
 ghost use Rattle.std.specs.Prelude.{[], is_none, if◌then◌else◌, IfOk};
 ghost use Rattle.std.specs.Option.{option_copied};
+ghost use Rattle.cm_map.specs.Parts.{pointee};
 ghost use Rattle.cm_types.specs.Types.{type_in};
 ghost use Rattle.cmis_spec.specs.Repository.{object_at, series_at, series_of, owner_of, is_latest, latest_version, is_a, parent_in, is_filed, entry_of, entry_name, is_taken};
 ghost use Rattle.cmis_spec.specs.Access.{stands, groups_of};
-ghost use Rattle.cm_state.specs.Looks.{list_at, content_at, rendition_at, entries_in, folders_in, child_in, own_at, standing_at, tied_to, numbers_of_type};
+ghost use Rattle.cm_state.specs.Looks.{list_at, content_at, rendition_at, renditions_of, policies_on, is_applied, is_policy_used, entries_in, folders_in, child_in, own_at, standing_at, tied_to, numbers_of_type};
 
 use crate::parts::Parts;
 use crate::told::is_of_base;
 use cm_base::access::AccessList;
 use cm_base::content::{Content, Rendition};
-use cm_base::filing::Applied;
 use cm_base::log::Change;
 use cm_base::number::{Oid, Oids};
 use cm_base::object::Object;
@@ -159,7 +159,36 @@ impl Parts {
     pub fn rendition(&self, n: Oid) -> Option<&Rendition>
         ensures { option_copied result ≡ rendition_at self.now n }
     {
-        self.lists.renditions.get(n.0)
+        self.lists.renditions.get(n)
+    }
+
+    /// The renditions of a document, in the order of their numbers. It looks at them and at a bounded number of others.
+    pub fn renditions_of(&self, alloc: Global, n: Oid) -> Result<Vec<&Rendition>, AllocError>
+        ensures { IfOk result (λ all. map pointee all.items ≡ renditions_of self.now n) }
+    {
+        self.lists.renditions.of_document(alloc, n)
+    }
+
+    /// The policies that are applied to the object, in the order in which they were (CMIS 1.1, section 2.1.9.1). It looks at them and at a
+    /// bounded number of others.
+    pub fn policies_on(&self, alloc: Global, n: Oid) -> Result<Oids, AllocError>
+        ensures { IfOk result (λ ns. ns ≡ policies_on self.now n) }
+    {
+        self.lists.applied.of_object(alloc, n)
+    }
+
+    /// Whether the policy is applied to the object. It looks at the policies of the object alone.
+    pub fn is_applied(&self, policy: Oid, n: Oid) -> bool
+        ensures { result ≡ is_applied self.now policy n }
+    {
+        self.lists.applied.is_applied(policy, n)
+    }
+
+    /// Whether the policy is applied to any object, however many these are.
+    pub fn is_policy_used(&self, policy: Oid) -> bool
+        ensures { result ≡ is_policy_used self.now policy }
+    {
+        self.lists.applied.is_used(policy)
     }
 
     /// The numbers of the objects that name this one as an end, rising.
@@ -252,13 +281,6 @@ impl Parts {
         ensures { result ≡ self.now.step }
     {
         self.step
-    }
-
-    /// The applied policies: pairs of a policy and an object (CMIS 1.1, section 2.1.9.1).
-    pub fn applied(&self) -> &Sequence<Applied>
-        ensures { result.now ≡ self.now.applied }
-    {
-        &self.lists.applied
     }
 
     /// The change log (CMIS 1.1, section 2.1.15).

@@ -14,7 +14,9 @@ use cm_base::number::{Moment, Oid};
 use cm_base::object::Object;
 use cm_base::text::{Text, Texts};
 use cm_base::user::{Groups, User, Users};
+use cm_content::renditions::Renditions;
 use cm_folder::filing::Filing;
+use cm_link::links::Links;
 use cm_map::sequence::Sequence;
 use cm_map::table::Table;
 use cm_objects::objects::Objects;
@@ -111,9 +113,9 @@ fn first_lists(alloc: Global, folder: Object, aces: Aces) -> Result<Lists, Alloc
         objects,
         series: Table::empty(alloc),
         access,
-        applied: Sequence::empty(alloc),
+        applied: Links::empty(alloc),
         contents: Table::empty(alloc),
-        renditions: Table::empty(alloc),
+        renditions: Renditions::empty(alloc),
         log: Sequence::empty(alloc),
     })
 }

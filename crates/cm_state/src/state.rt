@@ -2,17 +2,17 @@
 ghost use Rattle.std.specs.Prelude.{◌≡◌, Bool, if◌then◌else◌, option_and_then, unwrap_or, ◌+◌, ◌<◌, ◌&&◌, Option, Some, None, IfOk, [], map, find, bytes_eq, length};
 ghost use Rattle.std.specs.Option.{option_copied};
 ghost use Rattle.cm_base.specs.declared.object.Object.{Object};
+ghost use Rattle.cm_map.specs.Parts.{pointee};
 ghost use Rattle.cm_types.specs.Types.{type_in};
 ghost use Rattle.cmis_spec.specs.Repository.{object_at, series_at, series_of, owner_of, is_a, parent_in, is_filed, entry_of, entry_name, is_taken};
 ghost use Rattle.cmis_spec.specs.Access.{stands, groups_of};
 ghost use Rattle.cmis_spec.specs.Well.{IsWellFormed};
-ghost use Rattle.cm_state.specs.Looks.{list_at, content_at, rendition_at, folders_in, numbers_in, tied_to, numbers_of_type};
+ghost use Rattle.cm_state.specs.Looks.{list_at, content_at, rendition_at, renditions_of, policies_on, is_applied, is_policy_used, folders_in, numbers_in, tied_to, numbers_of_type};
 
 use crate::parts::Parts;
 use crate::standing::standing_among;
 use cm_base::access::AccessList;
 use cm_base::content::{Content, Rendition};
-use cm_base::filing::Applied;
 use cm_base::items::Items;
 use cm_base::log::Change;
 use cm_base::number::{Oid, Oids};
@@ -170,6 +170,35 @@ impl State {
         self.parts.rendition(n)
     }
 
+    /// The renditions of a document, in the order of their numbers. It looks at them and at a bounded number of others.
+    pub fn renditions_of(&self, alloc: Global, n: Oid) -> Result<Vec<&Rendition>, AllocError>
+        ensures { IfOk result (λ all. map pointee all.items ≡ renditions_of self.now n) }
+    {
+        self.parts.renditions_of(alloc, n)
+    }
+
+    /// The policies that are applied to the object, in the order in which they were (CMIS 1.1, section 2.1.9.1). It looks at them and at a
+    /// bounded number of others.
+    pub fn policies_on(&self, alloc: Global, n: Oid) -> Result<Oids, AllocError>
+        ensures { IfOk result (λ ns. ns ≡ policies_on self.now n) }
+    {
+        self.parts.policies_on(alloc, n)
+    }
+
+    /// Whether the policy is applied to the object. It looks at the policies of the object alone.
+    pub fn is_applied(&self, policy: Oid, n: Oid) -> bool
+        ensures { result ≡ is_applied self.now policy n }
+    {
+        self.parts.is_applied(policy, n)
+    }
+
+    /// Whether the policy is applied to any object, however many these are.
+    pub fn is_policy_used(&self, policy: Oid) -> bool
+        ensures { result ≡ is_policy_used self.now policy }
+    {
+        self.parts.is_policy_used(policy)
+    }
+
     /// The numbers of the objects that name this one as an end, rising.
     pub fn tied(&self, alloc: Global, n: Oid) -> Result<Oids, AllocError>
         ensures { IfOk result (λ ns. ns ≡ tied_to self.now n) }
@@ -278,13 +307,6 @@ impl State {
         ensures well { IsWellFormed self.now }
     {
         self.parts.step()
-    }
-
-    /// The applied policies: pairs of a policy and an object (CMIS 1.1, section 2.1.9.1).
-    pub fn applied(&self) -> &Sequence<Applied>
-        ensures { result.now ≡ self.now.applied }
-    {
-        self.parts.applied()
     }
 
     /// The change log (CMIS 1.1, section 2.1.15).

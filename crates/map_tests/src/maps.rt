@@ -62,17 +62,17 @@ fn agrees_with_a_plain_list(rt: HostRuntime) -> Result<(), Fail> {
 fn older_maps_stand(rt: HostRuntime) -> Result<(), Fail> {
     let alloc = rt.alloc();
     let mut map: Map<u64, u64> = Map::empty(alloc);
-    for key in 0..20_000u64 {
+    for key in 0..70_000u64 {
         map = map.with(alloc, key, key)?;
     }
     let whole = map.share(alloc)?;
-    for key in 100..19_900u64 {
+    for key in 100..69_900u64 {
         map = map.without(alloc, &key)?;
     }
     assert_eq!(rt; map.len(), 200);
     assert_eq!(rt; map.width(), 1);
     assert_eq!(rt; map.blocks().len(), 1);
-    assert_eq!(rt; whole.len(), 20_000);
+    assert_eq!(rt; whole.len(), 70_000);
     assert!(rt; whole.width() > 1);
     assert!(rt; rises(&map) && rises(&whole));
     assert_eq!(rt; whole.get(&10_000), Some(&10_000));

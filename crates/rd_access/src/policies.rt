@@ -1,10 +1,9 @@
 //! The policies that are applied to an object (CMIS 1.1, section 2.2.9.3).
-ghost use Rattle.std.specs.Prelude.{◌≡◌, ◌++◌, ◌∷◌, [], IfOk, OnOk, filter, map};
+ghost use Rattle.std.specs.Prelude.{◌≡◌, IfOk, map};
 ghost use Rattle.cm_map.specs.Parts.{pointee};
 ghost use Rattle.cm_base.specs.Judged.{Meets};
 ghost use Rattle.call_parts.specs.declared.readings.PropertyFilter.TheVariants as filters;
 ghost use Rattle.cmis_spec.specs.Access.{policies_of};
-ghost use Rattle.cmis_spec.specs.Repository.{same};
 ghost use Rattle.rd_lists.specs.Listed.{objects_reply};
 ghost use Rattle.rd_access.specs.ReadPolicies.{answer_policies};
 
@@ -12,39 +11,14 @@ use call_parts::readings::{PropertyFilter, ReadPolicies};
 use call_parts::replies::ObjectsReply;
 use cm_base::cause::Cause;
 use cm_base::fail::Fail;
-use cm_base::filing::Applied;
 use cm_base::number::Oid;
 use cm_base::object::Object;
 use cm_base::text::Text;
-use cm_map::sequence::Sequence;
 use cm_see::address::addressed;
 use cm_state::state::State;
 use rd_lists::listed::objects_reply;
 use rd_lists::number::{read_among, rising};
 use std::alloc::{AllocError, Global};
-
-// Adds the policy where it is applied to the object.
-fn add_policy(all: &mut Vec<Oid>, pair: &Applied, n: Oid) -> Result<(), AllocError>
-    ensures { OnOk result (all.new.items
-        ≡ all.old.items ++ map (λ a. a.policy) (filter (λ a. same a.object n) (pair.now ∷ []))) }
-{
-    if pair.object == n {
-        all.push(pair.policy)?;
-    }
-    Ok(())
-}
-
-// The numbers of the policies of the object, in the order of the pairs.
-fn numbers_of(alloc: Global, applied: &Sequence<Applied>, n: Oid) -> Result<Vec<Oid>, AllocError>
-    ensures { IfOk result (λ all. all.items ≡ map (λ a. a.policy) (filter (λ a. same a.object n) applied.now)) }
-{
-    let mut all = Vec::new(alloc);
-    for entry in applied.iter() {
-        let at: &(u64, Applied) = entry;
-        add_policy(&mut all, &at.1, n)?;
-    }
-    Ok(all)
-}
 
 // The policies of the object that the caller reads, in the order of their numbers.
 fn policies_of<'a>(
@@ -56,8 +30,8 @@ fn policies_of<'a>(
     ensures { IfOk result (λ all. map pointee all.items ≡ policies_of state.now user.now n) }
 {
     let _step = state.step();
-    let numbers = numbers_of(alloc, state.applied(), n)?;
-    let rising = rising(alloc, &numbers)?;
+    let numbers = state.policies_on(alloc, n)?;
+    let rising = rising(alloc, numbers.as_slice())?;
     let all = read_among(alloc, state, user, rising.as_slice())?;
     Ok(all)
 }

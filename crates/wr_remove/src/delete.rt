@@ -57,11 +57,7 @@ fn is_filled(state: &State, x: &Object) -> bool
 fn is_applied(state: &State, x: &Object) -> bool
     ensures { result ≡ is_applied state.now x.now }
 {
-    let mut any = false;
-    for pair in state.applied().iter() {
-        any = any || pair.1.policy == x.id;
-    }
-    any
+    state.is_policy_used(x.id)
 }
 
 // Whether the object may go.

@@ -31,7 +31,6 @@ returns-clause-entries g c =
     let FA = flat_map f (take i bs) in
     let FC = flat_map f (drop (i + 1) bs) in
     c.in_ok-row.ensures.entries
-    ∙ ap (λ l. FA ++ (flat_map f (map arc_value l) ++ FC)) c.deref-2.ensures.value
     ∙ ap (λ l. FA ++ (l ++ FC)) (c.in_ok-pieces.ensures.entries ∙ ap (λ b. change g.K.Ord.cmp c.args.key.now new (f b)) c.deref.ensures)
     ∙ sym cm
     ∙ ap (change g.K.Ord.cmp c.args.key.now new) (sym fs)

@@ -1,5 +1,4 @@
-use Rattle.std.proofs.Common.{ap, ◌∙◌, map}
-use Rattle.std.specs.Prelude.{filter}
+use Rattle.std.proofs.Common.{ap, ◌∙◌}
 use Rattle.std.specs.List.{filter_map, list_any}
 use Rattle.cmis_spec.specs.Repository.{same}
 use Rattle.cmis_spec.specs.Access.{read_at}
@@ -12,7 +11,7 @@ returns c =
     let u = c.args.user.now in
     let n = c.args.n in
     c.in_ok-all.ensures
-    ∙ (ap (filter_map (read_at r u)) c.as_slice.ensures
+    ∙ (ap (filter_map (read_at r u)) c.as_slice-2.ensures
     ∙ policies_read r u n c.in_ok-rising.rising c.step-step.ensures.well c.in_ok-rising.ensures.rising
     (λ m. c.in_ok-rising.ensures.members m
-    ∙ ap (list_any (same m)) (c.deref.ensures.value ∙ (c.in_ok-numbers.ensures ∙ ap (λ ps. map (λ a. a.policy) (filter (λ a. same a.object n) ps)) c.applied.ensures))))
+    ∙ ap (list_any (same m)) (c.as_slice.ensures ∙ c.in_ok-numbers.ensures)))

@@ -1,6 +1,6 @@
 use Rattle.std.proofs.Common.{filter_map, ap, ◌∙◌}
 use Rattle.cm_folder.specs.Filings.{edit_child}
-use Rattle.cm_folder.proofs.Indexing.{list_changed}
+use Rattle.place_laws.proofs.Clearing.{list_changed}
 use Rattle.cm_folder.proofs.filing.Filing.edited.Goals as goal
 
 pub returns : goal.returns

@@ -1,6 +1,6 @@
 use Rattle.std.proofs.Common.{map, ◌++◌, ◌∷◌, [], ap, ◌∙◌}
-use Rattle.cm_folder.proofs.Placing.{all_below, put_entry}
-use Rattle.cm_folder.proofs.Indexing.{below_put}
+use Rattle.place_laws.proofs.Placing.{all_below, put_entry}
+use Rattle.place_laws.proofs.Clearing.{below_put}
 use Rattle.cm_folder.proofs.filing.Filing.with_entry.Goals as goal
 
 pub invariant_of-result : goal.invariant_of-result

@@ -2,7 +2,7 @@ use Rattle.std.proofs.Common.{Some, T, inl, refl, sym, ap, subst, ◌∙◌}
 use Rattle.core.specs.Ordering.{nat_cmp}
 use Rattle.core.specs.Cmp.{nat_cmp_total}
 use Rattle.core.specs.FinMap.Entries.{find, is_sorted, is_sorted-put}
-use Rattle.cm_folder.proofs.Placing.{find-put_at}
+use Rattle.place_laws.proofs.Placing.{find-put_at}
 use Rattle.cm_folder.proofs.Indexing.{indexed_changed}
 use Rattle.cm_folder.proofs.parts.Parts.with_entry.Goals as goal
 

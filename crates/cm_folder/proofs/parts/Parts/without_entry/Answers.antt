@@ -1,7 +1,7 @@
 use Rattle.std.proofs.Common.{◌≡◌, ℕ, ◌==◌, cond, not, None, T, inr, refl, sym, ap, subst, ◌∙◌}
 use Rattle.core.specs.Ordering.{nat_cmp, eq_by_cmp}
 use Rattle.core.specs.FinMap.Entries.{find, is_sorted, is_sorted-where_key}
-use Rattle.cm_folder.proofs.Placing.{find-without_at}
+use Rattle.place_laws.proofs.Placing.{find-without_at}
 use Rattle.cm_folder.proofs.Indexing.{indexed_changed}
 use Rattle.cm_folder.proofs.parts.Parts.without_entry.Goals as goal
 

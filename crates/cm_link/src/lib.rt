@@ -1,0 +1,7 @@
+//! Which policies are applied to which objects, with what is looked up among them without going through all.
+#![tactic(auto)]
+
+ghost use Rattle.std.specs.Prelude.{◌≡◌};
+
+pub mod links;
+mod pairs;
