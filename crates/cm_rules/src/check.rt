@@ -1,6 +1,7 @@
 //! Given properties against their definitions, and the values that are then kept.
-ghost use Rattle.std.specs.Prelude.{◌≡◌};
+ghost use Rattle.std.specs.Prelude.{◌≡◌, map};
 ghost use Rattle.cm_base.specs.Judged.{Meets};
+ghost use Rattle.cm_map.specs.Parts.{pointee};
 ghost use Rattle.cm_types.specs.declared.given.PropertyCall.TheVariants as calls;
 ghost use Rattle.cm_types.specs.Properties.{judge_properties, judge_values};
 
@@ -9,47 +10,35 @@ use crate::kept::{judge_missing, kept_values};
 use cm_base::fail::Fail;
 use cm_base::value::Values;
 use cm_types::given::{Givens, PropertyCall};
-use cm_types::property::PropDefs;
+use cm_types::property::PropDef;
 use std::alloc::Global;
 
 #[tactic(auto, using(cm_types::proofs::Exits::fails_then))]
 fn judge_properties(
     alloc: Global,
     call: PropertyCall,
-    defs: &PropDefs,
+    defs: &[&PropDef],
     old: &Values,
     given: &Givens,
 ) -> Result<(), Fail>
-    ensures { Meets (λ x. x) result (judge_properties call defs.now old.now given.now) }
+    ensures { Meets (λ x. x) result (judge_properties call (map pointee defs.now) old.now given.now) }
 {
-    judge_given(alloc, call, defs.as_slice(), given.as_slice())?;
-    judge_missing(
-        alloc,
-        call,
-        defs.as_slice(),
-        old.as_slice(),
-        given.as_slice(),
-    )
+    judge_given(alloc, call, defs, given.as_slice())?;
+    judge_missing(alloc, call, defs, old.as_slice(), given.as_slice())
 }
 
 #[tactic(auto, using(cm_types::proofs::Exits::fails_then))]
 fn judge_values(
     alloc: Global,
     call: PropertyCall,
-    defs: &PropDefs,
+    defs: &[&PropDef],
     old: &Values,
     given: &Givens,
 ) -> Result<Values, Fail>
-    ensures { Meets (λ x. x) result (judge_values call defs.now old.now given.now) }
+    ensures { Meets (λ x. x) result (judge_values call (map pointee defs.now) old.now given.now) }
 {
     judge_properties(alloc, call, defs, old, given)?;
-    let kept = kept_values(
-        alloc,
-        call,
-        defs.as_slice(),
-        old.as_slice(),
-        given.as_slice(),
-    )?;
+    let kept = kept_values(alloc, call, defs, old.as_slice(), given.as_slice())?;
     Ok(kept)
 }
 
@@ -59,11 +48,11 @@ fn judge_values(
 /// the given properties in their order, then the first required property, in the order of the definitions, that would be unset.
 pub fn check_new(
     alloc: Global,
-    defs: &PropDefs,
+    defs: &[&PropDef],
     copied: &Values,
     given: &Givens,
 ) -> Result<Values, Fail>
-    ensures { Meets (λ x. x) result (judge_values calls.Create defs.now copied.now given.now) }
+    ensures { Meets (λ x. x) result (judge_values calls.Create (map pointee defs.now) copied.now given.now) }
 {
     judge_values(alloc, PropertyCall::Create, defs, copied, given)
 }
@@ -72,12 +61,12 @@ pub fn check_new(
 /// object is a private working copy.
 pub fn check_update(
     alloc: Global,
-    defs: &PropDefs,
+    defs: &[&PropDef],
     old: &Values,
     given: &Givens,
     working: bool,
 ) -> Result<Values, Fail>
-    ensures { Meets (λ x. x) result (judge_values (calls.Update working) defs.now old.now given.now) }
+    ensures { Meets (λ x. x) result (judge_values (calls.Update working) (map pointee defs.now) old.now given.now) }
 {
     judge_values(alloc, PropertyCall::Update(working), defs, old, given)
 }
@@ -85,11 +74,11 @@ pub fn check_update(
 /// The values after a check-in, as after an update.
 pub fn check_checked_in(
     alloc: Global,
-    defs: &PropDefs,
+    defs: &[&PropDef],
     old: &Values,
     given: &Givens,
 ) -> Result<Values, Fail>
-    ensures { Meets (λ x. x) result (judge_values calls.CheckIn defs.now old.now given.now) }
+    ensures { Meets (λ x. x) result (judge_values calls.CheckIn (map pointee defs.now) old.now given.now) }
 {
     judge_values(alloc, PropertyCall::CheckIn, defs, old, given)
 }

@@ -1,6 +1,7 @@
 //! What is wrong with a given property.
-ghost use Rattle.std.specs.Prelude.{◌≡◌, IfOk};
+ghost use Rattle.std.specs.Prelude.{◌≡◌, IfOk, map};
 ghost use Rattle.cm_base.specs.Judged.{Meets, judge_by, first_cause};
+ghost use Rattle.cm_map.specs.Parts.{pointee};
 ghost use Rattle.cm_types.specs.Properties.{may_give, has_other_form, breaks_cardinality, breaks_form, stated, fault_by, property_fault, given_cause};
 
 use crate::lookup::def_of;
@@ -84,10 +85,10 @@ fn fault_by(
 pub fn property_fault(
     alloc: Global,
     call: PropertyCall,
-    defs: &[PropDef],
+    defs: &[&PropDef],
     given: &Given,
 ) -> Result<Option<PropertyFault>, AllocError>
-    ensures { IfOk result (λ f. f ≡ property_fault call defs.now given.now) }
+    ensures { IfOk result (λ f. f ≡ property_fault call (map pointee defs.now) given.now) }
 {
     match def_of(defs, &given.id) {
         Some(def) => fault_by(alloc, call, def, given),
@@ -95,8 +96,13 @@ pub fn property_fault(
     }
 }
 
-fn judge_one(alloc: Global, call: PropertyCall, defs: &[PropDef], given: &Given) -> Result<(), Fail>
-    ensures { Meets (λ x. x) result (judge_by (given_cause call defs.now given.now)) }
+fn judge_one(
+    alloc: Global,
+    call: PropertyCall,
+    defs: &[&PropDef],
+    given: &Given,
+) -> Result<(), Fail>
+    ensures { Meets (λ x. x) result (judge_by (given_cause call (map pointee defs.now) given.now)) }
 {
     match property_fault(alloc, call, defs, given)? {
         Some(fault) => Err(Fail::Refused(Cause::Property(given.id.copied(alloc)?, fault))),
@@ -108,10 +114,10 @@ fn judge_one(alloc: Global, call: PropertyCall, defs: &[PropDef], given: &Given)
 pub(crate) fn judge_given(
     alloc: Global,
     call: PropertyCall,
-    defs: &[PropDef],
+    defs: &[&PropDef],
     given: &[Given],
 ) -> Result<(), Fail>
-    ensures { Meets (λ x. x) result (first_cause (given_cause call defs.now) given.now) }
+    ensures { Meets (λ x. x) result (first_cause (given_cause call (map pointee defs.now)) given.now) }
 {
     for one in given {
         judge_one(alloc, call, defs, one)?;

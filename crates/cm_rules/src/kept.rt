@@ -1,7 +1,8 @@
 //! The values that are kept.
-ghost use Rattle.std.specs.Prelude.{◌≡◌, IfOk, [], ◌∷◌, false};
+ghost use Rattle.std.specs.Prelude.{◌≡◌, IfOk, [], ◌∷◌, false, map};
 ghost use Rattle.cm_base.specs.Judged.{Meets, judge_by, first_cause};
-ghost use Rattle.cm_types.specs.Properties.{is_set, value_of_texts, stated, value_before, kept_value, kept_values, default_values, is_missing, missing_cause};
+ghost use Rattle.cm_map.specs.Parts.{pointee};
+ghost use Rattle.cm_types.specs.Properties.{is_set, value_of_texts, stated, value_before, kept_value, kept_values, is_missing, missing_cause};
 
 use crate::fault::stated;
 use crate::lookup::{given_of, slot_in};
@@ -13,7 +14,7 @@ use cm_base::items::Items;
 use cm_base::text::Text;
 use cm_base::value::{Slot, Value, Values};
 use cm_types::given::{Given, PropertyCall};
-use cm_types::property::{PropDef, PropDefs, PropertyKind};
+use cm_types::property::{PropDef, PropertyKind};
 use std::alloc::{AllocError, Global};
 
 /// Whether a value is set.
@@ -65,11 +66,11 @@ fn kept_value(
 pub fn kept_values(
     alloc: Global,
     call: PropertyCall,
-    defs: &[PropDef],
+    defs: &[&PropDef],
     old: &[Slot],
     given: &[Given],
 ) -> Result<Values, AllocError>
-    ensures { IfOk result (λ v. v ≡ kept_values call defs.now old.now given.now) }
+    ensures { IfOk result (λ v. v ≡ kept_values call (map pointee defs.now) old.now given.now) }
 {
     let mut kept = Items::new(alloc);
     for def in defs {
@@ -78,20 +79,6 @@ pub fn kept_values(
         kept.push(Slot { id, value })?;
     }
     Ok(kept)
-}
-
-/// The default values of the properties, unset where there is none.
-pub fn defaults(alloc: Global, defs: &PropDefs) -> Result<Values, AllocError>
-    ensures { IfOk result (λ v. v ≡ default_values defs.now) }
-{
-    let defs = defs.as_slice();
-    let mut all = Items::new(alloc);
-    for def in defs {
-        let value = def.default.copied(alloc)?;
-        let id = def.id.copied(alloc)?;
-        all.push(Slot { id, value })?;
-    }
-    Ok(all)
 }
 
 #[tactic(auto, using(crate::proofs::Lists::is_set_one))]
@@ -163,11 +150,11 @@ fn judge_one(
 pub(crate) fn judge_missing(
     alloc: Global,
     call: PropertyCall,
-    defs: &[PropDef],
+    defs: &[&PropDef],
     old: &[Slot],
     given: &[Given],
 ) -> Result<(), Fail>
-    ensures { Meets (λ x. x) result (first_cause (missing_cause call old.now given.now) defs.now) }
+    ensures { Meets (λ x. x) result (first_cause (missing_cause call old.now given.now) (map pointee defs.now)) }
 {
     for def in defs {
         judge_one(alloc, call, old, given, def)?;

@@ -1,5 +1,6 @@
 //! Look-ups by id.
-ghost use Rattle.std.specs.Prelude.{◌≡◌, find, option_copied};
+ghost use Rattle.std.specs.Prelude.{◌≡◌, find, option_copied, map};
+ghost use Rattle.cm_map.specs.Parts.{pointee};
 ghost use Rattle.cm_types.specs.Properties.{def_of, slot_in, given_of};
 
 use cm_base::text::Text;
@@ -8,10 +9,15 @@ use cm_types::given::Given;
 use cm_types::property::PropDef;
 
 /// The definition of a property.
-pub fn def_of<'a>(defs: &'a [PropDef], id: &Text) -> Option<&'a PropDef>
-    ensures { option_copied result ≡ def_of defs.now id.now }
+pub fn def_of<'a>(defs: &[&'a PropDef], id: &Text) -> Option<&'a PropDef>
+    ensures { option_copied result ≡ def_of (map pointee defs.now) id.now }
 {
-    defs.iter().find(|d| d.id.is(id))
+    for def in defs {
+        if def.id.is(id) {
+            return Some(*def);
+        }
+    }
+    None
 }
 
 /// The given property with the id.

@@ -10,14 +10,12 @@ ghost use Rattle.type_requests.specs.Keys.{IsKeyed, values_of};
 
 use crate::scan::all_of;
 use cm_base::copies::Copies;
-use cm_base::items::Items;
 use cm_base::text::Text;
 use cm_map::map::Map;
 use cm_types::definition::TypeDef;
-use cm_types::property::PropDefs;
+use cm_types::property::PropDef;
 use std::alloc::{AllocError, Global};
 use std::marker::Model;
-use type_requests::placed::add_copies;
 
 #[tactic(auto, unfolding(cm_types::specs::Types::longest_chain))]
 pub(crate) fn longest_chain() -> u64
@@ -61,12 +59,30 @@ fn first_of_each<'a>(alloc: Global, all: &[&'a TypeDef]) -> Result<Vec<&'a TypeD
     Ok(types)
 }
 
-fn props_in(alloc: Global, types: &[&TypeDef]) -> Result<PropDefs, AllocError>
-    ensures { IfOk result (λ all. all ≡ flat_map (λ t. t.properties) (map pointee types.now)) }
+fn add_props<'a>(all: &mut Vec<&'a PropDef>, defs: &'a [PropDef]) -> Result<(), AllocError>
+    ensures { OnOk result (map pointee all.new.items ≡ map pointee all.old.items ++ defs.now) }
 {
-    let mut all = Items::new(alloc);
+    for def in defs {
+        all.push(def)?;
+    }
+    Ok(())
+}
+
+// The number of properties that types define, or more.
+fn props_len(types: &[&TypeDef]) -> usize {
+    let mut n: usize = 0;
     for def in types {
-        add_copies(alloc, &mut all, def.properties.as_slice())?;
+        n = n.saturating_add(def.properties.len());
+    }
+    n
+}
+
+fn props_in<'a>(alloc: Global, types: &[&'a TypeDef]) -> Result<Vec<&'a PropDef>, AllocError>
+    ensures { IfOk result (λ all. map pointee all.items ≡ flat_map (λ t. t.properties) (map pointee types.now)) }
+{
+    let mut all = Vec::with_capacity(alloc, props_len(types))?;
+    for def in types {
+        add_props(&mut all, def.properties.as_slice())?;
     }
     Ok(all)
 }
@@ -197,14 +213,14 @@ impl Types {
         Ok(all)
     }
 
-    /// The definitions of an object's properties.
+    /// The definitions of an object's properties. None of them is copied.
     pub fn props_of(
         &self,
         alloc: Global,
         id: &Text,
         secondaries: &[Text],
-    ) -> Result<PropDefs, AllocError>
-        ensures { IfOk result (λ all. all ≡ props_of self.now id.now secondaries.now) }
+    ) -> Result<Vec<&PropDef>, AllocError>
+        ensures { IfOk result (λ all. map pointee all.items ≡ props_of self.now id.now secondaries.now) }
     {
         let types = self.types_of(alloc, id, secondaries)?;
         let all = props_in(alloc, &types)?;

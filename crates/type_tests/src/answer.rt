@@ -79,7 +79,7 @@ fn all_ids(alloc: Global, types: &Types) -> Result<String, AllocError> {
 fn properties(alloc: Global, types: &Types, id: &Text) -> Result<String, AllocError> {
     let defs = types.props_of(alloc, id, &[])?;
     let count = defs.len();
-    match defs.as_slice().last() {
+    match defs.last() {
         Some(def) => {
             let id = def.id.as_str();
             let required = def.required;
