@@ -19,7 +19,8 @@ use Rattle.cmis_spec.specs.Repository.{Repository, depth_of, is_a, is_taken, mos
 use Rattle.cmis_spec.specs.Access.{is_at_least, level_of_caller}
 use Rattle.wr_rules.specs.Rules.{bars_child, judge_storage, unknown_type, has_other_secondary, has_unknown_permission, unread_cause, has_other_policy}
 use Rattle.wr_object.specs.CreateFolder.{is_uncontrollable, refusal_create_folder}
-use Rattle.wr_object.specs.Parts.{judge_found, judge_kinds, judge_name, judge_place, wanted_in}
+use Rattle.wr_object.specs.Parts.{judge_found, judge_kinds, judge_name, judge_place}
+use Rattle.wr_rules.specs.Wanted.{wanted_in}
 use Rattle.wr_object.proofs.Parted.{parted}
 use Rattle.action_laws.specs.Refused.{IsBarred, IsRefused, MayDo, OnlyComes}
 use Rattle.action_laws.proofs.Judging.{at_any, at_later, at_object, creation_lines}

@@ -22,7 +22,7 @@ use Rattle.wr_rules.specs.Documents.{judge_content}
 use Rattle.wr_rules.specs.Rules.{bars_child, judge_storage, unknown_type, has_other_secondary, has_unknown_permission, unread_cause, has_other_policy}
 use Rattle.wr_object.specs.CreateDocument.{folder_at, has_other_state, is_name_taken, is_uncontrollable, refusal_create_document}
 use Rattle.wr_object.specs.DocumentParts.{judge_found, judge_kinds, judge_name, judge_place}
-use Rattle.wr_object.specs.Parts.{wanted_in}
+use Rattle.wr_rules.specs.Wanted.{wanted_in}
 use Rattle.wr_object.proofs.DocumentParted.{parted}
 use Rattle.action_laws.specs.Refused.{IsBarred, IsRefused, MayDo, OnlyComes}
 use Rattle.action_laws.proofs.Judging.{at_any, at_later, creation_lines}

@@ -22,9 +22,8 @@ use Rattle.cm_types.specs.Properties.{judge_properties}
 use Rattle.cmis_spec.specs.Repository.{Repository, is_a}
 use Rattle.cmis_spec.specs.Access.{is_at_least, level_of_caller}
 use Rattle.wr_rules.specs.Rules.{bars_child, judge_storage, unknown_type, has_other_secondary, has_unknown_permission, unread_cause, has_other_policy}
-use Rattle.wr_object.specs.declared.wanted.Wanted.{Wanted}
+use Rattle.wr_rules.specs.Wanted.{Wanted, wanted_in}
 use Rattle.wr_object.specs.CreateDocument.{folder_at, is_name_taken}
-use Rattle.wr_object.specs.Parts.{wanted_in}
 use Rattle.wr_create.specs.CreateItem.{judge_item, judge_place, refusal_create_item}
 use Rattle.wr_create.specs.Making.{is_uncontrollable, judge_request, judge_type}
 use Rattle.action_laws.specs.Refused.{IsBarred, IsRefused, MayDo, OnlyComes}

@@ -17,8 +17,7 @@ use Rattle.cm_see.specs.Addressed.{addressed}
 use Rattle.cmis_spec.specs.Repository.{Repository, is_a}
 use Rattle.cmis_spec.specs.Access.{read_named}
 use Rattle.wr_rules.specs.Rules.{judge_storage, unknown_type, unread_cause, has_other_policy}
-use Rattle.wr_object.specs.declared.wanted.Wanted.{Wanted}
-use Rattle.wr_object.specs.Parts.{wanted_in}
+use Rattle.wr_rules.specs.Wanted.{Wanted, wanted_in}
 use Rattle.wr_create.specs.Making.{is_uncontrollable, judge_addressed, judge_request, judge_type}
 use Rattle.wr_relationship.specs.CreateRelationship.{bars_end, end_at, first_given, is_relationship, judge_ends, judge_link, judge_relationship, named_by, refusal_create_relationship, refusal_of_relationship, with_name}
 use Rattle.action_laws.specs.Refused.{IsBarred, IsRefused, MayDo, OnlyComes, names_relationship, source_in, target_in}

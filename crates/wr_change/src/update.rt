@@ -1,5 +1,6 @@
 //! updateProperties (CMIS 1.1, section 2.2.4.13).
-ghost use Rattle.std.specs.Prelude.{◌≡◌, ◌&&◌, not, Ok, IfOk};
+ghost use Rattle.std.specs.Prelude.{◌≡◌, ◌&&◌, not, Ok, IfOk, map};
+ghost use Rattle.cm_map.specs.Parts.{pointee};
 ghost use Rattle.cm_base.specs.Judged.{Meets, Leaves, Writes, first_cause};
 ghost use Rattle.cm_types.specs.declared.given.PropertyCall.TheVariants as calls;
 ghost use Rattle.cm_types.specs.Properties.{judge_properties};
@@ -34,7 +35,7 @@ use cm_see::level::lacks;
 use cm_state::look::entry_of;
 use cm_state::open::ROOT;
 use cm_state::state::State;
-use cm_types::property::PropDefs;
+use cm_types::property::PropDef;
 use std::alloc::{AllocError, Global};
 use wr_rules::beside::kept_beside;
 use wr_rules::kinds::{has_other_secondary, judge_types};
@@ -100,13 +101,13 @@ fn judge_allowed(
 }
 
 // The definitions of the properties that the object has after the call.
-fn props_updated(
+fn props_updated<'a>(
     alloc: Global,
-    state: &State,
+    state: &'a State,
     call: &UpdateProperties,
     x: &Object,
-) -> Result<PropDefs, AllocError>
-    ensures { IfOk result (λ defs. defs ≡ props_updated state.now call.now x.now) }
+) -> Result<Vec<&'a PropDef>, AllocError>
+    ensures { IfOk result (λ defs. map pointee defs.items ≡ props_updated state.now call.now x.now) }
 {
     let secondary = secondary_updated(alloc, call, x)?;
     let defs = state

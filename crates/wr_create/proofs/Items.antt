@@ -20,7 +20,7 @@ use Rattle.cmis_laws.proofs.Passed.{then_ok, refuse_ok, refused_not, find_ok, no
 use Rattle.wr_rules.specs.Rules.{judge_storage, unknown_type, unread_cause, has_other_policy, policies_in, new_aces}
 use Rattle.wr_rules.proofs.Found.{addressed_there}
 use Rattle.wr_rules.proofs.Room.{room_of}
-use Rattle.wr_object.specs.Parts.{wanted_in}
+use Rattle.wr_rules.specs.Wanted.{wanted_in}
 use Rattle.wr_object.specs.CreateDocument.{folder_at, may_not_make, is_no_folder, is_name_taken}
 use Rattle.wr_object.specs.DocumentParts.{number_of}
 use Rattle.wr_create.specs.Making.{judge_type, judge_request, new_object, made_by, after_making}

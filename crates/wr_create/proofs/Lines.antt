@@ -16,7 +16,7 @@ use Rattle.cm_see.specs.Addressed.{addressed}
 use Rattle.cmis_spec.specs.Repository.{Repository}
 use Rattle.cmis_laws.proofs.Passed.{err_ok, then_ok, refuse_ok}
 use Rattle.wr_rules.specs.Rules.{has_other_secondary}
-use Rattle.wr_object.specs.declared.wanted.Wanted.{Wanted}
+use Rattle.wr_rules.specs.Wanted.{Wanted}
 use Rattle.wr_object.specs.CreateDocument.{folder_at}
 use Rattle.wr_create.specs.Making.{judge_type, judge_request}
 

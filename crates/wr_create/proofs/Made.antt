@@ -26,8 +26,7 @@ use Rattle.cmis_laws.proofs.Passed.{not_false, or_left, or_right}
 use Rattle.cmis_laws.proofs.Steps.{HasRoom}
 use Rattle.wr_rules.specs.Rules.{distinct, type_id_in, secondary_in, has_other_secondary, has_other_policy, policies_in, new_aces}
 use Rattle.wr_rules.proofs.Known.{below_secondary}
-use Rattle.wr_object.specs.declared.wanted.Wanted.{Wanted}
-use Rattle.wr_object.specs.Parts.{wanted_in}
+use Rattle.wr_rules.specs.Wanted.{Wanted, wanted_in}
 use Rattle.wr_object.specs.DocumentParts.{filed_at}
 use Rattle.wr_object.proofs.CreateFolder.{IsGood, new_permit, distinct_all, good_all, named_all}
 use Rattle.wr_create.specs.declared.making.NewObject.{NewObject}

@@ -15,7 +15,7 @@ use Rattle.cmis_laws.proofs.Made.{made_keeps}
 use Rattle.cmis_laws.proofs.Passed.{then_ok, refuse_ok, find_ok}
 use Rattle.wr_rules.specs.Rules.{judge_storage, unknown_type, unread_cause, has_other_policy, policies_in, new_aces}
 use Rattle.wr_rules.proofs.Room.{room_of}
-use Rattle.wr_object.specs.Parts.{wanted_in}
+use Rattle.wr_rules.specs.Wanted.{wanted_in}
 use Rattle.wr_object.specs.CreateDocument.{may_not_make}
 use Rattle.wr_create.specs.Making.{judge_addressed, judge_type, is_uncontrollable, judge_request, new_object}
 use Rattle.wr_create.specs.CreatePolicy.{refusal_create_policy, after_create_policy}

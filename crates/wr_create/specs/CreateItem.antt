@@ -13,8 +13,7 @@ use Rattle.create_parts.specs.Weight.{weight_of_create_item}
 use Rattle.cm_see.specs.Addressed.{addressed}
 use Rattle.cmis_spec.specs.Repository.{Repository}
 use Rattle.wr_rules.specs.Rules.{judge_storage, unknown_type, bars_child, unread_cause, has_other_policy}
-use Rattle.wr_object.specs.declared.wanted.Wanted.{Wanted}
-use Rattle.wr_object.specs.Parts.{wanted_in}
+use Rattle.wr_rules.specs.Wanted.{Wanted, wanted_in}
 use Rattle.wr_object.specs.CreateDocument.{folder_at, may_not_make, is_no_folder, is_name_taken}
 use Rattle.wr_object.specs.DocumentParts.{number_of}
 use Rattle.wr_create.specs.declared.making.NewObject.{NewObject}

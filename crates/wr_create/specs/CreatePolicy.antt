@@ -11,8 +11,7 @@ use Rattle.create_parts.specs.declared.writes.CreatePolicy.{CreatePolicy}
 use Rattle.create_parts.specs.Weight.{weight_of_create_policy}
 use Rattle.cmis_spec.specs.Repository.{Repository}
 use Rattle.wr_rules.specs.Rules.{judge_storage, unknown_type, unread_cause, has_other_policy}
-use Rattle.wr_object.specs.declared.wanted.Wanted.{Wanted}
-use Rattle.wr_object.specs.Parts.{wanted_in}
+use Rattle.wr_rules.specs.Wanted.{Wanted, wanted_in}
 use Rattle.wr_object.specs.CreateDocument.{may_not_make}
 use Rattle.wr_create.specs.declared.making.NewObject.{NewObject}
 use Rattle.wr_create.specs.Making.{judge_addressed, judge_type, is_uncontrollable, judge_request, cost_of_making, made_by, after_making, reply_of_making}

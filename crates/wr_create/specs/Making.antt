@@ -25,8 +25,7 @@ use Rattle.cmis_spec.specs.Repository.{Repository, new_number}
 use Rattle.cmis_spec.specs.Values.{kept_beside}
 use Rattle.cmis_spec.specs.Changes.{stepped, noted, with_object}
 use Rattle.wr_rules.specs.Rules.{has_other_secondary, policies_in, has_unknown_permission, has_entries, new_aces, defaults_cost}
-use Rattle.wr_object.specs.declared.wanted.Wanted.{Wanted}
-use Rattle.wr_object.specs.Parts.{wanted_in}
+use Rattle.wr_rules.specs.Wanted.{Wanted, wanted_in}
 use Rattle.wr_object.specs.DocumentParts.{filed_at}
 use Rattle.wr_create.specs.declared.making.NewObject.{NewObject}
 

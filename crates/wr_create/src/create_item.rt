@@ -9,7 +9,7 @@ ghost use Rattle.cmis_spec.specs.Well.{IsWellFormed};
 ghost use Rattle.wr_rules.specs.Rules.{bars_child, has_other_policy};
 ghost use Rattle.wr_object.specs.CreateDocument.{folder_at, may_not_make, is_no_folder, is_name_taken};
 ghost use Rattle.wr_object.specs.DocumentParts.{number_of};
-ghost use Rattle.wr_object.specs.Parts.{wanted_in};
+ghost use Rattle.wr_rules.specs.Wanted.{wanted_in};
 ghost use Rattle.wr_create.specs.CreateItem.{cost_create_item, judge_place, judge_item, refusal_of_item, refusal_create_item, after_create_item, acknowledgement_create_item};
 
 use crate::making::{made_with_reply, new_object, with_request};
@@ -30,10 +30,10 @@ use cm_types::definition::{BaseType, TypeDef};
 use create_parts::weight::weight_of_create_item;
 use create_parts::writes::CreateItem;
 use std::alloc::Global;
-use wr_object::wanted::Wanted;
 use wr_rules::kinds::{bars_child, judge_types};
 use wr_rules::policies::{has_other_policy, judge_read};
 use wr_rules::storage::judge_storage;
+use wr_rules::wanted::Wanted;
 
 // The folder that is addressed, if one is.
 fn folder_at<'a>(
@@ -131,7 +131,7 @@ fn judge_item(
     state: &State,
     user: &Text,
     call: &CreateItem,
-    wanted: &Wanted,
+    wanted: &Wanted<'_>,
     folder: Option<&Object>,
     kind: &TypeDef,
 ) -> Result<Values, Fail>
@@ -171,7 +171,7 @@ fn judge_wanted(
     user: &Text,
     cost: u64,
     call: &CreateItem,
-    wanted: &Wanted,
+    wanted: &Wanted<'_>,
 ) -> Result<(Option<Oid>, Values), Fail>
     ensures { Writes result
         (refusal_of_item state.now user.now cost call.now wanted.now)
@@ -187,7 +187,7 @@ fn judge_wanted(
     Ok((number_of(folder), values))
 }
 
-fn cost_of(state: &State, call: &CreateItem, wanted: &Wanted) -> u64
+fn cost_of(state: &State, call: &CreateItem, wanted: &Wanted<'_>) -> u64
     requires wanted { wanted.now ≡ wanted_in state.now.types call.now.object.properties }
     ensures { result ≡ cost_create_item state.now call.now }
 {

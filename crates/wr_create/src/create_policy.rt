@@ -4,7 +4,7 @@ ghost use Rattle.cm_base.specs.Judged.{Leaves, Writes};
 ghost use Rattle.cm_types.specs.declared.given.PropertyCall.TheVariants as calls;
 ghost use Rattle.cm_types.specs.Properties.{kept_values};
 ghost use Rattle.cmis_spec.specs.Well.{IsWellFormed};
-ghost use Rattle.wr_object.specs.Parts.{wanted_in};
+ghost use Rattle.wr_rules.specs.Wanted.{wanted_in};
 ghost use Rattle.wr_create.specs.CreatePolicy.{cost_create_policy, judge_policy, refusal_of_policy, refusal_create_policy, after_create_policy, acknowledgement_create_policy};
 
 use crate::making::{made_with_reply, new_object, with_request};
@@ -23,10 +23,10 @@ use cm_types::definition::{BaseType, TypeDef};
 use create_parts::weight::weight_of_create_policy;
 use create_parts::writes::CreatePolicy;
 use std::alloc::Global;
-use wr_object::wanted::Wanted;
 use wr_rules::kinds::judge_types;
 use wr_rules::policies::{has_other_policy, judge_read};
 use wr_rules::storage::judge_storage;
+use wr_rules::wanted::Wanted;
 
 // The values of the policy, or the first of the causes that come once its type is found.
 #[tactic(auto, using(cm_types::proofs::Exits::fails_then))]
@@ -35,7 +35,7 @@ fn judge_policy(
     state: &State,
     user: &Text,
     call: &CreatePolicy,
-    wanted: &Wanted,
+    wanted: &Wanted<'_>,
     kind: &TypeDef,
 ) -> Result<Values, Fail>
     ensures { Leaves result
@@ -67,7 +67,7 @@ fn judge_wanted(
     user: &Text,
     cost: u64,
     call: &CreatePolicy,
-    wanted: &Wanted,
+    wanted: &Wanted<'_>,
 ) -> Result<Values, Fail>
     ensures { Leaves result
         (refusal_of_policy state.now user.now cost call.now wanted.now)
@@ -82,7 +82,7 @@ fn judge_wanted(
     Ok(values)
 }
 
-fn cost_of(state: &State, call: &CreatePolicy, wanted: &Wanted) -> u64
+fn cost_of(state: &State, call: &CreatePolicy, wanted: &Wanted<'_>) -> u64
     requires wanted { wanted.now ≡ wanted_in state.now.types call.now.object.properties }
     ensures { result ≡ cost_create_policy state.now call.now }
 {

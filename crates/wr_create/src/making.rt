@@ -19,11 +19,11 @@ use cm_draft::draft::Draft;
 use cm_state::state::State;
 use create_parts::writes::ObjectRequest;
 use std::alloc::{AllocError, Global};
-use wr_object::wanted::Wanted;
 use wr_rules::beside::kept_beside;
 use wr_rules::entries::new_aces;
 use wr_rules::made::with_reply;
 use wr_rules::policies::policies_in;
+use wr_rules::wanted::Wanted;
 
 /// A new object with its access list, its policies and the folder in which it is to stand, if there is one.
 #[derive(Drop)]
@@ -40,7 +40,7 @@ pub fn new_object(
     state: &State,
     user: &Text,
     moment: Moment,
-    wanted: Wanted,
+    wanted: Wanted<'_>,
     values: Values,
 ) -> Result<Object, AllocError>
     requires room { state.now.step + 1 < 2 ^ 64 }

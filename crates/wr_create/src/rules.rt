@@ -5,7 +5,7 @@ ghost use Rattle.cm_types.specs.declared.given.PropertyCall.TheVariants as calls
 ghost use Rattle.cm_types.specs.Types.{same_base};
 ghost use Rattle.cm_types.specs.Properties.{kept_values};
 ghost use Rattle.wr_rules.specs.Rules.{has_other_secondary};
-ghost use Rattle.wr_object.specs.Parts.{wanted_in};
+ghost use Rattle.wr_rules.specs.Wanted.{wanted_in};
 ghost use Rattle.wr_create.specs.Making.{judge_addressed, judge_type, is_uncontrollable, judge_request, cost_of_making};
 
 use call_parts::place::Place;
@@ -22,9 +22,9 @@ use cm_types::given::Givens;
 use create_parts::writes::ObjectRequest;
 use std::alloc::{AllocError, Global};
 use wr_object::asked::{bars_changes, has_unknown, judge_values};
-use wr_object::wanted::{Wanted, wanted_by};
 use wr_rules::costs::with_defaults;
 use wr_rules::kinds::has_other_secondary;
+use wr_rules::wanted::{Wanted, wanted_by};
 
 /// Whether what is addressed, if anything is, is read. Takes no memory.
 pub fn judge_addressed(state: &State, user: &Text, place: &Option<Place>) -> Result<(), Cause>
@@ -64,7 +64,7 @@ fn is_wrong_type(
     alloc: Global,
     types: &Types,
     base: BaseType,
-    wanted: &Wanted,
+    wanted: &Wanted<'_>,
     kind: &TypeDef,
 ) -> Result<bool, AllocError>
     ensures { IfOk result (λ b. b ≡
@@ -81,7 +81,7 @@ pub fn judge_type(
     alloc: Global,
     types: &Types,
     base: BaseType,
-    wanted: &Wanted,
+    wanted: &Wanted<'_>,
     kind: &TypeDef,
 ) -> Result<(), Fail>
     ensures { Meets (λ x. x) result (judge_type types.now base wanted.now kind.now) }
@@ -112,7 +112,7 @@ pub fn is_uncontrollable(kind: &TypeDef, object: &ObjectRequest) -> bool
 #[tactic(auto, using(cm_types::proofs::Exits::fails_then))]
 pub fn judge_request(
     alloc: Global,
-    wanted: &Wanted,
+    wanted: &Wanted<'_>,
     object: &ObjectRequest,
     given: &Givens,
 ) -> Result<Values, Fail>
@@ -131,19 +131,23 @@ pub fn judge_request(
 }
 
 /// What the given properties say of a new object.
-pub fn wanted_of(alloc: Global, state: &State, given: &Givens) -> Result<Wanted, AllocError>
+pub fn wanted_of<'a>(
+    alloc: Global,
+    state: &'a State,
+    given: &Givens,
+) -> Result<Wanted<'a>, AllocError>
     ensures { IfOk result (λ w. w ≡ wanted_in state.now.types given.now) }
 {
     wanted_by(alloc, state.types(), given.as_slice())
 }
 
 /// The cost of a call of this weight that gives these properties. Takes no memory.
-pub fn cost_of_making(state: &State, weight: u64, wanted: &Wanted, given: &Givens) -> u64
+pub fn cost_of_making(state: &State, weight: u64, wanted: &Wanted<'_>, given: &Givens) -> u64
     requires wanted { wanted.now ≡ wanted_in state.now.types given.now }
     ensures { result ≡ cost_of_making state.now weight given.now }
 {
     match state.types().find(&wanted.kind) {
-        Some(_) => with_defaults(weight, wanted.defs.as_slice(), given.as_slice()),
+        Some(_) => with_defaults(weight, &wanted.defs, given.as_slice()),
         None => weight,
     }
 }

@@ -14,9 +14,8 @@ use Rattle.call_parts.specs.declared.versions.CreateDocument.{CreateDocument}
 use Rattle.cmis_spec.specs.Repository.{Repository}
 use Rattle.wr_rules.specs.Rules.{judge_storage, unknown_type, has_other_secondary, bars_child, unread_cause, has_other_policy, has_unknown_permission}
 use Rattle.wr_rules.specs.Documents.{judge_content}
-use Rattle.wr_object.specs.declared.wanted.Wanted.{Wanted}
+use Rattle.wr_rules.specs.Wanted.{Wanted, wanted_in}
 use Rattle.wr_object.specs.CreateDocument.{folder_of, has_other_state, is_uncontrollable, may_not_make, is_no_folder, is_name_taken, refusal_create_document}
-use Rattle.wr_object.specs.Parts.{wanted_in}
 use Rattle.wr_object.specs.DocumentParts.{judge_name, judge_found, refusal_in_parts}
 use Rattle.wr_object.proofs.Parted.{then_4}
 

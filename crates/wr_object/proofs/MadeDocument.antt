@@ -19,11 +19,10 @@ use Rattle.cmis_spec.specs.Well.{HasNumbers, IsWellFormed}
 use Rattle.cmis_laws.proofs.Lists.{find_last, same_refl}
 use Rattle.cmis_laws.proofs.Entries.{is_other}
 use Rattle.wr_rules.specs.Rules.{name_in, policies_in, new_aces}
-use Rattle.wr_object.specs.declared.wanted.Wanted.{Wanted}
+use Rattle.wr_rules.specs.Wanted.{Wanted, wanted_in}
 use Rattle.wr_object.specs.declared.new_document.Allowed.{Allowed}
 use Rattle.wr_object.specs.declared.new_document.NewDocument.{NewDocument}
 use Rattle.wr_object.specs.CreateDocument.{state_of, refusal_create_document, new_document, new_series, new_content, filed_in, after_create_document_in, after_create_document, state_made, document_made}
-use Rattle.wr_object.specs.Parts.{wanted_in}
 use Rattle.wr_object.specs.DocumentParts.{number_of, allowed_in, parts_of, parts_made, filed_at, made_of_parts}
 use Rattle.wr_object.proofs.CreatedDocument.{Passes, passes}
 use Rattle.wr_object.proofs.Made.{HasRoom}

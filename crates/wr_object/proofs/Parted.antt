@@ -17,9 +17,9 @@ use Rattle.cm_see.specs.Addressed.{addressed}
 use Rattle.cmis_spec.specs.Repository.{Repository, most_levels, new_number, is_a, depth_of, is_taken}
 use Rattle.cmis_spec.specs.Access.{lacks}
 use Rattle.wr_rules.specs.Rules.{judge_storage, unknown_type, has_other_secondary, bars_child, unread_cause, has_other_policy, has_unknown_permission}
-use Rattle.wr_object.specs.declared.wanted.Wanted.{Wanted}
+use Rattle.wr_rules.specs.Wanted.{Wanted, wanted_in}
 use Rattle.wr_object.specs.CreateFolder.{is_uncontrollable, refusal_create_folder}
-use Rattle.wr_object.specs.Parts.{wanted_in, judge_name, judge_found, refusal_in_parts}
+use Rattle.wr_object.specs.Parts.{judge_name, judge_found, refusal_in_parts}
 
 then_3 : (a b c rest : Judged (Unit {0})) → (a >> (b >> c)) >> rest ≡ a >> (b >> (c >> rest))
 then_3 (Ok x) (Ok y) c rest = refl

@@ -22,7 +22,7 @@ use Rattle.cmis_spec.specs.Changes.{stepped, noted, with_pair}
 use Rattle.cmis_spec.specs.Documents.{with_document, with_policies, with_contents}
 use Rattle.wr_rules.specs.Rules.{judge_storage, name_in, unknown_type, has_other_secondary, bars_child, unread_cause, has_other_policy, has_unknown_permission}
 use Rattle.wr_rules.specs.Documents.{judge_content, content_of_stream}
-use Rattle.wr_object.specs.declared.wanted.Wanted.{Wanted}
+use Rattle.wr_rules.specs.Wanted.{Wanted}
 use Rattle.wr_object.specs.declared.new_document.Allowed.{Allowed}
 use Rattle.wr_object.specs.declared.new_document.NewDocument.{NewDocument}
 use Rattle.wr_object.specs.CreateDocument.{folder_of, state_of, has_other_state, is_uncontrollable, may_not_make, is_no_folder, is_name_taken, own_name, new_series, new_content, state_made, document_made}

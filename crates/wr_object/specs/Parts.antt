@@ -17,17 +17,8 @@ use Rattle.cm_see.specs.Addressed.{addressed}
 use Rattle.cmis_spec.specs.Repository.{Repository, root, most_levels, new_number, is_a, depth_of, is_taken}
 use Rattle.cmis_spec.specs.Access.{lacks}
 use Rattle.wr_rules.specs.Rules.{judge_storage, name_in, type_id_in, secondary_in, unknown_type, has_other_secondary, bars_child, unread_cause, has_other_policy, has_unknown_permission}
-use Rattle.wr_object.specs.declared.wanted.Wanted.{Wanted}
+use Rattle.wr_rules.specs.Wanted.{Wanted}
 use Rattle.wr_object.specs.CreateFolder.{is_uncontrollable}
-
--- what given properties say of a new object, and the definitions of its properties
-abbrev pub wanted_in : List TypeDef → List Given → Wanted
-wanted_in types given = record {
-  name = name_in given;
-  kind = type_id_in given;
-  secondary = secondary_in given;
-  defs = props_of types (type_id_in given) (secondary_in given);
-}
 
 -- the caller may write where the folder is to stand, and a folder of the type may be made
 abbrev pub judge_kinds : Repository → List ℕ → List (List ℕ) → List (List ℕ) → Object → TypeDef → Judged (Unit {0})

@@ -1,5 +1,6 @@
 //! What a call that makes an object asks for: values, policies and access control entries.
-ghost use Rattle.std.specs.Prelude.{◌≡◌, ◌<◌, ◌&&◌, ◌||◌, not, [], nat_lt, length};
+ghost use Rattle.std.specs.Prelude.{◌≡◌, ◌<◌, ◌&&◌, ◌||◌, not, [], nat_lt, length, map};
+ghost use Rattle.cm_map.specs.Parts.{pointee};
 ghost use Rattle.cm_base.specs.Judged.{Leaves};
 ghost use Rattle.cm_types.specs.declared.given.PropertyCall.TheVariants as calls;
 ghost use Rattle.cm_types.specs.Properties.{judge_properties, kept_values};
@@ -13,15 +14,15 @@ use cm_base::value::Values;
 use cm_rules::check::check_new;
 use cm_types::definition::TypeDef;
 use cm_types::given::Givens;
-use cm_types::property::PropDefs;
+use cm_types::property::PropDef;
 use std::alloc::Global;
 use wr_rules::entries::{has_entries, has_unknown_permission};
 
 /// The values of the new object, or the first fault of the given properties.
-pub fn judge_values(alloc: Global, defs: &PropDefs, given: &Givens) -> Result<Values, Fail>
+pub fn judge_values(alloc: Global, defs: &[&PropDef], given: &Givens) -> Result<Values, Fail>
     ensures { Leaves result
-        (judge_properties calls.Create defs.now [] given.now)
-        (kept_values calls.Create defs.now [] given.now) }
+        (judge_properties calls.Create (map pointee defs.now) [] given.now)
+        (kept_values calls.Create (map pointee defs.now) [] given.now) }
 {
     check_new(alloc, defs, &Items::new(alloc), given)
 }

@@ -6,14 +6,13 @@ ghost use Rattle.cm_types.specs.declared.given.PropertyCall.TheVariants as calls
 ghost use Rattle.cm_types.specs.Properties.{kept_values};
 ghost use Rattle.cmis_spec.specs.Well.{IsWellFormed};
 ghost use Rattle.wr_object.specs.CreateDocument.{cost_create_document, refusal_create_document, after_create_document, acknowledgement_create_document};
-ghost use Rattle.wr_object.specs.Parts.{wanted_in};
+ghost use Rattle.wr_rules.specs.Wanted.{wanted_in};
 ghost use Rattle.wr_object.specs.DocumentParts.{judge_found, refusal_in_parts, number_of, allowed_in, object_of, parts_of, parts_made};
 
 use crate::asked::judge_values;
 use crate::document_rules::{folder_of, judge_kinds, judge_name, judge_place, state_of};
 use crate::making_document::{document_in, new_content, new_series, own_name};
 use crate::new_document::{Allowed, NewDocument};
-use crate::wanted::{Wanted, wanted_by};
 use call_parts::replies::ObjectReply;
 use call_parts::versions::CreateDocument;
 use call_parts::weight::weight_of_create_document;
@@ -34,14 +33,15 @@ use wr_rules::kinds::judge_types;
 use wr_rules::made::with_reply;
 use wr_rules::policies::{judge_read, policies_in};
 use wr_rules::storage::judge_storage;
+use wr_rules::wanted::{Wanted, wanted_by};
 
-fn cost_of(state: &State, call: &CreateDocument, wanted: &Wanted) -> u64
+fn cost_of(state: &State, call: &CreateDocument, wanted: &Wanted<'_>) -> u64
     requires wanted { wanted.now ≡ wanted_in state.now.types call.now.properties }
     ensures { result ≡ cost_create_document state.now call.now }
 {
     let weight = weight_of_create_document(call);
     match state.types().find(&wanted.kind) {
-        Some(_) => with_defaults(weight, wanted.defs.as_slice(), call.properties.as_slice()),
+        Some(_) => with_defaults(weight, &wanted.defs, call.properties.as_slice()),
         None => weight,
     }
 }
@@ -53,7 +53,7 @@ fn judge_found(
     state: &State,
     user: &Text,
     call: &CreateDocument,
-    wanted: &Wanted,
+    wanted: &Wanted<'_>,
     folder: Option<&Object>,
     kind: &TypeDef,
 ) -> Result<Values, Fail>
@@ -93,7 +93,7 @@ fn judge_parts(
     user: &Text,
     cost: u64,
     call: &CreateDocument,
-    wanted: &Wanted,
+    wanted: &Wanted<'_>,
 ) -> Result<Allowed, Fail>
     ensures { Leaves result
         (refusal_in_parts state.now user.now cost call.now wanted.now)
@@ -118,7 +118,7 @@ fn judge(
     user: &Text,
     cost: u64,
     call: &CreateDocument,
-    wanted: &Wanted,
+    wanted: &Wanted<'_>,
 ) -> Result<Allowed, Fail>
     requires wanted { wanted.now ≡ wanted_in state.now.types call.now.properties }
     ensures { Leaves result
@@ -133,7 +133,7 @@ fn new_document(
     state: &State,
     user: &Text,
     moment: Moment,
-    wanted: Wanted,
+    wanted: Wanted<'_>,
     allowed: Allowed,
 ) -> Result<Object, AllocError>
     requires room { state.now.step + 1 < 2 ^ 64 }
@@ -162,7 +162,7 @@ fn new_parts(
     user: &Text,
     moment: Moment,
     call: &CreateDocument,
-    wanted: Wanted,
+    wanted: Wanted<'_>,
     allowed: Allowed,
 ) -> Result<NewDocument, AllocError>
     requires room { state.now.step + 1 < 2 ^ 64 }

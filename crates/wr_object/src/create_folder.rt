@@ -8,12 +8,12 @@ ghost use Rattle.cmis_spec.specs.Repository.{new_number};
 ghost use Rattle.cmis_spec.specs.Values.{kept_beside};
 ghost use Rattle.cmis_spec.specs.Well.{IsWellFormed};
 ghost use Rattle.wr_object.specs.CreateFolder.{cost_create_folder, refusal_create_folder, new_folder, after_create_folder, acknowledgement_create_folder};
-ghost use Rattle.wr_object.specs.Parts.{wanted_in, judge_found, refusal_in_parts, parent_of};
+ghost use Rattle.wr_object.specs.Parts.{judge_found, refusal_in_parts, parent_of};
+ghost use Rattle.wr_rules.specs.Wanted.{wanted_in};
 
 use crate::asked::judge_values;
 use crate::folder_rules::{judge_kinds, judge_name, judge_place};
 use crate::making::made_in;
-use crate::wanted::{Wanted, wanted_by};
 use call_parts::replies::ObjectReply;
 use call_parts::weight::weight_of_create_folder;
 use call_parts::writes::CreateFolder;
@@ -35,14 +35,15 @@ use wr_rules::kinds::judge_types;
 use wr_rules::made::with_reply;
 use wr_rules::policies::{judge_read, policies_in};
 use wr_rules::storage::judge_storage;
+use wr_rules::wanted::{Wanted, wanted_by};
 
-fn cost_of(state: &State, call: &CreateFolder, wanted: &Wanted) -> u64
+fn cost_of(state: &State, call: &CreateFolder, wanted: &Wanted<'_>) -> u64
     requires wanted { wanted.now ≡ wanted_in state.now.types call.now.properties }
     ensures { result ≡ cost_create_folder state.now call.now }
 {
     let weight = weight_of_create_folder(call);
     match state.types().find(&wanted.kind) {
-        Some(_) => with_defaults(weight, wanted.defs.as_slice(), call.properties.as_slice()),
+        Some(_) => with_defaults(weight, &wanted.defs, call.properties.as_slice()),
         None => weight,
     }
 }
@@ -54,7 +55,7 @@ fn judge_found(
     state: &State,
     user: &Text,
     call: &CreateFolder,
-    wanted: &Wanted,
+    wanted: &Wanted<'_>,
     parent: &Object,
     kind: &TypeDef,
 ) -> Result<Values, Fail>
@@ -85,7 +86,7 @@ fn judge_parts(
     user: &Text,
     cost: u64,
     call: &CreateFolder,
-    wanted: &Wanted,
+    wanted: &Wanted<'_>,
 ) -> Result<(Oid, Values), Fail>
     ensures { Writes result
         (refusal_in_parts state.now user.now cost call.now wanted.now)
@@ -108,7 +109,7 @@ fn judge(
     moment: Moment,
     cost: u64,
     call: &CreateFolder,
-    wanted: &Wanted,
+    wanted: &Wanted<'_>,
 ) -> Result<(Oid, Values), Fail>
     requires { wanted.now ≡ wanted_in state.now.types call.now.properties }
     ensures { Writes result
@@ -125,7 +126,7 @@ fn new_folder(
     state: &State,
     user: &Text,
     moment: Moment,
-    wanted: Wanted,
+    wanted: Wanted<'_>,
     values: Values,
 ) -> Result<Object, AllocError>
     requires room { state.now.step + 1 < 2 ^ 64 }

@@ -11,4 +11,3 @@ mod folder_rules;
 mod making;
 pub mod making_document;
 pub mod new_document;
-pub mod wanted;

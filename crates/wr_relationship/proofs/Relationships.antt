@@ -21,7 +21,7 @@ use Rattle.cmis_laws.proofs.Passed.{err_ok, then_ok, refuse_ok, refused_not, fin
 use Rattle.wr_rules.specs.Rules.{judge_storage, unknown_type, unread_cause, has_other_policy, policies_in, new_aces}
 use Rattle.wr_rules.proofs.Found.{read_there}
 use Rattle.wr_rules.proofs.Room.{room_of}
-use Rattle.wr_object.specs.Parts.{wanted_in}
+use Rattle.wr_rules.specs.Wanted.{wanted_in}
 use Rattle.wr_object.specs.CreateDocument.{may_not_make}
 use Rattle.wr_create.specs.Making.{judge_addressed, judge_type, judge_request, new_object, after_making}
 use Rattle.wr_create.proofs.Lines.{bind_ok, ok_eq, type_ok, request_ok}

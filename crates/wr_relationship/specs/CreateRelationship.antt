@@ -15,8 +15,7 @@ use Rattle.create_parts.specs.Weight.{weight_of_create_relationship}
 use Rattle.cmis_spec.specs.Repository.{Repository, is_a}
 use Rattle.cmis_spec.specs.Access.{read_named}
 use Rattle.wr_rules.specs.Rules.{judge_storage, unknown_type, unread_cause, has_other_policy}
-use Rattle.wr_object.specs.declared.wanted.Wanted.{Wanted}
-use Rattle.wr_object.specs.Parts.{wanted_in}
+use Rattle.wr_rules.specs.Wanted.{Wanted, wanted_in}
 use Rattle.wr_object.specs.CreateDocument.{may_not_make}
 use Rattle.wr_create.specs.declared.making.NewObject.{NewObject}
 use Rattle.wr_create.specs.Making.{judge_addressed, judge_type, is_uncontrollable, judge_request, cost_of_making, made_by, after_making, reply_of_making}

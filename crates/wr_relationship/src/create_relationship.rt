@@ -5,7 +5,7 @@ ghost use Rattle.cm_base.specs.Judged.{Leaves, Writes};
 ghost use Rattle.cm_types.specs.declared.given.PropertyCall.TheVariants as calls;
 ghost use Rattle.cm_types.specs.Properties.{kept_values};
 ghost use Rattle.cmis_spec.specs.Well.{IsWellFormed};
-ghost use Rattle.wr_object.specs.Parts.{wanted_in};
+ghost use Rattle.wr_rules.specs.Wanted.{wanted_in};
 ghost use Rattle.wr_relationship.specs.CreateRelationship.{with_name, cost_create_relationship, judge_relationship, refusal_of_relationship, refusal_create_relationship, after_create_relationship, acknowledgement_create_relationship};
 
 use crate::ends::{end_at, judge_ends, judge_link};
@@ -24,10 +24,10 @@ use create_parts::writes::CreateRelationship;
 use std::alloc::Global;
 use wr_create::making::{made_with_reply, new_object, with_request};
 use wr_create::rules::{cost_of_making, judge_addressed, judge_request, judge_type, wanted_of};
-use wr_object::wanted::Wanted;
 use wr_rules::kinds::judge_types;
 use wr_rules::policies::judge_read;
 use wr_rules::storage::judge_storage;
+use wr_rules::wanted::Wanted;
 
 // The values of the relationship, or the first of the causes that come once its ends and its type are found.
 #[tactic(auto, using(cm_types::proofs::Exits::fails_then))]
@@ -35,7 +35,7 @@ fn judge_relationship(
     alloc: Global,
     state: &State,
     call: &CreateRelationship,
-    wanted: &Wanted,
+    wanted: &Wanted<'_>,
     source: Option<&Object>,
     target: Option<&Object>,
     kind: &TypeDef,
@@ -59,7 +59,7 @@ fn judge_wanted(
     user: &Text,
     cost: u64,
     call: &CreateRelationship,
-    wanted: &Wanted,
+    wanted: &Wanted<'_>,
 ) -> Result<Values, Fail>
     ensures { Leaves result
         (refusal_of_relationship state.now user.now cost call.now wanted.now)
@@ -82,7 +82,7 @@ fn cost_of(
     state: &State,
     call: &CreateRelationship,
     named: &CreateRelationship,
-    wanted: &Wanted,
+    wanted: &Wanted<'_>,
 ) -> u64
     requires named { named.now ≡ with_name call.now }
     requires wanted { wanted.now ≡ wanted_in state.now.types named.now.object.properties }

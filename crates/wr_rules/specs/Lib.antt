@@ -4,3 +4,4 @@ pub mod Found
 pub mod Named
 pub mod Retained
 pub mod Rules
+pub mod Wanted

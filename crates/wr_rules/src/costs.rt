@@ -1,5 +1,6 @@
 //! What the default values cost that a new object takes.
 ghost use Rattle.std.specs.Prelude.{◌≡◌, ◌+◌, [], ◌∷◌, map, sum, is_none};
+ghost use Rattle.cm_map.specs.Parts.{pointee};
 ghost use Rattle.cm_types.specs.Properties.{given_of};
 ghost use Rattle.call_parts.specs.Weight.{bounded};
 ghost use Rattle.wr_rules.specs.Rules.{scalar_cost, value_cost, defaults_cost};
@@ -57,8 +58,8 @@ fn with_default(so_far: u64, def: &PropDef, given: &[Given]) -> u64
 
 /// A cost, with that of the default values of the properties that are not given: 64 for a scalar, and the bytes of a text.
 /// Takes no memory.
-pub fn with_defaults(so_far: u64, defs: &[PropDef], given: &[Given]) -> u64
-    ensures { result ≡ bounded (so_far + defaults_cost defs.now given.now) }
+pub fn with_defaults(so_far: u64, defs: &[&PropDef], given: &[Given]) -> u64
+    ensures { result ≡ bounded (so_far + defaults_cost (map pointee defs.now) given.now) }
 {
     let mut total = so_far;
     for def in defs {

@@ -17,3 +17,4 @@ pub mod retention;
 pub mod storage;
 pub mod token;
 pub mod versions;
+pub mod wanted;

@@ -47,8 +47,7 @@ use Rattle.wr_object.specs.CreateDocument.{folder_at, folder_of, state_of, is_un
 use Rattle.wr_object.specs.DocumentParts.{number_of, made_of_parts}
 use Rattle.wr_object.proofs.CreatedDocument.{series_id}
 use Rattle.wr_object.proofs.CreateFolder.{IsGood, new_permit, distinct_all, good_all, named_all}
-use Rattle.wr_source.specs.declared.template.Template.{Template}
-use Rattle.wr_source.specs.Templates.{template_of}
+use Rattle.wr_source.specs.Templates.{Template, template_of}
 use Rattle.wr_source.specs.CreateDocumentFromSource.{refusal_create_document_from_source, allowed_in, new_document, new_parts, parts_made, after_create_document_from_source}
 use Rattle.wr_source.proofs.Sourced.{kept_sourced}
 

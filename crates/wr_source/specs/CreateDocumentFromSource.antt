@@ -29,8 +29,7 @@ use Rattle.wr_object.specs.CreateDocument.{folder_of, state_of, may_not_make, is
 use Rattle.wr_object.specs.declared.new_document.Allowed.{Allowed}
 use Rattle.wr_object.specs.declared.new_document.NewDocument.{NewDocument}
 use Rattle.wr_object.specs.DocumentParts.{judge_place, number_of, made_of_parts}
-use Rattle.wr_source.specs.declared.template.Template.{Template}
-use Rattle.wr_source.specs.Templates.{taken_cost, template_of}
+use Rattle.wr_source.specs.Templates.{Template, taken_cost, template_of}
 
 -- ---- the cost
 

@@ -17,7 +17,6 @@ use Rattle.cmis_spec.specs.Repository.{Repository}
 use Rattle.cmis_spec.specs.Values.{form_value}
 use Rattle.wr_rules.specs.Rules.{value_cost}
 use Rattle.wr_rules.specs.Documents.{name_after, secondary_after}
-use Rattle.wr_source.specs.declared.template.Template.{Template}
 
 -- ---- its type
 
@@ -51,6 +50,15 @@ stream_after r x None = option_map stream_copied (content_at r x.id)
 stream_after r x (Some s) = Some s
 
 -- ---- all
+
+-- the name, the type and the secondary types of the document, the definitions of its properties, the values that it takes over, and its content
+pub record Template : Type 0 where
+  pub name : List ℕ
+  pub kind : List ℕ
+  pub secondary : List (List ℕ)
+  pub defs : List PropDef
+  pub copied : List Slot
+  pub stream : Option GivenStream
 
 abbrev pub template_of : Repository → Object → CreateDocument → Template
 template_of r x call = record {

@@ -42,7 +42,7 @@ use wr_rules::policies::{judge_read, policies_in};
 use wr_rules::storage::judge_storage;
 
 // The values of the new document, or the first fault of the given properties.
-fn judge_values(alloc: Global, t: &Template, given: &Givens) -> Result<Values, Fail>
+fn judge_values(alloc: Global, t: &Template<'_>, given: &Givens) -> Result<Values, Fail>
     ensures { Leaves result
         (judge_properties calls.Create t.now.defs t.now.copied given.now)
         (kept_values calls.Create t.now.defs t.now.copied given.now) }
@@ -67,7 +67,7 @@ fn judge_found(
     user: &Text,
     call: &CreateDocument,
     x: &Object,
-    t: &Template,
+    t: &Template<'_>,
     folder: Option<&Object>,
     kind: &TypeDef,
 ) -> Result<Values, Fail>
@@ -91,7 +91,7 @@ fn judge_template(
     user: &Text,
     call: &CreateDocument,
     x: &Object,
-    t: &Template,
+    t: &Template<'_>,
     folder: Option<&Object>,
 ) -> Result<Allowed, Fail>
     ensures { Leaves result
@@ -118,7 +118,7 @@ fn judge(
     cost: u64,
     call: &CreateDocument,
     x: &Object,
-    t: &Template,
+    t: &Template<'_>,
 ) -> Result<Allowed, Fail>
     requires template { t.now ≡ template_of state.now x.now call.now }
     ensures { Leaves result
@@ -150,7 +150,7 @@ fn cost_unread(state: &State, call: &CreateDocumentFromSource) -> u64
     weight_of_create_document_from_source(call)
 }
 
-fn cost_of(state: &State, call: &CreateDocumentFromSource, x: &Object, t: &Template) -> u64
+fn cost_of(state: &State, call: &CreateDocumentFromSource, x: &Object, t: &Template<'_>) -> u64
     requires template { t.now ≡ template_of state.now x.now call.now.document }
     ensures { result ≡ cost_of_source state.now call.now (Some x.now) }
 {
@@ -163,7 +163,7 @@ fn new_document(
     state: &State,
     user: &Text,
     moment: Moment,
-    t: Template,
+    t: Template<'_>,
     allowed: Allowed,
 ) -> Result<Object, AllocError>
     requires room { state.now.step + 1 < 2 ^ 64 }
@@ -191,7 +191,7 @@ fn new_parts(
     state: &State,
     user: &Text,
     moment: Moment,
-    t: Template,
+    t: Template<'_>,
     allowed: Allowed,
 ) -> Result<NewDocument, AllocError>
     requires room { state.now.step + 1 < 2 ^ 64 }

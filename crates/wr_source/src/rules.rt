@@ -68,7 +68,7 @@ pub(crate) fn judge_kinds(
 pub(crate) fn judge_type(
     alloc: Global,
     state: &State,
-    t: &Template,
+    t: &Template<'_>,
     kind: &TypeDef,
 ) -> Result<(), Fail>
     ensures { Meets (λ x. x) result (judge_type state.now t.now kind.now) }
@@ -88,7 +88,7 @@ pub(crate) fn judge_type(
 pub(crate) fn judge_name(
     state: &State,
     call: &CreateDocument,
-    t: &Template,
+    t: &Template<'_>,
     folder: Option<&Object>,
     kind: &TypeDef,
 ) -> Result<(), Cause>

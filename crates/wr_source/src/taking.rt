@@ -1,5 +1,6 @@
 //! What the values cost that a new document takes where none are given.
 ghost use Rattle.std.specs.Prelude.{◌≡◌, ◌+◌, ◌&&◌, not, [], ◌∷◌, map, sum, is_none, is_some, if◌then◌else◌};
+ghost use Rattle.cm_map.specs.Parts.{pointee};
 ghost use Rattle.cm_types.specs.declared.definition.BaseType.TheVariants as bases;
 ghost use Rattle.cm_types.specs.declared.given.PropertyCall.TheVariants as calls;
 ghost use Rattle.cm_types.specs.Types.{type_in};
@@ -80,8 +81,8 @@ fn with_one(so_far: u64, def: &PropDef, copied: &[Slot], given: &[Given]) -> u64
     }
 }
 
-fn with_taken(so_far: u64, defs: &[PropDef], copied: &[Slot], given: &[Given]) -> u64
-    ensures { result ≡ bounded (so_far + taken_cost defs.now copied.now given.now) }
+fn with_taken(so_far: u64, defs: &[&PropDef], copied: &[Slot], given: &[Given]) -> u64
+    ensures { result ≡ bounded (so_far + taken_cost (map pointee defs.now) copied.now given.now) }
 {
     let mut total = so_far;
     for def in defs {
@@ -91,7 +92,7 @@ fn with_taken(so_far: u64, defs: &[PropDef], copied: &[Slot], given: &[Given]) -
 }
 
 // A document is copied, and into a type that is there.
-fn is_copied(state: &State, x: &Object, t: &Template) -> bool
+fn is_copied(state: &State, x: &Object, t: &Template<'_>) -> bool
     ensures { result ≡ (is_a state.now bases.Document x.now && is_some (type_in state.now.types t.now.kind)) }
 {
     state.is_a(BaseType::Document, x) && state.types().find(&t.kind).is_some()
@@ -103,12 +104,12 @@ pub(crate) fn with_source(
     state: &State,
     given: &[Given],
     x: &Object,
-    t: &Template,
+    t: &Template<'_>,
 ) -> u64
     ensures { result ≡ bounded (so_far + source_cost state.now given.now x.now t.now) }
 {
     if is_copied(state, x, t) {
-        with_taken(so_far, t.defs.as_slice(), t.copied.as_slice(), given)
+        with_taken(so_far, &t.defs, t.copied.as_slice(), given)
     } else {
         so_far
     }

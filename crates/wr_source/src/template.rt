@@ -14,22 +14,40 @@ use cm_base::text::{Text, Texts};
 use cm_base::value::Values;
 use cm_state::state::State;
 use cm_types::given::Given;
-use cm_types::property::PropDefs;
+use cm_types::property::PropDef;
 use std::alloc::{AllocError, Global};
+use std::marker::Model;
 use wr_rules::properties::given_texts;
 use wr_version::after::{name_after, secondary_after};
 
 /// The name, the type, the secondary types and the content of the document, the definitions of its properties, and the values that it
 /// takes over where nothing is given.
 #[derive(Drop)]
-pub struct Template {
+pub struct Template<'a> {
     pub name: Text,
     pub kind: Text,
     pub secondary: Texts,
-    pub defs: PropDefs,
+    pub defs: Vec<&'a PropDef>,
     /// Of each property of the source: what is unset here stays so, and what isn't here takes its default value.
     pub copied: Values,
     pub stream: Option<GivenStream>,
+}
+
+impl<'a> Model for Template<'a> {
+    ghost use Rattle.std.specs.Prelude.{map};
+    ghost use Rattle.cm_map.specs.Parts.{pointee};
+    ghost use Rattle.wr_source.specs.Templates.{Template as Taken};
+
+    ghost Value = { Taken };
+
+    ghost view = { λ s. record {
+      name = s.name;
+      kind = s.kind;
+      secondary = s.secondary;
+      defs = map pointee s.defs.items;
+      copied = s.copied;
+      stream = s.stream;
+    } };
 }
 
 fn first_or(alloc: Global, text: &Text, texts: &[Text]) -> Result<Text, AllocError>
@@ -92,12 +110,12 @@ fn stream_after(
 }
 
 /// What the call makes of this source.
-pub fn template_of(
+pub fn template_of<'a>(
     alloc: Global,
-    state: &State,
+    state: &'a State,
     x: &Object,
     call: &CreateDocument,
-) -> Result<Template, AllocError>
+) -> Result<Template<'a>, AllocError>
     ensures { IfOk result (λ t. t ≡ template_of state.now x.now call.now) }
 {
     let given = call.properties.as_slice();

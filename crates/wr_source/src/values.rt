@@ -1,5 +1,6 @@
 //! The values that a document takes over from its source.
 ghost use Rattle.std.specs.Prelude.{◌≡◌, IfOk, map};
+ghost use Rattle.cm_map.specs.Parts.{pointee};
 ghost use Rattle.cm_base.specs.declared.value.Scalar.TheVariants.{Words};
 ghost use Rattle.cm_types.specs.Properties.{value_in};
 ghost use Rattle.cmis_spec.specs.Values.{words, texts, form_value};
@@ -85,10 +86,10 @@ fn copied_by(
     alloc: Global,
     state: &State,
     x: &Object,
-    defs: &[PropDef],
+    defs: &[&PropDef],
 ) -> Result<Values, AllocError>
     ensures { IfOk result (λ all. all
-        ≡ map (λ d. record { id = d.id; value = copied_value state.now x.now d.id }) defs.now) }
+        ≡ map (λ d. record { id = d.id; value = copied_value state.now x.now d.id }) (map pointee defs.now)) }
 {
     let mut all = Items::new(alloc);
     for def in defs {
@@ -106,6 +107,6 @@ pub(crate) fn copied_slots(alloc: Global, state: &State, x: &Object) -> Result<V
     let defs = state
         .types()
         .props_of(alloc, &x.kind, x.secondary.as_slice())?;
-    let all = copied_by(alloc, state, x, defs.as_slice())?;
+    let all = copied_by(alloc, state, x, &defs)?;
     Ok(all)
 }

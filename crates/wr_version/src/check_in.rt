@@ -1,5 +1,6 @@
 //! checkIn (CMIS 1.1, section 2.2.7.3).
-ghost use Rattle.std.specs.Prelude.{◌≡◌, ◌+◌, ◌<◌, ◌^◌, None, Some, Ok, IfOk, is_some, true};
+ghost use Rattle.std.specs.Prelude.{◌≡◌, ◌+◌, ◌<◌, ◌^◌, None, Some, Ok, IfOk, is_some, true, map};
+ghost use Rattle.cm_map.specs.Parts.{pointee};
 ghost use Rattle.cm_base.specs.Judged.{Meets, Leaves, Writes, first_cause};
 ghost use Rattle.cm_base.specs.declared.series.Series.{Series};
 ghost use Rattle.cm_types.specs.declared.given.PropertyCall.TheVariants as calls;
@@ -37,7 +38,7 @@ use cm_see::level::lacks;
 use cm_state::look::entry_of;
 use cm_state::state::State;
 use cm_types::definition::{BaseType, TypeDef};
-use cm_types::property::PropDefs;
+use cm_types::property::PropDef;
 use std::alloc::{AllocError, Global};
 use wr_rules::content::{content_of_stream, judge_content};
 use wr_rules::kinds::{has_other_secondary, judge_types};
@@ -64,13 +65,13 @@ fn is_working_copy(state: &State, x: &Object) -> bool
 }
 
 // The definitions of the properties that the document has after the call.
-fn props_after(
+fn props_after<'a>(
     alloc: Global,
-    state: &State,
+    state: &'a State,
     call: &CheckIn,
     x: &Object,
-) -> Result<PropDefs, AllocError>
-    ensures { IfOk result (λ defs. defs ≡ props_after state.now call.now x.now) }
+) -> Result<Vec<&'a PropDef>, AllocError>
+    ensures { IfOk result (λ defs. map pointee defs.items ≡ props_after state.now call.now x.now) }
 {
     let secondary = secondary_after(alloc, x, call.properties.as_slice())?;
     let defs = state

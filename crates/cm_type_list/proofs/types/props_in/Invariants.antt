@@ -4,4 +4,4 @@ use Rattle.cm_map.specs.Parts.{pointee}
 use Rattle.cm_type_list.proofs.types.props_in.Given as goal
 
 abbrev pub invariant-loop-def : goal.invariant-loop-def
-invariant-loop-def l = l.all ≡ flat_map (λ t. t.properties) (map pointee (take l.def-index l.types))
+invariant-loop-def l = map pointee l.all.items ≡ flat_map (λ t. t.properties) (map pointee (take l.def-index l.types))

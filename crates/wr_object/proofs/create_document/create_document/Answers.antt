@@ -4,7 +4,7 @@ use Rattle.call_parts.specs.declared.readings.PropertyFilter.TheVariants as filt
 use Rattle.call_parts.specs.declared.replies.ObjectReply.{ObjectReply}
 use Rattle.cm_see.specs.Shown.{shown_object}
 use Rattle.wr_object.specs.CreateDocument.{refusal_create_document, after_create_document, document_made}
-use Rattle.wr_object.specs.Parts.{wanted_in}
+use Rattle.wr_rules.specs.Wanted.{wanted_in}
 use Rattle.wr_object.proofs.MadeDocument.{room_of, parts_are, made_is_found}
 use Rattle.wr_object.proofs.create_document.create_document.Goals as goal
 

@@ -1,7 +1,7 @@
 use Rattle.std.proofs.Common.{◌≡◌, Ok, refl, sym, ap, subst, ◌∙◌}
 use Rattle.std.specs.Prelude.{None}
 use Rattle.cmis_spec.specs.Well.{Apart, ComesBefore, IsWellFormed}
-use Rattle.wr_object.specs.Parts.{wanted_in}
+use Rattle.wr_rules.specs.Wanted.{wanted_in}
 use Rattle.wr_create.specs.Making.{after_making, reply_of_making}
 use Rattle.wr_create.proofs.Made.{numbers_left, object_is, made_is}
 use Rattle.wr_relationship.specs.CreateRelationship.{refusal_of_relationship, refusal_create_relationship, relationship_of}
