@@ -64,7 +64,7 @@ impl Draft {
             moment,
             readers,
         };
-        match self.parts().log().with_last(alloc, event) {
+        match self.parts().log().note(alloc, event) {
             Ok(log) => Ok(put_log(self, log)),
             Err(short) => Err(given_up(self, short)),
         }

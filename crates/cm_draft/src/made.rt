@@ -9,12 +9,11 @@ ghost use Rattle.cm_state.specs.Told.{entries_of};
 use crate::draft::Draft;
 use cm_base::access::AccessList;
 use cm_base::content::Content;
-use cm_base::log::Change;
 use cm_base::series::Series;
 use cm_content::renditions::Renditions;
 use cm_folder::filing::Filing;
 use cm_link::links::Links;
-use cm_map::sequence::Sequence;
+use cm_log::log::Log;
 use cm_map::table::Table;
 use cm_objects::objects::Objects;
 use cm_state::lists::Lists;
@@ -164,7 +163,7 @@ pub(crate) fn put_renditions(draft: Draft, renditions: Renditions) -> Draft
 }
 
 /// The draft with this log.
-pub(crate) fn put_log(draft: Draft, log: Sequence<Change>) -> Draft
+pub(crate) fn put_log(draft: Draft, log: Log) -> Draft
     ensures { result ≡ record draft { log = log } }
 {
     let parts = draft.parts;

@@ -4,4 +4,3 @@
 ghost use Rattle.std.specs.Prelude.{◌≡◌};
 
 pub mod log;
-pub mod token;

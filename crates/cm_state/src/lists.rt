@@ -5,13 +5,12 @@ ghost use Rattle.cm_state.specs.Told.{object_in, series_in, name_by};
 
 use cm_base::access::AccessList;
 use cm_base::content::Content;
-use cm_base::log::Change;
 use cm_base::number::Oid;
 use cm_base::object::Object;
 use cm_base::series::Series;
 use cm_content::renditions::Renditions;
 use cm_link::links::Links;
-use cm_map::sequence::Sequence;
+use cm_log::log::Log;
 use cm_map::table::Table;
 use cm_objects::objects::Objects;
 use std::alloc::{AllocError, Global};
@@ -24,7 +23,7 @@ pub struct Lists {
     pub applied: Links,
     pub contents: Table<Content>,
     pub renditions: Renditions,
-    pub log: Sequence<Change>,
+    pub log: Log,
 }
 
 // That the lists go is proved here once, and not at each place where they go.
@@ -149,7 +148,7 @@ impl Lists {
     }
 
     /// The lists with this log.
-    pub fn with_log(self, log: Sequence<Change>) -> Lists
+    pub fn with_log(self, log: Log) -> Lists
         ensures { result ≡ record self { log = log } }
     {
         let mut lists = self;

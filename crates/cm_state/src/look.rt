@@ -12,13 +12,12 @@ use crate::parts::Parts;
 use crate::told::is_of_base;
 use cm_base::access::AccessList;
 use cm_base::content::{Content, Rendition};
-use cm_base::log::Change;
 use cm_base::number::{Oid, Oids};
 use cm_base::object::Object;
 use cm_base::series::Series;
 use cm_base::text::{Text, Texts};
+use cm_log::log::Log;
 use cm_map::map::Map;
-use cm_map::sequence::Sequence;
 use cm_type_list::types::Types;
 use cm_types::definition::{BaseType, TypeDef};
 use std::alloc::{AllocError, Global};
@@ -284,7 +283,7 @@ impl Parts {
     }
 
     /// The change log (CMIS 1.1, section 2.1.15).
-    pub fn log(&self) -> &Sequence<Change>
+    pub fn log(&self) -> &Log
         ensures { result.now ≡ self.now.log }
     {
         &self.lists.log

@@ -17,7 +17,7 @@ use cm_base::user::{Groups, User, Users};
 use cm_content::renditions::Renditions;
 use cm_folder::filing::Filing;
 use cm_link::links::Links;
-use cm_map::sequence::Sequence;
+use cm_log::log::Log;
 use cm_map::table::Table;
 use cm_objects::objects::Objects;
 use cm_type_list::types::Types;
@@ -116,7 +116,7 @@ fn first_lists(alloc: Global, folder: Object, aces: Aces) -> Result<Lists, Alloc
         applied: Links::empty(alloc),
         contents: Table::empty(alloc),
         renditions: Renditions::empty(alloc),
-        log: Sequence::empty(alloc),
+        log: Log::empty(alloc),
     })
 }
 

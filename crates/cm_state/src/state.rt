@@ -14,14 +14,13 @@ use crate::standing::standing_among;
 use cm_base::access::AccessList;
 use cm_base::content::{Content, Rendition};
 use cm_base::items::Items;
-use cm_base::log::Change;
 use cm_base::number::{Oid, Oids};
 use cm_base::object::Object;
 use cm_base::series::Series;
 use cm_base::steps::Steps;
 use cm_base::text::{Text, Texts};
+use cm_log::log::Log;
 use cm_map::map::Map;
-use cm_map::sequence::Sequence;
 use cm_type_list::types::Types;
 use cm_types::definition::{BaseType, TypeDef};
 use std::alloc::{AllocError, Global};
@@ -310,7 +309,7 @@ impl State {
     }
 
     /// The change log (CMIS 1.1, section 2.1.15).
-    pub fn log(&self) -> &Sequence<Change>
+    pub fn log(&self) -> &Log
         ensures { result.now ≡ self.now.log }
     {
         self.parts.log()

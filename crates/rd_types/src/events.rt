@@ -10,7 +10,7 @@ ghost use Rattle.rd_types.specs.Latest.{KeepsMarks, first_of, told_mark};
 use cm_base::log::{Change, ChangeKind, Marks};
 use cm_base::number::Oid;
 use cm_base::text::Text;
-use cm_map::sequence::Sequence;
+use cm_log::log::Log;
 use cm_see::read::reads;
 use cm_state::state::State;
 use std::alloc::{AllocError, Global};
@@ -68,11 +68,7 @@ fn keep(marks: &mut BTreeMap<u64, bool>, place: usize, event: &Change) -> Result
 }
 
 /// Of each object of which the log has a deletion: the caller's mark, at its place, of the first one.
-pub fn marks_of(
-    alloc: Global,
-    log: &Sequence<Change>,
-    place: usize,
-) -> Result<BTreeMap<u64, bool>, AllocError>
+pub fn marks_of(alloc: Global, log: &Log, place: usize) -> Result<BTreeMap<u64, bool>, AllocError>
     ensures { IfOk result (λ marks. KeepsMarks (get nat_cmp marks) place log.now) }
 {
     let mut marks = BTreeMap::new(alloc);
