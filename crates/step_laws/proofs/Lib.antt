@@ -1,9 +1,4 @@
-pub mod Contents
 pub mod Moments
-pub mod Ordered
-pub mod Passing
 pub mod Replays
 pub mod Seen
 pub mod Steps
-pub mod Trees
-pub mod Updates

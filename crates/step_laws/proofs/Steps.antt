@@ -1,14 +1,12 @@
 -- Each write keeps what is well formed, and so does each step.
-use Rattle.std.specs.Prelude.{◌≡◌, ℕ, List, Ok, Err}
-use Rattle.std.proofs.Common.{refl, ap, subst}
+use Rattle.std.specs.Prelude.{◌≡◌, ℕ, List, Ok}
+use Rattle.std.proofs.Common.{subst}
 use Rattle.cm_base.specs.declared.number.Moment.{Moment}
-use Rattle.cm_base.specs.Judged.{Judged, ◌>>◌}
 use Rattle.cm_call.specs.declared.reply.Reply.{Reply}
 use Rattle.cm_call.specs.declared.write.Write.{Write}
 use Rattle.cm_call.specs.declared.write.Write.TheVariants as writes
 use Rattle.cmis_spec.specs.Repository.{Repository}
 use Rattle.cmis_spec.specs.Well.{IsWellFormed}
-use Rattle.cmis_laws.proofs.Passed.{err_ok}
 use Rattle.desk_model.specs.declared.entry.Entry.{Entry}
 use Rattle.wr_object.specs.CreateFolder.{cost_create_folder}
 use Rattle.wr_object.specs.CreateDocument.{cost_create_document}
@@ -55,10 +53,11 @@ use Rattle.wr_policy.proofs.Removing.{keeps_remove}
 use Rattle.wr_bulk.specs.BulkUpdate.{cost_bulk_update}
 use Rattle.wr_rendition.specs.AddRendition.{cost_add_rendition}
 use Rattle.cm_repo.specs.Calls.{acknowledgement, after, refusal_of, step_of}
-use Rattle.step_laws.proofs.Contents.{keeps_add_rendition, keeps_append_content, keeps_delete_content, keeps_set_content}
-use Rattle.step_laws.proofs.Ordered.{new_ordered}
-use Rattle.step_laws.proofs.Trees.{keeps_delete_tree}
-use Rattle.step_laws.proofs.Updates.{keeps_apply_acl, keeps_bulk_update, keeps_update}
+use Rattle.write_laws.proofs.Contents.{keeps_add_rendition, keeps_append_content, keeps_delete_content, keeps_set_content}
+use Rattle.write_laws.proofs.Ordered.{new_ordered}
+use Rattle.write_laws.proofs.Passing.{done_is}
+use Rattle.write_laws.proofs.Trees.{keeps_delete_tree}
+use Rattle.write_laws.proofs.Updates.{keeps_apply_acl, keeps_bulk_update, keeps_update}
 
 pub write_keeps : (r : Repository) (u : List ℕ) (m : Moment) (call : Write) → IsWellFormed r → refusal_of r u m call ≡ Ok tt → IsWellFormed (after r u m call)
 write_keeps r u m (writes.CreateFolder call) w h = keeps_create_folder r u m (cost_create_folder r call) call w h (new_ordered u call.remove call.add)
@@ -91,11 +90,6 @@ write_keeps r u m (writes.ApplyPolicy call) w h = keeps_apply r u m (cost_apply_
 write_keeps r u m (writes.RemovePolicy call) w h = keeps_remove r u m (cost_remove_policy call) call w h
 write_keeps r u m (writes.BulkUpdate call) w h = keeps_bulk_update r u m (cost_bulk_update call) call w h
 write_keeps r u m (writes.AddRendition call) w h = keeps_add_rendition r u m (cost_add_rendition call) w call h
-
--- what is done where nothing refuses
-done_is : {A : Type 0} (j : Judged (Unit {0})) (a x : A) → j >> Ok a ≡ Ok x → (j ≡ Ok tt) × (a ≡ x)
-done_is (Ok y) a x h = (refl, ap (λ j. elim j [ Ok z ↦ z | Err c ↦ a ]) h)
-done_is (Err c) a x h = absurd (err_ok c x h)
 
 pub step_well : (r : Repository) (e : Entry Write) (x : Repository × Reply) → IsWellFormed r → step_of r e ≡ Ok x → IsWellFormed x.0
 step_well r e x w h =

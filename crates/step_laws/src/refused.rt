@@ -5,7 +5,7 @@ ghost use Rattle.cm_base.specs.declared.number.Moment.{Moment};
 ghost use Rattle.cm_call.specs.declared.write.Write.{Write};
 ghost use Rattle.cm_repo.specs.Calls.{refusal_of};
 ghost use Rattle.cmis_spec.specs.Repository.{Repository};
-ghost use Rattle.step_laws.specs.Moments.{is_of_retention};
+ghost use Rattle.write_laws.specs.Moments.{is_of_retention};
 
 /// What refuses a write at one moment and is no cause of retention refuses it at each moment.
 pub fn refused_at_each_moment()

@@ -19,7 +19,7 @@ use Rattle.wr_content.proofs.AppendContent.{append_is, append_well}
 use Rattle.wr_content.proofs.DeleteContent.{cleared_is, cleared_well, stepped_is, stepped_well}
 use Rattle.wr_rendition.specs.AddRendition.{refusal_add_rendition, rendition_added, after_add_rendition}
 use Rattle.wr_rendition.proofs.Added.{added_is, added_well}
-use Rattle.step_laws.proofs.Passing.{found}
+use Rattle.write_laws.proofs.Passing.{found}
 
 module _ (r : Repository) (u : List ℕ) (m : Moment) (cost : ℕ) (w : IsWellFormed r) where
   pub keeps_set_content : (call : SetContent) → refusal_set_content r u m cost call ≡ Ok tt → IsWellFormed (after_set_content r u m cost call)

@@ -27,8 +27,8 @@ use Rattle.wr_access.proofs.Changed.{relisted_is, relisted_well}
 use Rattle.wr_bulk.specs.BulkUpdate.{after_bulk_update, changed, is_refused, refusal_bulk_update, update_of, with_changed, with_object}
 use Rattle.wr_change.specs.Update.{after_update, changed_in, refusal_one, refusal_update}
 use Rattle.wr_change.proofs.Updating.{changed_well, found_right, right_stepped}
-use Rattle.step_laws.proofs.Ordered.{changed_ordered}
-use Rattle.step_laws.proofs.Passing.{choose, found}
+use Rattle.write_laws.proofs.Ordered.{changed_ordered}
+use Rattle.write_laws.proofs.Passing.{choose, found}
 
 -- ---- one object
 

@@ -1,13 +1,13 @@
 -- A call that is not refused, as most refusals begin: there is room for it, and what it addresses is found.
-use Rattle.std.specs.Prelude.{◌≡◌, ℕ, Bool, true, false, if◌then◌else◌, List, Some, Ok}
-use Rattle.std.proofs.Common.{refl}
+use Rattle.std.specs.Prelude.{◌≡◌, ℕ, Bool, true, false, if◌then◌else◌, List, Some, Ok, Err}
+use Rattle.std.proofs.Common.{refl, ap}
 use Rattle.cm_base.specs.declared.object.Object.{Object}
 use Rattle.cm_base.specs.declared.cause.Cause.TheVariants as causes
 use Rattle.cm_base.specs.Judged.{Judged, ◌>>=◌, ◌>>◌, find_or}
 use Rattle.call_parts.specs.declared.place.Place.{Place}
 use Rattle.cm_see.specs.Addressed.{addressed}
 use Rattle.cmis_spec.specs.Repository.{Repository}
-use Rattle.cmis_laws.proofs.Passed.{find_ok, then_ok}
+use Rattle.cmis_laws.proofs.Passed.{err_ok, find_ok, then_ok}
 use Rattle.cmis_laws.proofs.Steps.{HasRoom}
 use Rattle.wr_rules.specs.Rules.{judge_storage}
 use Rattle.wr_rules.proofs.Room.{room_of}
@@ -28,3 +28,8 @@ found r u cost place lines h =
 pub choose : {A : Type 0} (P : A → Type 0) (b : Bool) (x y : A) → (b ≡ true → P x) → (b ≡ false → P y) → P (if b then x else y)
 choose P true x y one other = one refl
 choose P false x y one other = other refl
+
+-- what is done where nothing refuses
+pub done_is : {A : Type 0} (j : Judged (Unit {0})) (a x : A) → j >> Ok a ≡ Ok x → (j ≡ Ok tt) × (a ≡ x)
+done_is (Ok y) a x h = (refl, ap (λ j. elim j [ Ok z ↦ z | Err c ↦ a ]) h)
+done_is (Err c) a x h = absurd (err_ok c x h)

@@ -14,7 +14,7 @@ use Rattle.wr_delete_tree.specs.declared.visit.Progress.{Progress}
 use Rattle.wr_delete_tree.specs.DeleteTree.{after_delete_tree, fails, is_to_go, refusal_delete_tree, taken_out, treated, tree_of, visit, whole}
 use Rattle.wr_delete_tree.proofs.Answered.{after_is}
 use Rattle.wr_delete_tree.proofs.Keeping.{deletion_keeps, taking_keeps}
-use Rattle.step_laws.proofs.Passing.{choose, found}
+use Rattle.write_laws.proofs.Passing.{choose, found}
 
 module _ (u : List ℕ) (m : Moment) (call : DeleteTree) (tree : List Oid) where
   abbrev IsWellAt : Progress → Type 0

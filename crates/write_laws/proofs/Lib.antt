@@ -1,0 +1,6 @@
+pub mod Contents
+pub mod Moments
+pub mod Ordered
+pub mod Passing
+pub mod Trees
+pub mod Updates
