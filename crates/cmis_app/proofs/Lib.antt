@@ -1,6 +1,0 @@
-pub mod Asked
-pub mod Failed
-pub mod Moments
-pub mod Scripts
-mod Making
-mod Asking

@@ -1,21 +1,13 @@
-//! The top call of the program, and the loads and schedules that it runs over a repository in memory.
+//! The top call of the program: the runs of `cmis_runs` over the repository with all its calls.
 #![tactic(auto)]
 
 ghost use Rattle.std.specs.Prelude.{◌≡◌};
 
 mod alike;
-mod loaded;
-mod made;
-mod many;
-mod once;
+mod calls;
+mod folders;
 mod program;
-mod scheduled;
-mod scripting;
-mod summary;
 
 pub use alike::replies_of_seen;
-pub use loaded::load;
-pub use many::serve;
-pub use once::run_once;
-pub use program::{Ran, run};
-pub use scheduled::schedule;
+pub use cmis_runs::Ran;
+pub use program::run;

@@ -1,90 +1,25 @@
 //! One run of the program, with one connection or with many.
-ghost use Rattle.std.specs.Prelude.{◌≡◌, ◌⊎◌, map, string_bytes, length, Some, None, IfSome, MatchOption};
-ghost use Rattle.cmis_spec.specs.Well.{HasGroups};
+ghost use Rattle.std.specs.Prelude.{◌≡◌, ◌⊎◌, map, string_bytes, length, None, IfSome, MatchOption};
 ghost use Rattle.desk_model.specs.Histories.{state_of};
 ghost use Rattle.cm_repo.specs.Faces.{shown_step};
 ghost use Rattle.cmis_words.specs.Serving.{serve_of};
+ghost use Rattle.cmis_app.specs.Many.{ServedAll};
 ghost use Rattle.cmis_app.specs.Once.{RunsOnce};
+ghost use Rattle.cmis_runs.specs.Many.{Hosted, Unserved};
 ghost use Rattle.run_status.specs.Status.{OnlyWhereFailed, Summed, summary};
-ghost use Rattle.cmis_app.specs.Many.{ServedAll, Hosted, Unserved};
 
-use crate::many::serve;
-use crate::once::run_once;
+use crate::calls::Calls;
 use cm_repo::face::Face;
-use cmis_words::serve::{Serve, read_serve};
-use cmis_words::words::WordsStop;
-use desk_serve::Closing;
+use cmis_runs::Ran;
 use outside::{Clock, Gate, Host, Link, Sink, Source};
-use run_status::sum_up;
 use std::alloc::Global;
 use std::sync::Wait;
 use std::thread::Threads;
 
-/// The status where memory is wanted.
-const WANTS_MEMORY: u8 = 7;
-
-/// The status where the host fails.
-const HOST_FAILED: u8 = 5;
-
-/// What a run answers: its status, and what stands once all connections are served, if they were.
-#[derive(Drop)]
-pub struct Ran<L> {
-    pub status: u8,
-    pub closing: Option<Closing<Face, L>>,
-}
-
-// Serves many connections.
-fn run_serve<O: Sink, H: Host, C: Clock + Send, G: Gate + Sync, R: Threads + Wait + Sync>(
-    rt: &R,
-    alloc: Global,
-    asked: Serve,
-    output: &mut O,
-    host: &mut H,
-    clock: &mut C,
-    gate: &G,
-) -> Ran<H::Link>
-where
-    H::Link: Send,
-    requires groups { HasGroups (map (λ u. u.name) asked.users) asked.groups }
-    ensures served { MatchOption result.closing (Unserved (H.told host.old) (H.told host.new) result.status
-        × (O.told output.new ≡ O.told output.old))
-        (λ c. ServedAll H.Link.Source.told H.Link.Sink.told asked.users asked.groups (C.words clock.old)
-        (H.left host.old) c.last c.ended
-        × Hosted asked (H.told host.old) (H.left host.old) (H.told host.new) (H.left host.new)
-        (length c.ended) c.end
-        × Summed c.end (summary (length c.ended) (state_of shown_step c.last).step) (O.told output.old)
-        (O.told output.new) result.status) }
-{
-    match host.begin(asked.port, asked.links) {
-        Ok(()) => {}
-        Err(_) => {
-            return Ran {
-                status: HOST_FAILED,
-                closing: None,
-            };
-        }
-    }
-    match serve(rt, alloc, asked, host, clock, gate) {
-        Ok(closing) => {
-            let sessions = closing.ended.len() as u64;
-            let steps = closing.last.number();
-            let status = sum_up(output, sessions, steps, closing.end);
-            Ran {
-                status,
-                closing: Some(closing),
-            }
-        }
-        Err(_) => Ran {
-            status: WANTS_MEMORY,
-            closing: None,
-        },
-    }
-}
-
 /// Runs the program with these words, and answers its status.
 ///
 /// `serve USERS PORT WORKERS [links=K] [groups=LIST]` serves the host's links at this port. 0: the host had none to give, or as many were served as may be;
-/// 4: the line at the end could not be written; 5: the host failed; 7: memory was wanted. Every other list of words is run by `run_once`.
+/// 4: the line at the end could not be written; 5: the host failed; 7: memory was wanted. Every other list of words is run by `cmis_runs::run_once`.
 pub fn run<I: Source, O: Sink, H: Host, C: Clock + Send, G: Gate + Sync, R: Threads + Wait + Sync>(
     rt: &R,
     alloc: Global,
@@ -94,7 +29,7 @@ pub fn run<I: Source, O: Sink, H: Host, C: Clock + Send, G: Gate + Sync, R: Thre
     host: &mut H,
     clock: &mut C,
     gate: &G,
-) -> Ran<H::Link>
+) -> Ran<Face, H::Link>
 where
     H::Link: Send,
     ensures once { serve_of (map string_bytes words.now) ≡ None → (result.closing ≡ None)
@@ -112,18 +47,5 @@ where
     ensures unasked { serve_of (map string_bytes words.now) ≡ None → host.new ≡ host.old }
     ensures unread { IfSome (serve_of (map string_bytes words.now)) (λ asked. I.told input.new ≡ I.told input.old) }
 {
-    match read_serve(alloc, words) {
-        Ok(asked) => run_serve(rt, alloc, asked, output, host, clock, gate),
-        Err(WordsStop::NotValid) => {
-            let status = run_once(alloc, words, input, output, clock);
-            Ran {
-                status,
-                closing: None,
-            }
-        }
-        Err(WordsStop::Memory) => Ran {
-            status: WANTS_MEMORY,
-            closing: None,
-        },
-    }
+    cmis_runs::run::<Calls, I, O, H, C, G, R>(rt, alloc, words, input, output, host, clock, gate)
 }

@@ -1,4 +1,0 @@
-use Rattle.cmis_app.proofs.loaded.line_of.Goals as goal
-
-pub returns : goal.returns
-returns c = (c.in_ok-state.state, c.in_ok-state.ensures, c.in_ok-line.ensures)

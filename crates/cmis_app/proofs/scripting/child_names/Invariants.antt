@@ -1,6 +1,0 @@
-use Rattle.std.proofs.Common.{◌≡◌, map, take}
-use Rattle.cmis_app.specs.Scripting.{child_name}
-use Rattle.cmis_app.proofs.scripting.child_names.Given as goal
-
-abbrev pub invariant-loop-member : goal.invariant-loop-member
-invariant-loop-member l = l.names ≡ map child_name (take l.member-index l.members)

@@ -1,7 +1,0 @@
-use Rattle.std.proofs.Common.{ap}
-use Rattle.cmis_app.specs.Loads.{all_documents, query_of}
-use Rattle.cmis_app.proofs.summary.all_documents.Goals as goal
-
-pub returns : goal.returns
-unfolding all_documents
-returns c = ap query_of c.in_ok-statement.ensures

@@ -1,0 +1,6 @@
+pub mod Asked
+pub mod Failed
+pub mod Moments
+pub mod Scripts
+mod Making
+mod Asking

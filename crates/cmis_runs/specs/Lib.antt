@@ -1,0 +1,8 @@
+pub mod Alike
+pub mod Kinds
+pub mod Loads
+pub mod Many
+pub mod Once
+pub mod Runs
+pub mod Schedules
+pub mod Scripting

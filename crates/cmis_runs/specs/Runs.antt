@@ -1,0 +1,54 @@
+-- What a run of the program does: what it writes, and the status with which it ends.
+use Rattle.std.specs.Prelude.{◌≡◌, ◌⊎◌, ℕ, List, [], Option, Some, None, IfSome}
+use Rattle.outside.specs.Clocks.{Words, first_word, rest_words}
+use Rattle.outside.specs.Outside.{SourceTold, SinkTold}
+use Rattle.cm_base.specs.declared.number.Moment.{Moment}
+use Rattle.cm_base.specs.declared.user.User.{User}
+use Rattle.cm_base.specs.declared.user.Group.{Group}
+use Rattle.cm_types.specs.BaseTypes.{base_types}
+use Rattle.cmis_spec.specs.Repository.{Repository, opening}
+use Rattle.desk_model.specs.declared.entry.Entry.{Entry}
+use Rattle.desk_model.specs.Clocks.{moment_of}
+use Rattle.talk.specs.declared.end.End.{End}
+use Rattle.talk.specs.Ran.{RunAlone}
+use Rattle.talk.specs.Served.{Kind}
+use Rattle.run_status.specs.Status.{status_of, Refused, Unbegun}
+use Rattle.cmis_words.specs.declared.words.Words.{Words as Asked}
+use Rattle.cmis_words.specs.declared.words.Words.TheVariants.{Pipe}
+use Rattle.cmis_runs.specs.Alike.{RepliesOfSeen}
+
+-- A session over this opening and a clock with these words, with nobody beside it; the session takes no other words of the clock than its turns need, and leaves these.
+-- A session that ends well or by a fault of its bytes is the session alone on all that the source had left. What a reading is replied is that of every
+-- well-formed repository in which its caller sees the same.
+pub record Served {C Q : Type 0} (kind : Kind Repository C Q) (opened : Repository) (users : List User) (words : Option Words) (before : SourceTold) (empty : SinkTold) (after : SourceTold) (full : SinkTold) (status : ℕ) : Type 0 where
+  pub end : End
+  pub status_is : status ≡ status_of end
+  pub journal : List (Entry C)
+  pub left : Option Words
+  pub ran : RunAlone kind opened users words before empty after full end journal left
+  pub alike : RepliesOfSeen kind opened
+
+-- a clock that always gives this word
+abbrev pub always : ℕ → Words
+always word = record { coming = []; last = word }
+
+-- A moment that the words name is that of the root and of every write; else the first word of the clock is that of the root, and the session takes the next ones.
+abbrev pub Begins : Option Moment → Option Words → Moment → Option Words → Type 0
+Begins (Some at) clock root words = (root ≡ at) × ((word : ℕ) × (at ≡ moment_of word) × (words ≡ Some (always word)))
+Begins None clock root words = IfSome clock (λ w. (root ≡ moment_of (first_word w)) × (words ≡ Some (rest_words w)))
+
+-- a run that serves one session, over the repository with the root alone
+pub record Piped {C Q : Type 0} (kind : Kind Repository C Q) (users : List User) (groups : List Group) (at : Option Moment) (from : ℕ) (clock : Option Words) (before : SourceTold) (empty : SinkTold) (after : SourceTold) (full : SinkTold) (status : ℕ) : Type 0 where
+  pub root : Moment
+  pub words : Option Words
+  pub begins : Begins at clock root words
+  pub served : Served kind (opening base_types users groups root from) users words before empty after full status
+
+-- Of a run with these words, by the words that the clock had to give. Other words than the program's read nothing.
+abbrev pub Ran : {C Q : Type 0} → Kind Repository C Q → Option Asked → Option Words → SourceTold → SinkTold → SourceTold → SinkTold → ℕ → Type 0
+Ran kind None clock before empty after full status =
+    Unbegun before empty after full status
+    ⊎ (after ≡ before) × Refused empty full status
+Ran kind (Some (Pipe asked)) clock before empty after full status =
+    Unbegun before empty after full status
+    ⊎ Piped kind asked.users asked.groups asked.at asked.from clock before empty after full status
