@@ -17,7 +17,7 @@ use Rattle.bind_json.specs.Replies.{shown_reply}
 use Rattle.cmis_spec.specs.Repository.{Repository}
 use Rattle.desk_model.specs.declared.entry.Entry.{Entry}
 use Rattle.cm_repo.specs.Calls.{step_of, answer_of}
-use Rattle.cm_repo.specs.Faces.{shown_step, shown_answer}
+use Rattle.cm_repo.specs.ServerMachine.{shown_step, shown_answer}
 
 no_cause : {A : Type 0} (c : Cause) (x : A) → ◌≡◌ {A = Result A Cause} (Err c) (Ok x) → ⊥
 no_cause {A} c x h = both_ways false refl (ap (λ (o : Result A Cause). elim o [ Ok y ↦ true | Err d ↦ false ]) h)

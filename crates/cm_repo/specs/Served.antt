@@ -5,7 +5,7 @@ use Rattle.cmis_spec.specs.Repository.{Repository}
 use Rattle.http_caller.specs.Callers.{caller_of}
 use Rattle.http_wire.specs.Connections.{closes}
 use Rattle.talk.specs.Served.{Kind, wire_of}
-use Rattle.cm_repo.specs.Faces.{shown_step, shown_answer}
+use Rattle.cm_repo.specs.ServerMachine.{shown_step, shown_answer}
 use Rattle.cm_repo.specs.Requests.{called, least}
 
 -- its step and its answers as they are sent, its step number, and how requests are read

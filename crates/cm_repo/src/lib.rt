@@ -4,7 +4,7 @@
 ghost use Rattle.std.specs.Prelude.{◌≡◌};
 
 pub mod calls;
-pub mod face;
 pub mod law;
-pub mod plain;
+pub mod repository_machine;
 pub mod served;
+pub mod server_machine;

@@ -5,7 +5,7 @@ ghost use Rattle.cm_repo.specs.Numbers.{step_has_number, answer_has_number};
 ghost use Rattle.http_caller.specs.Callers.{caller_of};
 ghost use Rattle.http_wire.specs.Connections.{closes};
 
-use crate::face::Face;
+use crate::server_machine::ServerMachine;
 use bind_read::asked::Asked as Read;
 use bind_read::call::call_of;
 use cm_base::fail::Fail;
@@ -18,7 +18,7 @@ use http_wire::{Head, Request};
 use std::alloc::Global;
 use talk::{Asked, Served};
 
-impl Served for Face {
+impl Served for ServerMachine {
     ghost call = { called };
 
     ghost user = { caller_of };

@@ -3,17 +3,17 @@ ghost use Rattle.std.specs.Prelude.{◌≡◌};
 
 use crate::alike::replies_of_seen;
 use crate::folders::Folders;
-use cm_repo::face::Face;
-use cm_repo::plain::Plain;
+use cm_repo::repository_machine::RepositoryMachine;
+use cm_repo::server_machine::ServerMachine;
 use cmis_runs::Program;
 
 /// The repository with all its calls.
 pub struct Calls;
 
 impl Program for Calls {
-    type Face = Face;
+    type Face = ServerMachine;
 
-    type Plain = Plain;
+    type Plain = RepositoryMachine;
 
     type Folders = Folders;
 

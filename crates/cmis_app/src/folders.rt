@@ -8,7 +8,7 @@ use cm_base::text::{Text, Texts};
 use cm_call::question::Question;
 use cm_call::reply::Reply;
 use cm_call::write::Write;
-use cm_repo::plain::Plain;
+use cm_repo::repository_machine::RepositoryMachine;
 use cmis_runs::scripting::{child_names, folder_in_root, folder_properties, root_children};
 use schedule_run::Scripted;
 use std::alloc::{AllocError, Global};
@@ -17,7 +17,7 @@ use std::alloc::{AllocError, Global};
 pub struct Folders;
 
 impl Scripted for Folders {
-    type Kind = Plain;
+    type Kind = RepositoryMachine;
 
     ghost asks = { script_calls };
 

@@ -1,7 +1,7 @@
 //! One run of the program, with one connection or with many.
 ghost use Rattle.std.specs.Prelude.{◌≡◌, ◌⊎◌, map, string_bytes, length, None, IfSome, MatchOption};
 ghost use Rattle.desk_model.specs.Histories.{state_of};
-ghost use Rattle.cm_repo.specs.Faces.{shown_step};
+ghost use Rattle.cm_repo.specs.ServerMachine.{shown_step};
 ghost use Rattle.cmis_words.specs.Serving.{serve_of};
 ghost use Rattle.cmis_app.specs.Many.{ServedAll};
 ghost use Rattle.cmis_app.specs.Once.{RunsOnce};
@@ -9,7 +9,7 @@ ghost use Rattle.cmis_runs.specs.Many.{Hosted, Unserved};
 ghost use Rattle.run_status.specs.Status.{OnlyWhereFailed, Summed, summary};
 
 use crate::calls::Calls;
-use cm_repo::face::Face;
+use cm_repo::server_machine::ServerMachine;
 use cmis_runs::Ran;
 use outside::{Clock, Gate, Host, Link, Sink, Source};
 use std::alloc::Global;
@@ -29,7 +29,7 @@ pub fn run<I: Source, O: Sink, H: Host, C: Clock + Send, G: Gate + Sync, R: Thre
     host: &mut H,
     clock: &mut C,
     gate: &G,
-) -> Ran<Face, H::Link>
+) -> Ran<ServerMachine, H::Link>
 where
     H::Link: Send,
     ensures once { serve_of (map string_bytes words.now) ≡ None → (result.closing ≡ None)

@@ -12,7 +12,7 @@ use Rattle.cmis_spec.specs.Well.{IsWellFormed}
 use Rattle.desk_model.specs.declared.entry.Entry.{Entry}
 use Rattle.desk_model.specs.Histories.{replay, state_after}
 use Rattle.cm_repo.specs.Calls.{step_of}
-use Rattle.cm_repo.specs.Faces.{shown_step}
+use Rattle.cm_repo.specs.ServerMachine.{shown_step}
 use Rattle.step_laws.proofs.Steps.{step_well}
 
 abbrev shown_made : Repository × Reply → Result (Repository × Shown) Cause

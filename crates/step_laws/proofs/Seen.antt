@@ -8,7 +8,7 @@ use Rattle.cm_call.specs.declared.question.Question.{Question}
 use Rattle.cmis_spec.specs.Repository.{Repository}
 use Rattle.cmis_spec.specs.Seen.{OfSeen}
 use Rattle.cm_repo.specs.Calls.{answer_of}
-use Rattle.cm_repo.specs.Faces.{shown_answer}
+use Rattle.cm_repo.specs.ServerMachine.{shown_answer}
 
 -- the answer and the step are the same
 pub sent_of_seen : (r : Repository) (u : List ℕ) (q : Question) → OfSeen (λ s. answer_of s u q) r u (answer_of r u q) → OfSeen (λ s. shown_answer s u q) r u (shown_answer r u q)

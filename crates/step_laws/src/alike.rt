@@ -1,7 +1,7 @@
 //! What is sent of an answer follows from what the caller sees.
 ghost use Rattle.std.specs.Prelude.{ℕ, List};
 ghost use Rattle.cm_call.specs.declared.question.Question.{Question};
-ghost use Rattle.cm_repo.specs.Faces.{shown_answer};
+ghost use Rattle.cm_repo.specs.ServerMachine.{shown_answer};
 ghost use Rattle.cmis_spec.specs.Repository.{Repository};
 ghost use Rattle.cmis_spec.specs.Seen.{OfSeen};
 ghost use Rattle.cmis_spec.specs.Well.{IsWellFormed};

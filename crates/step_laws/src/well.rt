@@ -3,7 +3,7 @@ ghost use Rattle.std.specs.Prelude.{◌≡◌, List, Ok};
 ghost use Rattle.cm_call.specs.declared.reply.Reply.{Reply};
 ghost use Rattle.cm_call.specs.declared.write.Write.{Write};
 ghost use Rattle.cm_repo.specs.Calls.{step_of};
-ghost use Rattle.cm_repo.specs.Faces.{shown_step};
+ghost use Rattle.cm_repo.specs.ServerMachine.{shown_step};
 ghost use Rattle.cmis_spec.specs.Repository.{Repository};
 ghost use Rattle.cmis_spec.specs.Well.{IsWellFormed};
 ghost use Rattle.desk_model.specs.declared.entry.Entry.{Entry};

@@ -1,7 +1,7 @@
 use Rattle.std.specs.Prelude.{◌≡◌, nat_lt, if◌then◌else◌}
 use Rattle.std.proofs.Common.{ap, sym}
 use Rattle.cm_base.specs.declared.cause.Cause.TheVariants as causes
-use Rattle.cm_repo.specs.Faces.{shown_answer, shown_step}
+use Rattle.cm_repo.specs.ServerMachine.{shown_answer, shown_step}
 use Rattle.cm_repo.specs.Served.{repository}
 use Rattle.cmis_spec.specs.Repository.{Repository}
 use Rattle.desk_model.specs.Histories.{replay}

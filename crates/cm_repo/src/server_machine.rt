@@ -2,7 +2,7 @@
 ghost use Rattle.std.specs.Prelude.{◌≡◌, Result};
 ghost use Rattle.cm_base.specs.Judged.{Meets};
 ghost use Rattle.desk_model.specs.Halts.{Tells};
-ghost use Rattle.cm_repo.specs.Faces.{shown_step, shown_answer};
+ghost use Rattle.cm_repo.specs.ServerMachine.{shown_step, shown_answer};
 ghost use Rattle.cm_repo.specs.Sent.{sent_children, sent_default, sent_found, sent_included, sent_object, sent_stream};
 
 use crate::calls::{advance, read};
@@ -162,9 +162,9 @@ fn shown_answer(
 ///
 /// The status is 201 where the call made an object, and else 200; the media type is that of a content, and else application/json;
 /// the number is that of the state at which the reply was made.
-pub struct Face;
+pub struct ServerMachine;
 
-impl Machine for Face {
+impl Machine for ServerMachine {
     type State = State;
 
     type Call = Write;
@@ -175,7 +175,7 @@ impl Machine for Face {
 
     type Cause = Cause;
 
-    ghost use Rattle.cm_repo.specs.Faces.{shown_step, shown_answer};
+    ghost use Rattle.cm_repo.specs.ServerMachine.{shown_step, shown_answer};
 
     ghost next = { shown_step };
 

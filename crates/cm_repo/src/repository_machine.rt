@@ -12,9 +12,9 @@ use desk_model::{Entry, Halt, Machine};
 use std::alloc::Global;
 
 /// The machine of the repository. The number of a state is that of its accepted writes.
-pub struct Plain;
+pub struct RepositoryMachine;
 
-impl Machine for Plain {
+impl Machine for RepositoryMachine {
     type State = State;
 
     type Call = Write;

@@ -1,5 +1,5 @@
 use Rattle.std.proofs.Common.{◌∙◌, sym}
-use Rattle.cm_repo.proofs.face.sent_found.Goals as goal
+use Rattle.cm_repo.proofs.server_machine.sent_found.Goals as goal
 
 pub returns-then-is_a : goal.returns-then-is_a
 returns-then-is_a c = rw (sym c.is_a.ensures ∙ c.if-is_a.true) c.sent_children.ensures
