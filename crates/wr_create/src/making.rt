@@ -44,7 +44,7 @@ pub fn new_object(
     values: Values,
 ) -> Result<Object, AllocError>
     requires room { state.now.step + 1 < 2 ^ 64 }
-    ensures { IfOk result (λ x. x ≡ object_of state.now user.now moment wanted values) }
+    ensures { IfOk result (λ x. x ≡ object_of state.now user.now moment wanted.entry values) }
 {
     Ok(Object {
         id: Oid(state.next_number()),

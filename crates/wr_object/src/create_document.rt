@@ -137,7 +137,7 @@ fn new_document(
     allowed: Allowed,
 ) -> Result<Object, AllocError>
     requires room { state.now.step + 1 < 2 ^ 64 }
-    ensures { IfOk result (λ x. x ≡ object_of state.now user.now moment wanted allowed) }
+    ensures { IfOk result (λ x. x ≡ object_of state.now user.now moment wanted.entry allowed) }
 {
     let number = Oid(state.next_number());
     Ok(Object {
@@ -166,7 +166,7 @@ fn new_parts(
     allowed: Allowed,
 ) -> Result<NewDocument, AllocError>
     requires room { state.now.step + 1 < 2 ^ 64 }
-    ensures { IfOk result (λ n. n ≡ parts_of state.now user.now moment call.now wanted allowed) }
+    ensures { IfOk result (λ n. n ≡ parts_of state.now user.now moment call.now wanted.entry allowed) }
 {
     let folder = allowed.folder;
     let number = Oid(state.next_number());

@@ -132,9 +132,9 @@ fn new_folder(
     requires room { state.now.step + 1 < 2 ^ 64 }
     ensures { IfOk result (λ x. x ≡ record {
       id = new_number state.now;
-      kind = wanted.kind;
-      name = Some wanted.name;
-      secondary = wanted.secondary;
+      kind = wanted.entry.kind;
+      name = Some wanted.entry.name;
+      secondary = wanted.entry.secondary;
       values = kept_beside values;
       maker = user.now;
       made = moment;

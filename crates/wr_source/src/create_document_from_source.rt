@@ -167,7 +167,7 @@ fn new_document(
     allowed: Allowed,
 ) -> Result<Object, AllocError>
     requires room { state.now.step + 1 < 2 ^ 64 }
-    ensures { IfOk result (λ x. x ≡ new_document state.now user.now moment t allowed) }
+    ensures { IfOk result (λ x. x ≡ new_document state.now user.now moment t.entry allowed) }
 {
     let number = Oid(state.next_number());
     Ok(Object {
@@ -195,7 +195,7 @@ fn new_parts(
     allowed: Allowed,
 ) -> Result<NewDocument, AllocError>
     requires room { state.now.step + 1 < 2 ^ 64 }
-    ensures { IfOk result (λ n. n ≡ new_parts state.now user.now moment t allowed) }
+    ensures { IfOk result (λ n. n ≡ new_parts state.now user.now moment t.entry allowed) }
 {
     let folder = allowed.folder;
     let number = Oid(state.next_number());
