@@ -1,3 +1,4 @@
+mod Defined
 pub mod Ends
 pub mod KeptUpdated
 pub mod Put

@@ -3,7 +3,8 @@ ghost use Rattle.std.specs.Prelude.{◌≡◌, ◌&&◌, not, Ok, IfOk, map};
 ghost use Rattle.cm_map.specs.Parts.{pointee};
 ghost use Rattle.cm_base.specs.Judged.{Meets, Leaves, Writes, first_cause};
 ghost use Rattle.cm_types.specs.declared.given.PropertyCall.TheVariants as calls;
-ghost use Rattle.cm_types.specs.Properties.{judge_properties};
+ghost use Rattle.cm_types.specs.Properties.{judge_properties, kept_values};
+ghost use Rattle.cmis_spec.specs.Values.{kept_beside};
 ghost use Rattle.cmis_spec.specs.Repository.{same, root};
 ghost use Rattle.cmis_spec.specs.Changes.{stepped};
 ghost use Rattle.cmis_spec.specs.Documents.{is_working_copy};
@@ -35,6 +36,7 @@ use cm_see::level::lacks;
 use cm_state::look::entry_of;
 use cm_state::open::ROOT;
 use cm_state::state::State;
+use cm_types::given::Givens;
 use cm_types::property::PropDef;
 use std::alloc::{AllocError, Global};
 use wr_rules::beside::kept_beside;
@@ -116,7 +118,24 @@ fn props_updated<'a>(
     Ok(defs)
 }
 
+// The values that are kept by these definitions, without those beside them, or the first fault of the given properties.
+fn judge_by(
+    alloc: Global,
+    defs: &[&PropDef],
+    old: &Values,
+    given: &Givens,
+    working: bool,
+) -> Result<Values, Fail>
+    ensures { Leaves result
+        (judge_properties (calls.Update working) (map pointee defs.now) old.now given.now)
+        (kept_beside (kept_values (calls.Update working) (map pointee defs.now) old.now given.now)) }
+{
+    let values = check_update(alloc, defs, old, given, working)?;
+    Ok(kept_beside(values))
+}
+
 // The values that the object has after the call, or the first fault of the given properties.
+#[tactic(auto, using(crate::proofs::Defined::leaves_by))]
 fn judge_values(
     alloc: Global,
     state: &State,
@@ -131,8 +150,7 @@ fn judge_values(
     let defs = props_updated(alloc, state, call, x)?;
     let old = form_slots(alloc, state, x)?;
     let working = is_working_copy(state, x);
-    let values = check_update(alloc, &defs, &old, &call.properties, working)?;
-    Ok(kept_beside(values))
+    judge_by(alloc, &defs, &old, &call.properties, working)
 }
 
 // Another child has the name in a folder of the object.

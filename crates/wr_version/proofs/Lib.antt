@@ -4,4 +4,5 @@ pub mod CheckIn
 pub mod CheckOut
 pub mod Commented
 mod Joined
+mod Defined
 pub mod Making

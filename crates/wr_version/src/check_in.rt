@@ -4,7 +4,7 @@ ghost use Rattle.cm_map.specs.Parts.{pointee};
 ghost use Rattle.cm_base.specs.Judged.{Meets, Leaves, Writes, first_cause};
 ghost use Rattle.cm_base.specs.declared.series.Series.{Series};
 ghost use Rattle.cm_types.specs.declared.given.PropertyCall.TheVariants as calls;
-ghost use Rattle.cm_types.specs.Properties.{judge_properties};
+ghost use Rattle.cm_types.specs.Properties.{judge_properties, kept_values};
 ghost use Rattle.cm_see.specs.Addressed.{addressed};
 ghost use Rattle.cmis_spec.specs.Repository.{series_of};
 ghost use Rattle.cmis_spec.specs.Values.{kept_beside};
@@ -38,6 +38,7 @@ use cm_see::level::lacks;
 use cm_state::look::entry_of;
 use cm_state::state::State;
 use cm_types::definition::{BaseType, TypeDef};
+use cm_types::given::Givens;
 use cm_types::property::PropDef;
 use std::alloc::{AllocError, Global};
 use wr_rules::content::{content_of_stream, judge_content};
@@ -80,7 +81,17 @@ fn props_after<'a>(
     Ok(defs)
 }
 
+// The values that are kept by these definitions, or the first fault of the given properties.
+fn judge_by(alloc: Global, defs: &[&PropDef], old: &Values, given: &Givens) -> Result<Values, Fail>
+    ensures { Leaves result
+        (judge_properties calls.CheckIn (map pointee defs.now) old.now given.now)
+        (kept_values calls.CheckIn (map pointee defs.now) old.now given.now) }
+{
+    check_checked_in(alloc, defs, old, given)
+}
+
 // The values that the document has after the call, or the first fault of the given properties.
+#[tactic(auto, using(crate::proofs::Defined::leaves_by))]
 fn judge_values(alloc: Global, state: &State, call: &CheckIn, x: &Object) -> Result<Values, Fail>
     ensures { Leaves result
         (judge_properties calls.CheckIn
@@ -89,7 +100,7 @@ fn judge_values(alloc: Global, state: &State, call: &CheckIn, x: &Object) -> Res
 {
     let defs = props_after(alloc, state, call, x)?;
     let old = form_slots(alloc, state, x)?;
-    check_checked_in(alloc, &defs, &old, &call.properties)
+    judge_by(alloc, &defs, &old, &call.properties)
 }
 
 // The name is one, and no other child of a folder of the document has it.
