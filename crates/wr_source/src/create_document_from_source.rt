@@ -1,5 +1,6 @@
 //! createDocumentFromSource (CMIS 1.1, section 2.2.4.2).
-ghost use Rattle.std.specs.Prelude.{◌≡◌, ◌+◌, ◌<◌, ◌^◌, Ok, Some, None, IfOk, option_and_then};
+ghost use Rattle.std.specs.Prelude.{◌≡◌, ◌+◌, ◌<◌, ◌^◌, Ok, Some, None, IfOk, option_and_then, map};
+ghost use Rattle.cm_map.specs.Parts.{pointee};
 ghost use Rattle.std.specs.Option.{option_copied};
 ghost use Rattle.cm_base.specs.Judged.{Fails, Leaves, Writes};
 ghost use Rattle.cm_types.specs.declared.given.PropertyCall.TheVariants as calls;
@@ -28,6 +29,7 @@ use cm_see::read::read_named;
 use cm_state::state::State;
 use cm_types::definition::TypeDef;
 use cm_types::given::Givens;
+use cm_types::property::PropDef;
 use source_parts::weight::weight_of_create_document_from_source;
 use source_parts::writes::CreateDocumentFromSource;
 use std::alloc::{AllocError, Global};
@@ -42,12 +44,17 @@ use wr_rules::policies::{judge_read, policies_in};
 use wr_rules::storage::judge_storage;
 
 // The values of the new document, or the first fault of the given properties.
-fn judge_values(alloc: Global, t: &Template<'_>, given: &Givens) -> Result<Values, Fail>
+fn judge_values(
+    alloc: Global,
+    defs: &[&PropDef],
+    copied: &Values,
+    given: &Givens,
+) -> Result<Values, Fail>
     ensures { Leaves result
-        (judge_properties calls.Create t.now.defs t.now.copied given.now)
-        (kept_values calls.Create t.now.defs t.now.copied given.now) }
+        (judge_properties calls.Create (map pointee defs.now) copied.now given.now)
+        (kept_values calls.Create (map pointee defs.now) copied.now given.now) }
 {
-    check_new(alloc, &t.defs, &t.copied, given)
+    check_new(alloc, defs, copied, given)
 }
 
 fn number_of(folder: Option<&Object>) -> Option<Oid>
@@ -78,7 +85,7 @@ fn judge_found(
     judge_kinds(state, user, call, x, folder)?;
     judge_type(alloc, state, t, kind)?;
     judge_place(state, call, folder, kind)?;
-    let values = judge_values(alloc, t, &call.properties)?;
+    let values = judge_values(alloc, &t.defs, &t.copied, &call.properties)?;
     judge_name(state, call, t, folder, kind)?;
     Ok(values)
 }
