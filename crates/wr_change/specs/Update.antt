@@ -56,6 +56,15 @@ gives_name call = is_some (given_of call.properties (codes "cmis:name"))
 
 -- ---- the refusal
 
+-- the caller may change the object, as its token, if one is given, says that he knows it
+abbrev pub judge_allowed : Repository → List ℕ → UpdateProperties → Object → Judged (Unit {0})
+judge_allowed r u call x = do
+  refuse causes.Denied (lacks r u levels.Write x)
+  judge_token x call.token
+  refuse causes.RootFixed (same x.id root && gives_name call)
+  judge_changeable r x
+  refuse causes.TypeKind (has_other_secondary r.types (secondary_named call))
+
 -- another child has the name in a folder of the object; a working copy is filed nowhere
 abbrev pub takes_name : Repository → Object → List ℕ → Bool
 takes_name r x name = not (is_working_copy r x) && is_taken_anywhere r (entry_of x) name
@@ -65,15 +74,6 @@ abbrev pub judge_new_name : Repository → UpdateProperties → Object → Judge
 judge_new_name r call x = do
   refuse causes.BadName (not (is_name (name_after r x call.properties)))
   refuse causes.NameTaken (takes_name r x (name_after r x call.properties))
-
--- the caller may change the object, as its token, if one is given, says that he knows it
-abbrev pub judge_allowed : Repository → List ℕ → UpdateProperties → Object → Judged (Unit {0})
-judge_allowed r u call x = do
-  refuse causes.Denied (lacks r u levels.Write x)
-  judge_token x call.token
-  refuse causes.RootFixed (same x.id root && gives_name call)
-  judge_changeable r x
-  refuse causes.TypeKind (has_other_secondary r.types (secondary_named call))
 
 -- the retention of the object, if it is under one at the moment, is neither taken away nor shortened (section 2.1.16.1)
 abbrev pub judge_update : Repository → List ℕ → Moment → UpdateProperties → Object → Judged (Unit {0})

@@ -22,8 +22,7 @@ use Rattle.cmis_laws.proofs.Begun.{HasLabelsOf}
 use Rattle.cmis_laws.proofs.Passed.{and_then_some}
 use Rattle.wr_rules.specs.Documents.{name_after, secondary_after}
 use Rattle.wr_rules.proofs.Found.{addressed_there}
-use Rattle.wr_version.specs.CheckIn.{refusal_check_in, new_version, new_label, given_content, after_check_in_of, after_check_in, version_made}
-use Rattle.wr_version.specs.CheckInParts.{values_after}
+use Rattle.wr_version.specs.CheckIn.{refusal_check_in, values_after, new_version, new_label, given_content, after_check_in_of, after_check_in, version_made}
 use Rattle.wr_version.proofs.CheckIn.{passes, last_labelled}
 use Rattle.wr_version.proofs.CheckOut.{IsIn, series_is}
 use Rattle.wr_version.proofs.Copied.{same_objects}
