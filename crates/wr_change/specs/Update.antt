@@ -108,8 +108,8 @@ updated_object r u m call x = record x {
   name = name_kept x.name (name_after r x call.properties);
   secondary = secondary_updated call x;
   values = values_updated r call x;
-  changer = u;
-  changed = m;
+  modified_by = u;
+  modified_at = m;
   token = r.step;
 }
 
@@ -125,7 +125,7 @@ renamed r name false (Some n) = series_edited r n (under_name name)
 -- a new object in place of the old one, after the series of the old one under its name, with its event
 abbrev pub placed : Repository → UpdateProperties → Object → Object → Repository
 placed r call x new =
-    noted (edited (renamed r (name_after r x call.properties) (is_working_copy r x) x.series) x.id (λ _. new)) changes.Updated x.id new.changed []
+    noted (edited (renamed r (name_after r x call.properties) (is_working_copy r x) x.series) x.id (λ _. new)) changes.Updated x.id new.modified_at []
 
 abbrev pub changed_in : Repository → List ℕ → Moment → UpdateProperties → Object → Repository
 changed_in r u m call x = placed r call x (updated_object r u m call x)

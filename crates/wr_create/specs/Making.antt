@@ -82,7 +82,7 @@ made_by r u m request given folder = new_of r u request (new_object r u m given)
 -- one step further at this cost, with the object in its folder, and the event of what was made
 abbrev pub after_making : Repository → ℕ → NewObject → Repository
 after_making r cost new =
-    noted (filed_at (with_object (stepped r cost) new.object new.aces new.policies) new.folder new.object.id) changes.Created new.object.id new.object.made []
+    noted (filed_at (with_object (stepped r cost) new.object new.aces new.policies) new.folder new.object.id) changes.Created new.object.id new.object.created_at []
 
 -- ---- the reply
 

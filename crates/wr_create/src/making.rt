@@ -106,7 +106,7 @@ fn made_in(alloc: Global, state: &State, new: NewObject, cost: u64) -> Result<Dr
     ensures { IfOk result (λ d. d ≡ after_making state.now cost new) }
 {
     let number = new.object.id;
-    let moment = new.object.made;
+    let moment = new.object.created_at;
     let folder = new.folder;
     let policies = new.policies;
     let made = entered(

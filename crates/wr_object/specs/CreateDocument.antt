@@ -158,10 +158,10 @@ new_document r u m wanted allowed = record {
   name = own_name allowed.state wanted.name;
   secondary = wanted.secondary;
   values = kept_beside allowed.values;
-  maker = u;
-  made = m;
-  changer = u;
-  changed = m;
+  created_by = u;
+  created_at = m;
+  modified_by = u;
+  modified_at = m;
   token = r.step + 1;
   series = Some (new_number r);
 }

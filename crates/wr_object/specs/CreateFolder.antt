@@ -101,10 +101,10 @@ object_of r u m wanted values = record {
   name = Some wanted.name;
   secondary = wanted.secondary;
   values = kept_beside values;
-  maker = u;
-  made = m;
-  changer = u;
-  changed = m;
+  created_by = u;
+  created_at = m;
+  modified_by = u;
+  modified_at = m;
   token = r.step + 1;
   series = None;
 }

@@ -112,10 +112,10 @@ new_document r u m t allowed = record {
   name = own_name allowed.state t.name;
   secondary = t.secondary;
   values = kept_beside allowed.values;
-  maker = u;
-  made = m;
-  changer = u;
-  changed = m;
+  created_by = u;
+  created_at = m;
+  modified_by = u;
+  modified_at = m;
   token = r.step + 1;
   series = Some (new_number r);
 }

@@ -86,8 +86,8 @@ new_version r u m call x = record x {
   name = None;
   secondary = secondary_after x call.properties;
   values = with_comment (kept_beside (values_after r call x)) call.comment;
-  changer = u;
-  changed = m;
+  modified_by = u;
+  modified_at = m;
   token = r.step + 1;
 }
 

@@ -247,12 +247,12 @@ fn changed_by(
 ) -> Result<Object, AllocError>
     requires room { state.now.step + 1 < 2 ^ 64 }
     ensures { IfOk result (λ x. x
-        ≡ record object { changer = user.now; changed = moment; token = state.now.step + 1 }) }
+        ≡ record object { modified_by = user.now; modified_at = moment; token = state.now.step + 1 }) }
 {
-    let changer = user.copied(alloc)?;
+    let modified_by = user.copied(alloc)?;
     Ok(Object {
-        changer,
-        changed: moment,
+        modified_by,
+        modified_at: moment,
         token: state.step() + 1,
         ..object
     })
@@ -309,9 +309,9 @@ fn with_version(
 ) -> Result<State, AllocError>
     requires allowed { refusal_check_in state.now user.now (cost_check_in call.now) call.now ≡ Ok tt }
     requires found { addressed state.now user.now call.now.place ≡ Some x.now }
-    requires version { version ≡ new_version state.now user.now version.changed call.now x.now }
+    requires version { version ≡ new_version state.now user.now version.modified_at call.now x.now }
     ensures { IfOk result (λ s. s
-        ≡ after_check_in state.now user.now version.changed (cost_check_in call.now) call.now) }
+        ≡ after_check_in state.now user.now version.modified_at (cost_check_in call.now) call.now) }
 {
     let _step = state.step();
     let series = series_after(alloc, state, call, x)?;
