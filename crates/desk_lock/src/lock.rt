@@ -126,7 +126,7 @@ impl<M: Machine, C: Clock + Drop> Lock<M, C> {
         requires is_of { IsOf M.next self.now keep.old × IsOf M.next self.now gone }
         requires other { gone.made ≡ 0 }
         ensures retired { Retired keep.old gone keep.new }
-        ensures tally { (result.number ≡ gone.known.caller) × (result.seen ≡ length gone.known.seen)
+        ensures tally { (result.number ≡ gone.known.session) × (result.seen ≡ length gone.known.seen)
             × (result.own ≡ length gone.known.own) }
         ensures is_of { IsOf M.next self.now keep.new }
     {
@@ -178,7 +178,7 @@ impl<M: Machine, C: Clock + Drop> Lock<M, C> {
         };
         let top = &self.board.shared;
         let entry = Entry {
-            caller: pass.number,
+            session: pass.number,
             serial: pass.own,
             user,
             moment,

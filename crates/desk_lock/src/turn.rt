@@ -113,7 +113,7 @@ fn commit<M: Machine>(top: &Top<M>, place: &mut Place<M>, version: Arc<Version<M
     requires len { len ≡ length (arc_value version).journal }
     requires out { (h : List (Entry M.Call)) × (e : Entry M.Call) × (place.old.me.0.turn ≡ HasTurn h)
         × (Some (arc_value version).opening ≡ place.old.me.0.origin) × (place.old.me.1 ≡ (0, None) ∷ [])
-        × ((arc_value version).journal ≡ h ++ e ∷ []) × (e.caller ≡ place.old.me.0.number)
+        × ((arc_value version).journal ≡ h ++ e ∷ []) × (e.session ≡ place.old.me.0.number)
         × (e.serial ≡ length place.old.me.0.own) }
     ensures seat { (place.new.table_id ≡ place.old.table_id) × (place.new.id ≡ place.old.id) }
     ensures number { length (arc_value version).journal ≡ place.old.me.0.start + result }
@@ -143,7 +143,7 @@ pub(crate) fn publish<M: Machine, R: Wait>(
     requires live { (place.old.me.0.live ≡ 1) × (place.old.me.0.shelf ≡ NoShelf) }
     requires out { (h : List (Entry M.Call)) × (e : Entry M.Call) × (place.old.me.0.turn ≡ HasTurn h)
         × (Some (arc_value version).opening ≡ place.old.me.0.origin) × (place.old.me.1 ≡ (0, None) ∷ [])
-        × ((arc_value version).journal ≡ h ++ e ∷ []) × (e.caller ≡ place.old.me.0.number)
+        × ((arc_value version).journal ≡ h ++ e ∷ []) × (e.session ≡ place.old.me.0.number)
         × (e.serial ≡ length place.old.me.0.own) }
     ensures seat { (place.new.table_id ≡ place.old.table_id) × (place.new.id ≡ place.old.id) }
     ensures idle { place.new.me
