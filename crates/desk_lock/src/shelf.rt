@@ -14,12 +14,7 @@ use desk_model::{Machine, Version};
 use std::sync::{Arc, Wait};
 
 // Takes the shelf, with the version that stands on it.
-fn claim_shelf<M: Machine, R: Wait>(
-    rt: &R,
-    top: &Top<M>,
-    queues: &Queues,
-    place: &mut Place<M>,
-)
+fn claim_shelf<M: Machine, R: Wait>(rt: &R, top: &Top<M>, queues: &Queues, place: &mut Place<M>)
     requires table { (place.old.table_id ≡ top.now.table_id) × IsSized top.now.table_id }
     requires ready { (place.old.me.0.live ≡ 1) × (place.old.me.0.shelf ≡ NoShelf) }
     ensures seat { (place.new.table_id ≡ place.old.table_id) × (place.new.id ≡ place.old.id) }
