@@ -30,9 +30,21 @@ use std::sync::Arc;
 /// `put`, `find` and `where_key` of the contracts are std's words for a list of entries in order.
 #[derive(Drop)]
 pub struct Map<K: Key, V: Drop> {
+    body: Body<K, V>,
+    len: u64,
+}
+
+/// The blocks of a map, and the leaf behind them.
+pub struct Body<K: Key, V: Drop> {
     tree: Option<Arc<Tree<K, V>>>,
     tail: Option<Arc<Leaf<K, V>>>,
-    len: u64,
+}
+
+// That it goes is proved here once, and not at each place where a map goes.
+impl<K: Key, V: Drop> Drop for Body<K, V> {
+    fn drop(self) {
+        let Body { tree: _, tail: _ } = self;
+    }
 }
 
 impl<K: Key, V: Drop> Model for Map<K, V> {
@@ -42,9 +54,9 @@ impl<K: Key, V: Drop> Model for Map<K, V> {
 
     ghost Value = { List (K × V) };
 
-    ghost view = { λ m. tree_entries (option_map arc_value m.tree) ++ tail_entries (option_map arc_value m.tail) };
+    ghost view = { λ m. tree_entries (option_map arc_value m.body.tree) ++ tail_entries (option_map arc_value m.body.tail) };
 
-    ghost invariant = { λ m. IsMap K.cmp m.len (option_map arc_value m.tree) (option_map arc_value m.tail) };
+    ghost invariant = { λ m. IsMap K.cmp m.len (option_map arc_value m.body.tree) (option_map arc_value m.body.tail) };
 }
 
 // The same once more, by sharing.
@@ -355,8 +367,10 @@ impl<K: Key, V: Drop> Map<K, V> {
     {
         let _ = alloc;
         Map {
-            tree: None,
-            tail: None,
+            body: Body {
+                tree: None,
+                tail: None,
+            },
             len: 0,
         }
     }
@@ -381,7 +395,7 @@ impl<K: Key, V: Drop> Map<K, V> {
         ensures blocks { IsWidth result self.now }
         ensures long { 2048 * (result / 2) ≤ length self.now }
     {
-        blocks_in(&self.tree).len() as u64
+        blocks_in(&self.body.tree).len() as u64
     }
 
     /// The top blocks. Each has 1 to `FULL` blocks, each of these as many leaves, and each leaf as many entries; two neighbours in a row
@@ -389,17 +403,17 @@ impl<K: Key, V: Drop> Map<K, V> {
     pub fn blocks(&self) -> &[Arc<Branch<K, V>>]
         ensures { IsCut (map arc_value result.now) self.now }
     {
-        blocks_in(&self.tree)
+        blocks_in(&self.body.tree)
     }
 
     /// The value at the key, or none. It takes no memory, and compares about as many keys as the length has binary digits.
     pub fn get(&self, key: &K) -> Option<&V>
         ensures { option_copied result ≡ find K.cmp key.now self.now }
     {
-        if is_behind(&self.tree, &self.tail, key) {
-            tail_found(&self.tail, key)
+        if is_behind(&self.body.tree, &self.body.tail, key) {
+            tail_found(&self.body.tail, key)
         } else {
-            tree_found(&self.tree, key)
+            tree_found(&self.body.tree, key)
         }
     }
 
@@ -415,8 +429,11 @@ impl<K: Key, V: Drop> Map<K, V> {
         requires len { len ≡ length (change K.cmp key.now (option_map arc_value new) self.now) }
         ensures { IfOk result (λ m. m ≡ change K.cmp key.now (option_map arc_value new) self.now) }
     {
-        let (tree, tail) = edited(alloc, &self.tree, &self.tail, key, new)?;
-        Ok(Map { tree, tail, len })
+        let (tree, tail) = edited(alloc, &self.body.tree, &self.body.tail, key, new)?;
+        Ok(Map {
+            body: Body { tree, tail },
+            len,
+        })
     }
 
     /// The map with the value at the key, in place of an older one.
@@ -457,11 +474,10 @@ impl<K: Key, V: Drop> Map<K, V> {
         ensures { IfOk result (λ m. m ≡ self.now) }
     {
         let _ = alloc;
-        let tree = again(&self.tree)?;
-        let tail = again(&self.tail)?;
+        let tree = again(&self.body.tree)?;
+        let tail = again(&self.body.tail)?;
         Ok(Map {
-            tree,
-            tail,
+            body: Body { tree, tail },
             len: self.len,
         })
     }
@@ -473,8 +489,8 @@ impl<K: Key, V: Drop> Map<K, V> {
         ensures { IfOk result (λ r. map pointee r.items ≡ where_key K.cmp (within K.cmp least.now most.now) self.now) }
     {
         let mut out = Vec::new(alloc);
-        tree_ranged(&mut out, &self.tree, least, most)?;
-        tail_ranged(&mut out, &self.tail, least, most)?;
+        tree_ranged(&mut out, &self.body.tree, least, most)?;
+        tail_ranged(&mut out, &self.body.tail, least, most)?;
         Ok(out)
     }
 
@@ -487,8 +503,8 @@ impl<K: Key, V: Drop> Map<K, V> {
             entries: &[],
             leaves: &[],
             middles: &[],
-            blocks: blocks_in(&self.tree),
-            tail: entries_in(&self.tail),
+            blocks: blocks_in(&self.body.tree),
+            tail: entries_in(&self.body.tail),
         }
     }
 }

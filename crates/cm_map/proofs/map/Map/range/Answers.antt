@@ -5,4 +5,4 @@ use Rattle.cm_map.proofs.Parting.{sorted_right}
 use Rattle.cm_map.proofs.map.Map.range.Goals as goal
 
 pub tail_ranged-requires : goal.tail_ranged-requires
-tail_ranged-requires g c = sorted_right g.K.Ord.cmp (tree_entries (option_map arc_value c.self.inside.tree)) (tail_entries (option_map arc_value c.self.inside.tail)) c.self.invariant.sorted
+tail_ranged-requires g c = sorted_right g.K.Ord.cmp (tree_entries (option_map arc_value c.self.inside.body.tree)) (tail_entries (option_map arc_value c.self.inside.body.tail)) c.self.invariant.sorted
