@@ -56,7 +56,7 @@ fn is_filled(state: &State, x: &Object) -> bool
 
 // Whether the policy is applied to an object.
 fn is_applied(state: &State, x: &Object) -> bool
-    ensures { result ≡ is_policy_used state.now x.id }
+    ensures { result ≡ is_policy_used state.now x.now.id }
 {
     state.is_policy_used(x.id)
 }
