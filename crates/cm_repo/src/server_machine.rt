@@ -54,7 +54,8 @@ fn sent_made(
 ) -> Result<Shown, AllocError>
     requires there { is_some (object_at made.now number) ≡ true }
     ensures { IfOk result (λ s. (x : Object) → object_at made.now number ≡ Some x
-        → s ≡ shown_json 201 (compact_text (shown_data (shown_object made.now user.now filters.All succinct x))) made.now.step) }
+        → s ≡ shown_json 201
+        (compact_text (shown_data (shown_object made.now user.now filters.All succinct x))) made.now.step) }
 {
     let x = made.object(number).unwrap();
     let text = text_of_object(alloc, made, user, &PropertyFilter::All, succinct, x)?;

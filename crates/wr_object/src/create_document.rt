@@ -3,8 +3,8 @@ ghost use Rattle.std.specs.Prelude.{◌≡◌, ◌+◌, ◌<◌, ◌^◌, [], Ok
 ghost use Rattle.std.specs.Option.{option_copied};
 ghost use Rattle.cm_base.specs.Judged.{Leaves, Writes};
 ghost use Rattle.cm_types.specs.declared.given.PropertyCall.TheVariants as calls;
-ghost use Rattle.cm_types.specs.Properties.{kept_values};
 ghost use Rattle.cmis_spec.specs.Repository.{object_at, new_number};
+ghost use Rattle.cmis_spec.specs.Values.{values_kept};
 ghost use Rattle.cmis_spec.specs.Well.{IsWellFormed};
 ghost use Rattle.wr_object.specs.CreateDocument.{cost_create_document, judge_found, refusal_of_document, refusal_create_document, number_of, allowed_in, new_document, new_parts, parts_made, after_create_document, acknowledgement_create_document};
 ghost use Rattle.wr_rules.specs.Wanted.{wanted_in};
@@ -26,7 +26,6 @@ use cm_base::value::Values;
 use cm_state::state::State;
 use cm_types::definition::TypeDef;
 use std::alloc::{AllocError, Global};
-use wr_rules::beside::kept_beside;
 use wr_rules::costs::with_defaults;
 use wr_rules::entries::new_aces;
 use wr_rules::kinds::judge_types;
@@ -59,7 +58,7 @@ fn judge_found(
 ) -> Result<Values, Fail>
     ensures { Leaves result
         (judge_found state.now user.now call.now wanted.now (option_copied folder.entry) kind.now)
-        (kept_values calls.Create wanted.now.defs [] call.now.properties) }
+        (values_kept calls.Create wanted.now.defs [] call.now.properties) }
 {
     judge_kinds(
         alloc,
@@ -120,7 +119,7 @@ fn new_document(
         kind: wanted.kind,
         name: own_name(allowed.state, wanted.name),
         secondary: wanted.secondary,
-        values: kept_beside(allowed.values),
+        values: allowed.values,
         created_by: user.copied(alloc)?,
         created_at: moment,
         modified_by: user.copied(alloc)?,

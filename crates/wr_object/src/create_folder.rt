@@ -2,9 +2,9 @@
 ghost use Rattle.std.specs.Prelude.{◌≡◌, [], Ok, Some, IfOk};
 ghost use Rattle.cm_base.specs.Judged.{Leaves, Writes};
 ghost use Rattle.cm_types.specs.declared.given.PropertyCall.TheVariants as calls;
-ghost use Rattle.cm_types.specs.Properties.{kept_values};
 ghost use Rattle.cm_see.specs.Addressed.{addressed};
 ghost use Rattle.cmis_spec.specs.Repository.{object_at, new_number};
+ghost use Rattle.cmis_spec.specs.Values.{values_kept};
 ghost use Rattle.cmis_spec.specs.Well.{IsWellFormed};
 ghost use Rattle.wr_object.specs.CreateFolder.{cost_create_folder, judge_found, refusal_of_folder, refusal_create_folder, folder_made, parent_of, after_create_folder, acknowledgement_create_folder};
 ghost use Rattle.wr_rules.specs.Wanted.{wanted_in};
@@ -57,7 +57,7 @@ fn judge_found(
 ) -> Result<Values, Fail>
     ensures { Leaves result
         (judge_found state.now user.now call.now wanted.now parent.now kind.now)
-        (kept_values calls.Create wanted.now.defs [] call.now.properties) }
+        (values_kept calls.Create wanted.now.defs [] call.now.properties) }
 {
     judge_kinds(
         alloc,
@@ -87,7 +87,7 @@ fn judge(
     ensures { Writes result
         (refusal_of_folder state.now user.now cost call.now wanted.now)
         (parent_of state.now user.now call.now)
-        (kept_values calls.Create wanted.now.defs [] call.now.properties) }
+        (values_kept calls.Create wanted.now.defs [] call.now.properties) }
 {
     judge_storage(state, cost)?;
     let parent = addressed(state, user, &call.place).ok_or(Cause::NotFound)?;

@@ -1,7 +1,7 @@
 use Rattle.std.proofs.Common.{◌≡◌, Ok, sym, ap, subst, ◌∙◌}
 use Rattle.std.specs.Prelude.{[]}
 use Rattle.cm_types.specs.declared.given.PropertyCall.TheVariants as calls
-use Rattle.cm_types.specs.Properties.{kept_values}
+use Rattle.cmis_spec.specs.Values.{values_kept}
 use Rattle.cmis_spec.specs.Repository.{object_at, new_number}
 use Rattle.wr_object.specs.CreateFolder.{refusal_of_folder, object_of, after_create_folder}
 use Rattle.wr_object.proofs.Made.{room_of, new_is_there}
@@ -21,7 +21,7 @@ with_folder-requires c =
     let u = c.args.user.now in
     let call = c.args.call.now in
     let wanted = c.in_ok-wanted.ensures in
-    let values = c.in_ok-parent.ensures.2 ∙ ap (λ w. kept_values calls.Create w.defs [] call.properties) wanted in
+    let values = c.in_ok-parent.ensures.2 ∙ ap (λ w. values_kept calls.Create w.defs [] call.properties) wanted in
     record {
       allowed = subst (λ w. refusal_of_folder r u c.cost_of-cost.result call w ≡ Ok tt) wanted c.in_ok-parent.ensures.0;
       object = c.in_ok-object.ensures ∙ (λ i. object_of r u c.args.moment (wanted i) (values i));
