@@ -1,7 +1,9 @@
 //! Pairs of names and values, with an index by name where there are many.
-ghost use Rattle.std.specs.Prelude.{◌≡◌, IfOk, Option, option_map, length, ◌++◌, ◌∷◌, []};
+ghost use Rattle.std.specs.Prelude.{◌≡◌, ◌<◌, IfOk, Option, option_map, length, ◌++◌, ◌∷◌, []};
+ghost use Rattle.std.specs.List.{slice_index_or};
 ghost use Rattle.std.specs.Option.{is_some, IfSome};
 ghost use Rattle.form_args.specs.Pairs.{first_of, is_given};
+ghost use Rattle.form_args.specs.declared.pairs.Pair.{Pair};
 ghost use Rattle.form_args.specs.Index.{FindsFirst};
 ghost use Rattle.std.specs.BTreeMap.{get_by_text};
 ghost use Rattle.cm_base.specs.Arguments.{word_of};
@@ -84,13 +86,21 @@ fn index_of(alloc: Global, list: &[Pair]) -> Result<Option<BTreeMap<String, usiz
     Ok(Some(places))
 }
 
+// The value of the pair at a place.
+fn value_at(list: &[Pair], place: usize) -> &Text
+    requires { place < length list.now }
+    ensures { (d : Pair) → result.now ≡ (slice_index_or list.now place d).value }
+{
+    &list[place].value
+}
+
 // The value of the first pair of this name, by the index.
 fn first_by<'a>(places: &BTreeMap<String, usize>, list: &'a [Pair], name: &str) -> Option<&'a Text>
     requires { FindsFirst (get_by_text places.now) list.now }
     ensures { option_map (λ t. t.now) result ≡ first_of list.now name.now }
 {
     match places.get(name) {
-        Some(place) => Some(&list[*place].value),
+        Some(place) => Some(value_at(list, *place)),
         None => None,
     }
 }
