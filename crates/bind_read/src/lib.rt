@@ -3,4 +3,5 @@
 
 ghost use Rattle.std.specs.Prelude.{◌≡◌};
 
+pub mod asked;
 pub mod call;

@@ -66,8 +66,7 @@ use wr_types::update_type::update_type;
 use wr_version::check_in::check_in;
 use wr_version::check_out::check_out;
 
-/// Makes a write: the state after it and its reply, or the first cause that refuses it.
-pub(crate) fn write(
+fn write(
     alloc: Global,
     state: &State,
     user: &Text,

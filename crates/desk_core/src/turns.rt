@@ -134,7 +134,7 @@ impl<M: Machine> Core<M> {
             None => return Err(CoreStop::Unknown),
         };
         let entry = Entry {
-            session,
+            caller: session,
             serial,
             user,
             moment,

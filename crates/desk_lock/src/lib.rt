@@ -6,7 +6,6 @@ mod desk;
 mod lock;
 mod pass;
 mod plays;
-mod queue;
 mod seats;
 mod shelf;
 mod turn;

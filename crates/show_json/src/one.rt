@@ -22,9 +22,8 @@ use cm_state::state::State;
 use json_text::write::Writer;
 use std::alloc::{AllocError, Global};
 
-/// The text of an object as the caller sees it.
 #[tactic(auto, using(crate::specs::ColumnLaws::object_seen))]
-pub fn text_of_object(
+fn text_of(
     alloc: Global,
     state: &State,
     user: &Text,
@@ -57,7 +56,7 @@ pub fn object_text(
 {
     match addressed(state, user, place) {
         Some(x) => {
-            let text = text_of_object(alloc, state, user, filter, succinct, x)?;
+            let text = text_of(alloc, state, user, filter, succinct, x)?;
             Ok(text)
         }
         None => Err(Fail::Refused(Cause::NotFound)),

@@ -14,7 +14,7 @@ use Rattle.cm_base.specs.Names.{is_name}
 use Rattle.cm_types.specs.declared.property.PropDef.{PropDef}
 use Rattle.cm_types.specs.declared.given.PropertyCall.TheVariants as calls
 use Rattle.cm_types.specs.Types.{props_of}
-use Rattle.cm_types.specs.Properties.{given_of, judge_properties}
+use Rattle.cm_types.specs.Properties.{given_of, judge_properties, kept_values}
 use Rattle.call_parts.specs.declared.readings.PropertyFilter.TheVariants as filters
 use Rattle.call_parts.specs.declared.changes.UpdateProperties.{UpdateProperties}
 use Rattle.call_parts.specs.declared.replies.ObjectReply.{ObjectReply}
@@ -23,7 +23,7 @@ use Rattle.cm_see.specs.Addressed.{addressed}
 use Rattle.cm_see.specs.Shown.{shown_object}
 use Rattle.cmis_spec.specs.Repository.{Repository, same, root, root_folder, entry_of}
 use Rattle.cmis_spec.specs.Access.{lacks}
-use Rattle.cmis_spec.specs.Values.{values_kept}
+use Rattle.cmis_spec.specs.Values.{kept_beside}
 use Rattle.cmis_spec.specs.Changes.{stepped, noted, edited, series_edited}
 use Rattle.cmis_spec.specs.Documents.{is_working_copy, judge_changeable}
 use Rattle.cmis_spec.specs.Retention.{judge_retention}
@@ -49,21 +49,12 @@ props_updated r call x = props_of r.types x.kind (secondary_updated call x)
 
 -- the values of these properties after it
 abbrev pub values_updated : Repository → UpdateProperties → Object → List Slot
-values_updated r call x = values_kept (calls.Update (is_working_copy r x)) (props_updated r call x) (form_slots r x) call.properties
+values_updated r call x = kept_beside (kept_values (calls.Update (is_working_copy r x)) (props_updated r call x) (form_slots r x) call.properties)
 
 abbrev pub gives_name : UpdateProperties → Bool
 gives_name call = is_some (given_of call.properties (codes "cmis:name"))
 
 -- ---- the refusal
-
--- the caller may change the object, as its token, if one is given, says that he knows it
-abbrev pub judge_allowed : Repository → List ℕ → UpdateProperties → Object → Judged (Unit {0})
-judge_allowed r u call x = do
-  refuse causes.Denied (lacks r u levels.Write x)
-  judge_token x call.token
-  refuse causes.RootFixed (same x.id root && gives_name call)
-  judge_changeable r x
-  refuse causes.TypeKind (has_other_secondary r.types (secondary_named call))
 
 -- another child has the name in a folder of the object; a working copy is filed nowhere
 abbrev pub takes_name : Repository → Object → List ℕ → Bool
@@ -74,6 +65,15 @@ abbrev pub judge_new_name : Repository → UpdateProperties → Object → Judge
 judge_new_name r call x = do
   refuse causes.BadName (not (is_name (name_after r x call.properties)))
   refuse causes.NameTaken (takes_name r x (name_after r x call.properties))
+
+-- the caller may change the object, as its token, if one is given, says that he knows it
+abbrev pub judge_allowed : Repository → List ℕ → UpdateProperties → Object → Judged (Unit {0})
+judge_allowed r u call x = do
+  refuse causes.Denied (lacks r u levels.Write x)
+  judge_token x call.token
+  refuse causes.RootFixed (same x.id root && gives_name call)
+  judge_changeable r x
+  refuse causes.TypeKind (has_other_secondary r.types (secondary_named call))
 
 -- the retention of the object, if it is under one at the moment, is neither taken away nor shortened (section 2.1.16.1)
 abbrev pub judge_update : Repository → List ℕ → Moment → UpdateProperties → Object → Judged (Unit {0})
@@ -108,8 +108,8 @@ updated_object r u m call x = record x {
   name = name_kept x.name (name_after r x call.properties);
   secondary = secondary_updated call x;
   values = values_updated r call x;
-  modified_by = u;
-  modified_at = m;
+  changer = u;
+  changed = m;
   token = r.step;
 }
 
@@ -125,7 +125,7 @@ renamed r name false (Some n) = series_edited r n (under_name name)
 -- a new object in place of the old one, after the series of the old one under its name, with its event
 abbrev pub placed : Repository → UpdateProperties → Object → Object → Repository
 placed r call x new =
-    noted (edited (renamed r (name_after r x call.properties) (is_working_copy r x) x.series) x.id (λ _. new)) changes.Updated x.id new.modified_at []
+    noted (edited (renamed r (name_after r x call.properties) (is_working_copy r x) x.series) x.id (λ _. new)) changes.Updated x.id new.changed []
 
 abbrev pub changed_in : Repository → List ℕ → Moment → UpdateProperties → Object → Repository
 changed_in r u m call x = placed r call x (updated_object r u m call x)

@@ -84,12 +84,12 @@ fn changed_by(
     object: Object,
 ) -> Result<Object, AllocError>
     ensures { IfOk result (λ x. x
-        ≡ record object { modified_by = user.now; modified_at = moment; token = state.now.step }) }
+        ≡ record object { changer = user.now; changed = moment; token = state.now.step }) }
 {
-    let modified_by = user.copied(alloc)?;
+    let changer = user.copied(alloc)?;
     Ok(Object {
-        modified_by,
-        modified_at: moment,
+        changer,
+        changed: moment,
         token: state.step(),
         ..object
     })

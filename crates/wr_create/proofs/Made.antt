@@ -12,9 +12,8 @@ use Rattle.cm_types.specs.declared.definition.BaseType.TheVariants as bases
 use Rattle.cm_types.specs.declared.given.Given.{Given}
 use Rattle.cm_types.specs.declared.given.PropertyCall.TheVariants as calls
 use Rattle.cm_types.specs.Types.{type_in, same_base}
-use Rattle.cm_types.specs.Properties.{judge_properties}
+use Rattle.cm_types.specs.Properties.{judge_properties, kept_values}
 use Rattle.create_parts.specs.declared.writes.ObjectRequest.{ObjectRequest}
-use Rattle.cmis_spec.specs.Values.{values_kept}
 use Rattle.cmis_spec.specs.Repository.{Repository, same, most_steps, most_cost, object_at, is_a, new_number}
 use Rattle.cmis_spec.specs.Changes.{stepped, with_object}
 use Rattle.cmis_spec.specs.Well.{Apart, ComesBefore, HasNumbers, HasEnds, IsTyped, IsWellFormed}
@@ -28,11 +27,10 @@ use Rattle.cmis_laws.proofs.Steps.{HasRoom}
 use Rattle.wr_rules.specs.Rules.{distinct, type_id_in, secondary_in, has_other_secondary, has_other_policy, policies_in, new_aces}
 use Rattle.wr_rules.proofs.Known.{below_secondary}
 use Rattle.wr_rules.specs.Wanted.{Wanted, wanted_in}
-use Rattle.wr_object.specs.CreateFolder.{object_of}
-use Rattle.wr_object.specs.CreateDocument.{filed_at}
+use Rattle.wr_object.specs.DocumentParts.{filed_at}
 use Rattle.wr_object.proofs.CreateFolder.{IsGood, new_permit, distinct_all, good_all, named_all}
 use Rattle.wr_create.specs.declared.making.NewObject.{NewObject}
-use Rattle.wr_create.specs.Making.{new_object, new_of, made_by, after_making}
+use Rattle.wr_create.specs.Making.{object_of, new_object, new_of, made_by, after_making}
 
 -- ---- the room
 
@@ -62,10 +60,10 @@ new_is_there r cost new w e =
 
 -- ---- what is found makes what the call says
 
-pub object_is : (r : Repository) (u : List ℕ) (m : Moment) (given : List Given) (wanted : Wanted) (values : List Slot) → wanted ≡ wanted_in r.types given → values ≡ values_kept calls.Create wanted.defs [] given
+pub object_is : (r : Repository) (u : List ℕ) (m : Moment) (given : List Given) (wanted : Wanted) (values : List Slot) → wanted ≡ wanted_in r.types given → values ≡ kept_values calls.Create wanted.defs [] given
     → object_of r u m wanted values ≡ new_object r u m given
 object_is r u m given wanted values e f =
-    let kept = f ∙ ap (λ w. values_kept calls.Create w.defs [] given) e in
+    let kept = f ∙ ap (λ w. kept_values calls.Create w.defs [] given) e in
     λ i. object_of r u m (e i) (kept i)
 
 pub made_is : (r : Repository) (u : List ℕ) (m : Moment) (request : ObjectRequest) (given : List Given) (new : NewObject) (x : Object) (found folder : Option Oid)

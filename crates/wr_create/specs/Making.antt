@@ -3,6 +3,7 @@ use Rattle.std.specs.Prelude.{ℕ, ◌+◌, nat_lt, Bool, true, ◌&&◌, ◌||�
 use Rattle.cm_base.specs.declared.number.Oid.{Oid}
 use Rattle.cm_base.specs.declared.number.Moment.{Moment}
 use Rattle.cm_base.specs.declared.object.Object.{Object}
+use Rattle.cm_base.specs.declared.value.Slot.{Slot}
 use Rattle.cm_base.specs.declared.log.ChangeKind.TheVariants as changes
 use Rattle.cm_base.specs.declared.cause.Cause.TheVariants as causes
 use Rattle.cm_base.specs.Judged.{Judged, ◌>>◌, refuse}
@@ -12,7 +13,7 @@ use Rattle.cm_types.specs.declared.definition.BaseType.{BaseType}
 use Rattle.cm_types.specs.declared.given.Given.{Given}
 use Rattle.cm_types.specs.declared.given.PropertyCall.TheVariants as calls
 use Rattle.cm_types.specs.Types.{type_in, same_base}
-use Rattle.cm_types.specs.Properties.{judge_properties}
+use Rattle.cm_types.specs.Properties.{judge_properties, kept_values}
 use Rattle.call_parts.specs.declared.place.Place.{Place}
 use Rattle.call_parts.specs.declared.readings.PropertyFilter.TheVariants as filters
 use Rattle.call_parts.specs.declared.replies.ObjectReply.{ObjectReply}
@@ -20,13 +21,12 @@ use Rattle.call_parts.specs.Weight.{bounded}
 use Rattle.create_parts.specs.declared.writes.ObjectRequest.{ObjectRequest}
 use Rattle.cm_see.specs.Addressed.{addressed}
 use Rattle.cm_see.specs.Shown.{shown_object}
-use Rattle.cmis_spec.specs.Values.{values_kept}
-use Rattle.cmis_spec.specs.Repository.{Repository}
+use Rattle.cmis_spec.specs.Repository.{Repository, new_number}
+use Rattle.cmis_spec.specs.Values.{kept_beside}
 use Rattle.cmis_spec.specs.Changes.{stepped, noted, with_object}
 use Rattle.wr_rules.specs.Rules.{has_other_secondary, policies_in, has_unknown_permission, has_entries, new_aces, defaults_cost}
 use Rattle.wr_rules.specs.Wanted.{Wanted, wanted_in}
-use Rattle.wr_object.specs.CreateFolder.{object_of}
-use Rattle.wr_object.specs.CreateDocument.{filed_at}
+use Rattle.wr_object.specs.DocumentParts.{filed_at}
 use Rattle.wr_create.specs.declared.making.NewObject.{NewObject}
 
 -- ---- lines of the refusals
@@ -64,9 +64,25 @@ cost_of_making r weight given =
 
 -- ---- what is made
 
+-- of what is wanted and the values that are kept
+abbrev pub object_of : Repository → List ℕ → Moment → Wanted → List Slot → Object
+object_of r u m wanted values = record {
+  id = new_number r;
+  kind = wanted.kind;
+  name = Some wanted.name;
+  secondary = wanted.secondary;
+  values = kept_beside values;
+  maker = u;
+  made = m;
+  changer = u;
+  changed = m;
+  token = r.step + 1;
+  series = None;
+}
+
 -- the object that the given properties say, by this caller at this moment
 abbrev pub new_object : Repository → List ℕ → Moment → List Given → Object
-new_object r u m given = object_of r u m (wanted_in r.types given) (values_kept calls.Create (wanted_in r.types given).defs [] given)
+new_object r u m given = object_of r u m (wanted_in r.types given) (kept_values calls.Create (wanted_in r.types given).defs [] given)
 
 -- with the access list and the policies that are asked for, and the folder in which it is to stand
 abbrev pub new_of : Repository → List ℕ → ObjectRequest → Object → Option Oid → NewObject
@@ -83,7 +99,7 @@ made_by r u m request given folder = new_of r u request (new_object r u m given)
 -- one step further at this cost, with the object in its folder, and the event of what was made
 abbrev pub after_making : Repository → ℕ → NewObject → Repository
 after_making r cost new =
-    noted (filed_at (with_object (stepped r cost) new.object new.aces new.policies) new.folder new.object.id) changes.Created new.object.id new.object.created_at []
+    noted (filed_at (with_object (stepped r cost) new.object new.aces new.policies) new.folder new.object.id) changes.Created new.object.id new.object.made []
 
 -- ---- the reply
 

@@ -2,14 +2,15 @@
 ghost use Rattle.std.specs.Prelude.{◌≡◌, [], None, IfOk};
 ghost use Rattle.cm_base.specs.Judged.{Leaves, Writes};
 ghost use Rattle.cm_types.specs.declared.given.PropertyCall.TheVariants as calls;
-ghost use Rattle.cmis_spec.specs.Values.{values_kept};
+ghost use Rattle.cm_types.specs.Properties.{kept_values};
 ghost use Rattle.cmis_spec.specs.Well.{IsWellFormed};
 ghost use Rattle.wr_rules.specs.Wanted.{wanted_in};
 ghost use Rattle.wr_create.specs.CreatePolicy.{cost_create_policy, judge_policy, refusal_of_policy, refusal_create_policy, after_create_policy, acknowledgement_create_policy};
 
-use crate::making::{made_with_reply, with_request};
+use crate::making::{made_with_reply, new_object, with_request};
 use crate::rules::{
     cost_of_making, is_anonymous, is_uncontrollable, judge_addressed, judge_request, judge_type,
+    wanted_of,
 };
 use call_parts::replies::ObjectReply;
 use cm_base::cause::Cause;
@@ -22,8 +23,6 @@ use cm_types::definition::{BaseType, TypeDef};
 use create_parts::weight::weight_of_create_policy;
 use create_parts::writes::CreatePolicy;
 use std::alloc::Global;
-use wr_object::asked::wanted_of;
-use wr_object::making::new_object;
 use wr_rules::kinds::judge_types;
 use wr_rules::policies::{has_other_policy, judge_read};
 use wr_rules::storage::judge_storage;
@@ -41,7 +40,7 @@ fn judge_policy(
 ) -> Result<Values, Fail>
     ensures { Leaves result
         (judge_policy state.now user.now call.now wanted.now kind.now)
-        (values_kept calls.Create wanted.now.defs [] call.now.object.properties) }
+        (kept_values calls.Create wanted.now.defs [] call.now.object.properties) }
 {
     if is_anonymous(user) {
         return Err(Fail::Refused(Cause::Denied));
@@ -72,7 +71,7 @@ fn judge_wanted(
 ) -> Result<Values, Fail>
     ensures { Leaves result
         (refusal_of_policy state.now user.now cost call.now wanted.now)
-        (values_kept calls.Create wanted.now.defs [] call.now.object.properties) }
+        (kept_values calls.Create wanted.now.defs [] call.now.object.properties) }
 {
     judge_storage(state, cost)?;
     judge_addressed(state, user, &call.place)?;

@@ -3,7 +3,7 @@ ghost use Rattle.std.specs.Prelude.{◌≡◌, ◌||◌, not, [], bytes_eq, code
 ghost use Rattle.cm_base.specs.Judged.{Leaves, Meets};
 ghost use Rattle.cm_types.specs.declared.given.PropertyCall.TheVariants as calls;
 ghost use Rattle.cm_types.specs.Types.{same_base};
-ghost use Rattle.cmis_spec.specs.Values.{values_kept};
+ghost use Rattle.cm_types.specs.Properties.{kept_values};
 ghost use Rattle.wr_rules.specs.Rules.{has_other_secondary};
 ghost use Rattle.wr_rules.specs.Wanted.{wanted_in};
 ghost use Rattle.wr_create.specs.Making.{judge_addressed, judge_type, is_uncontrollable, judge_request, cost_of_making};
@@ -24,7 +24,7 @@ use std::alloc::{AllocError, Global};
 use wr_object::asked::{bars_changes, has_unknown, judge_values};
 use wr_rules::costs::with_defaults;
 use wr_rules::kinds::has_other_secondary;
-use wr_rules::wanted::Wanted;
+use wr_rules::wanted::{Wanted, wanted_by};
 
 /// Whether what is addressed, if anything is, is read. Takes no memory.
 pub fn judge_addressed(state: &State, user: &Text, place: &Option<Place>) -> Result<(), Cause>
@@ -118,7 +118,7 @@ pub fn judge_request(
 ) -> Result<Values, Fail>
     ensures { Leaves result
         (judge_request wanted.now object.now given.now)
-        (values_kept calls.Create wanted.now.defs [] given.now) }
+        (kept_values calls.Create wanted.now.defs [] given.now) }
 {
     let values = judge_values(alloc, &wanted.defs, given)?;
     if has_unknown(object.remove.as_slice(), object.add.as_slice()) {
@@ -128,6 +128,17 @@ pub fn judge_request(
         return Err(Fail::Refused(Cause::BadName));
     }
     Ok(values)
+}
+
+/// What the given properties say of a new object.
+pub fn wanted_of<'a>(
+    alloc: Global,
+    state: &'a State,
+    given: &Givens,
+) -> Result<Wanted<'a>, AllocError>
+    ensures { IfOk result (λ w. w ≡ wanted_in state.now.types given.now) }
+{
+    wanted_by(alloc, state.types(), given.as_slice())
 }
 
 /// The cost of a call of this weight that gives these properties. Takes no memory.

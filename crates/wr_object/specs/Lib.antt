@@ -1,2 +1,4 @@
 pub mod CreateDocument
 pub mod CreateFolder
+pub mod DocumentParts
+pub mod Parts

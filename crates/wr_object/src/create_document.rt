@@ -1,16 +1,16 @@
 //! createDocument (CMIS 1.1, section 2.2.4.1).
-ghost use Rattle.std.specs.Prelude.{◌≡◌, ◌+◌, ◌<◌, ◌^◌, [], Ok, Some, IfOk};
+ghost use Rattle.std.specs.Prelude.{◌≡◌, ◌+◌, ◌<◌, ◌^◌, [], Ok, IfOk};
 ghost use Rattle.std.specs.Option.{option_copied};
 ghost use Rattle.cm_base.specs.Judged.{Leaves, Writes};
 ghost use Rattle.cm_types.specs.declared.given.PropertyCall.TheVariants as calls;
-ghost use Rattle.cmis_spec.specs.Repository.{object_at, new_number};
-ghost use Rattle.cmis_spec.specs.Values.{values_kept};
+ghost use Rattle.cm_types.specs.Properties.{kept_values};
 ghost use Rattle.cmis_spec.specs.Well.{IsWellFormed};
-ghost use Rattle.wr_object.specs.CreateDocument.{cost_create_document, judge_found, refusal_of_document, refusal_create_document, number_of, allowed_in, new_document, new_parts, parts_made, after_create_document, acknowledgement_create_document};
+ghost use Rattle.wr_object.specs.CreateDocument.{cost_create_document, refusal_create_document, after_create_document, acknowledgement_create_document};
 ghost use Rattle.wr_rules.specs.Wanted.{wanted_in};
+ghost use Rattle.wr_object.specs.DocumentParts.{judge_found, refusal_in_parts, number_of, allowed_in, object_of, parts_of, parts_made};
 
-use crate::asked::{judge_values, wanted_of};
-use crate::document_rules::{folder_of, judge_kinds, judge_name, judge_place, number_of, state_of};
+use crate::asked::judge_values;
+use crate::document_rules::{folder_of, judge_kinds, judge_name, judge_place, state_of};
 use crate::making_document::{document_in, new_content, new_series, own_name};
 use crate::new_document::{Allowed, NewDocument};
 use call_parts::replies::ObjectReply;
@@ -26,13 +26,14 @@ use cm_base::value::Values;
 use cm_state::state::State;
 use cm_types::definition::TypeDef;
 use std::alloc::{AllocError, Global};
+use wr_rules::beside::kept_beside;
 use wr_rules::costs::with_defaults;
 use wr_rules::entries::new_aces;
 use wr_rules::kinds::judge_types;
 use wr_rules::made::with_reply;
 use wr_rules::policies::{judge_read, policies_in};
 use wr_rules::storage::judge_storage;
-use wr_rules::wanted::Wanted;
+use wr_rules::wanted::{Wanted, wanted_by};
 
 fn cost_of(state: &State, call: &CreateDocument, wanted: &Wanted<'_>) -> u64
     requires wanted { wanted.now ≡ wanted_in state.now.types call.now.properties }
@@ -58,7 +59,7 @@ fn judge_found(
 ) -> Result<Values, Fail>
     ensures { Leaves result
         (judge_found state.now user.now call.now wanted.now (option_copied folder.entry) kind.now)
-        (values_kept calls.Create wanted.now.defs [] call.now.properties) }
+        (kept_values calls.Create wanted.now.defs [] call.now.properties) }
 {
     judge_kinds(
         alloc,
@@ -75,9 +76,18 @@ fn judge_found(
     Ok(values)
 }
 
+fn number_of(folder: Option<&Object>) -> Option<Oid>
+    ensures { result ≡ number_of (option_copied folder.entry) }
+{
+    match folder {
+        Some(folder) => Some(folder.id),
+        None => None,
+    }
+}
+
 // What is found where the call is not refused, or the cause of the refusal.
 #[tactic(auto, using(cm_types::proofs::Exits::fails_then, cm_types::proofs::Exits::fails_bind))]
-fn judge(
+fn judge_parts(
     alloc: Global,
     state: &State,
     user: &Text,
@@ -86,7 +96,7 @@ fn judge(
     wanted: &Wanted<'_>,
 ) -> Result<Allowed, Fail>
     ensures { Leaves result
-        (refusal_of_document state.now user.now cost call.now wanted.now)
+        (refusal_in_parts state.now user.now cost call.now wanted.now)
         (allowed_in state.now user.now call.now wanted.now) }
 {
     judge_storage(state, cost)?;
@@ -102,6 +112,22 @@ fn judge(
     })
 }
 
+fn judge(
+    alloc: Global,
+    state: &State,
+    user: &Text,
+    cost: u64,
+    call: &CreateDocument,
+    wanted: &Wanted<'_>,
+) -> Result<Allowed, Fail>
+    requires wanted { wanted.now ≡ wanted_in state.now.types call.now.properties }
+    ensures { Leaves result
+        (refusal_create_document state.now user.now cost call.now)
+        (allowed_in state.now user.now call.now wanted.now) }
+{
+    judge_parts(alloc, state, user, cost, call, wanted)
+}
+
 fn new_document(
     alloc: Global,
     state: &State,
@@ -111,7 +137,7 @@ fn new_document(
     allowed: Allowed,
 ) -> Result<Object, AllocError>
     requires room { state.now.step + 1 < 2 ^ 64 }
-    ensures { IfOk result (λ x. x ≡ new_document state.now user.now moment wanted.entry allowed) }
+    ensures { IfOk result (λ x. x ≡ object_of state.now user.now moment wanted.entry allowed) }
 {
     let number = Oid(state.next_number());
     Ok(Object {
@@ -119,11 +145,11 @@ fn new_document(
         kind: wanted.kind,
         name: own_name(allowed.state, wanted.name),
         secondary: wanted.secondary,
-        values: allowed.values,
-        created_by: user.copied(alloc)?,
-        created_at: moment,
-        modified_by: user.copied(alloc)?,
-        modified_at: moment,
+        values: kept_beside(allowed.values),
+        maker: user.copied(alloc)?,
+        made: moment,
+        changer: user.copied(alloc)?,
+        changed: moment,
         token: state.step() + 1,
         series: Some(number),
     })
@@ -140,7 +166,7 @@ fn new_parts(
     allowed: Allowed,
 ) -> Result<NewDocument, AllocError>
     requires room { state.now.step + 1 < 2 ^ 64 }
-    ensures { IfOk result (λ n. n ≡ new_parts state.now user.now moment call.now wanted.entry allowed) }
+    ensures { IfOk result (λ n. n ≡ parts_of state.now user.now moment call.now wanted.entry allowed) }
 {
     let folder = allowed.folder;
     let number = Oid(state.next_number());
@@ -176,34 +202,9 @@ fn with_new(
     Ok(draft.seal())
 }
 
-/// Makes a document, which has the next number. The cost is the weight of the call and the default values that the document takes.
+/// Makes a document. The cost is the weight of the call and the default values that the document takes.
 ///
-/// The answer is the first cause that refuses the call, or the repository after it.
-pub fn document_created(
-    alloc: Global,
-    state: &State,
-    user: &Text,
-    moment: Moment,
-    call: &CreateDocument,
-) -> Result<State, Fail>
-    ensures created { Leaves result
-        (refusal_create_document state.now user.now (cost_create_document state.now call.now) call.now)
-        (after_create_document state.now user.now moment (cost_create_document state.now call.now) call.now) }
-    ensures there { IfOk result (λ s. object_at s (new_number state.now)
-        ≡ Some (parts_made state.now user.now moment call.now).object) }
-    ensures well { IfOk result (λ s. IsWellFormed s) }
-{
-    let _step = state.step();
-    let wanted = wanted_of(alloc, state, &call.properties)?;
-    let cost = cost_of(state, call, &wanted);
-    let allowed = judge(alloc, state, user, cost, call, &wanted)?;
-    let new = new_parts(alloc, state, user, moment, call, wanted, allowed)?;
-    let made = with_new(alloc, state, user, moment, cost, call, new)?;
-    let _made_step = made.step();
-    Ok(made)
-}
-
-/// Makes a document, as `document_created` does, and shows it as the caller sees it after the step.
+/// The answer is the first cause that refuses the call, or the repository after it and the new document as the caller sees it there.
 pub fn create_document(
     alloc: Global,
     state: &State,
@@ -217,8 +218,13 @@ pub fn create_document(
         (acknowledgement_create_document state.now user.now moment (cost_create_document state.now call.now) call.now) }
     ensures well { IfOk result (λ x. IsWellFormed x.0) }
 {
+    let _step = state.step();
+    let wanted = wanted_by(alloc, state.types(), call.properties.as_slice())?;
+    let cost = cost_of(state, call, &wanted);
+    let allowed = judge(alloc, state, user, cost, call, &wanted)?;
+    let new = new_parts(alloc, state, user, moment, call, wanted, allowed)?;
+    let made = with_new(alloc, state, user, moment, cost, call, new)?;
     let number = Oid(state.next_number());
-    let made = document_created(alloc, state, user, moment, call)?;
     let (next, reply) = with_reply(alloc, made, user, call.succinct, number)?;
     let _next_step = next.step();
     Ok((next, reply))

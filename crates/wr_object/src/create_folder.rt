@@ -1,21 +1,24 @@
 //! createFolder (CMIS 1.1, section 2.2.4.3).
-ghost use Rattle.std.specs.Prelude.{◌≡◌, [], Ok, Some, IfOk};
+ghost use Rattle.std.specs.Prelude.{◌≡◌, ◌+◌, ◌<◌, ◌^◌, [], Some, None, Ok, IfOk};
 ghost use Rattle.cm_base.specs.Judged.{Leaves, Writes};
 ghost use Rattle.cm_types.specs.declared.given.PropertyCall.TheVariants as calls;
+ghost use Rattle.cm_types.specs.Properties.{kept_values};
 ghost use Rattle.cm_see.specs.Addressed.{addressed};
-ghost use Rattle.cmis_spec.specs.Repository.{object_at, new_number};
-ghost use Rattle.cmis_spec.specs.Values.{values_kept};
+ghost use Rattle.cmis_spec.specs.Repository.{new_number};
+ghost use Rattle.cmis_spec.specs.Values.{kept_beside};
 ghost use Rattle.cmis_spec.specs.Well.{IsWellFormed};
-ghost use Rattle.wr_object.specs.CreateFolder.{cost_create_folder, judge_found, refusal_of_folder, refusal_create_folder, folder_made, parent_of, after_create_folder, acknowledgement_create_folder};
+ghost use Rattle.wr_object.specs.CreateFolder.{cost_create_folder, refusal_create_folder, new_folder, after_create_folder, acknowledgement_create_folder};
+ghost use Rattle.wr_object.specs.Parts.{judge_found, refusal_in_parts, parent_of};
 ghost use Rattle.wr_rules.specs.Wanted.{wanted_in};
 
-use crate::asked::{judge_values, wanted_of};
+use crate::asked::judge_values;
 use crate::folder_rules::{judge_kinds, judge_name, judge_place};
-use crate::making::{made_in, new_object};
+use crate::making::made_in;
 use call_parts::replies::ObjectReply;
 use call_parts::weight::weight_of_create_folder;
 use call_parts::writes::CreateFolder;
 use cm_base::cause::Cause;
+use cm_base::copies::Copies;
 use cm_base::fail::Fail;
 use cm_base::number::{Moment, Oid};
 use cm_base::object::Object;
@@ -25,13 +28,14 @@ use cm_see::address::addressed;
 use cm_state::state::State;
 use cm_types::definition::TypeDef;
 use std::alloc::{AllocError, Global};
+use wr_rules::beside::kept_beside;
 use wr_rules::costs::with_defaults;
 use wr_rules::entries::new_aces;
 use wr_rules::kinds::judge_types;
 use wr_rules::made::with_reply;
 use wr_rules::policies::{judge_read, policies_in};
 use wr_rules::storage::judge_storage;
-use wr_rules::wanted::Wanted;
+use wr_rules::wanted::{Wanted, wanted_by};
 
 fn cost_of(state: &State, call: &CreateFolder, wanted: &Wanted<'_>) -> u64
     requires wanted { wanted.now ≡ wanted_in state.now.types call.now.properties }
@@ -57,7 +61,7 @@ fn judge_found(
 ) -> Result<Values, Fail>
     ensures { Leaves result
         (judge_found state.now user.now call.now wanted.now parent.now kind.now)
-        (values_kept calls.Create wanted.now.defs [] call.now.properties) }
+        (kept_values calls.Create wanted.now.defs [] call.now.properties) }
 {
     judge_kinds(
         alloc,
@@ -76,7 +80,7 @@ fn judge_found(
 
 // The number of the parent and the values of the folder, or the cause of the refusal.
 #[tactic(auto, using(cm_types::proofs::Exits::fails_then, cm_types::proofs::Exits::fails_bind))]
-fn judge(
+fn judge_parts(
     alloc: Global,
     state: &State,
     user: &Text,
@@ -85,9 +89,9 @@ fn judge(
     wanted: &Wanted<'_>,
 ) -> Result<(Oid, Values), Fail>
     ensures { Writes result
-        (refusal_of_folder state.now user.now cost call.now wanted.now)
+        (refusal_in_parts state.now user.now cost call.now wanted.now)
         (parent_of state.now user.now call.now)
-        (values_kept calls.Create wanted.now.defs [] call.now.properties) }
+        (kept_values calls.Create wanted.now.defs [] call.now.properties) }
 {
     judge_storage(state, cost)?;
     let parent = addressed(state, user, &call.place).ok_or(Cause::NotFound)?;
@@ -96,6 +100,63 @@ fn judge(
     judge_types(state.types(), wanted.secondary.as_slice())?;
     let values = judge_found(alloc, state, user, call, wanted, parent, kind)?;
     Ok((parent.id, values))
+}
+
+fn judge(
+    alloc: Global,
+    state: &State,
+    user: &Text,
+    moment: Moment,
+    cost: u64,
+    call: &CreateFolder,
+    wanted: &Wanted<'_>,
+) -> Result<(Oid, Values), Fail>
+    requires { wanted.now ≡ wanted_in state.now.types call.now.properties }
+    ensures { Writes result
+        (refusal_create_folder state.now user.now moment cost call.now)
+        (parent_of state.now user.now call.now)
+        (kept_values calls.Create wanted.now.defs [] call.now.properties) }
+{
+    let _ = moment;
+    judge_parts(alloc, state, user, cost, call, wanted)
+}
+
+fn new_folder(
+    alloc: Global,
+    state: &State,
+    user: &Text,
+    moment: Moment,
+    wanted: Wanted<'_>,
+    values: Values,
+) -> Result<Object, AllocError>
+    requires room { state.now.step + 1 < 2 ^ 64 }
+    ensures { IfOk result (λ x. x ≡ record {
+      id = new_number state.now;
+      kind = wanted.entry.kind;
+      name = Some wanted.entry.name;
+      secondary = wanted.entry.secondary;
+      values = kept_beside values;
+      maker = user.now;
+      made = moment;
+      changer = user.now;
+      changed = moment;
+      token = state.now.step + 1;
+      series = None;
+    }) }
+{
+    Ok(Object {
+        id: Oid(state.next_number()),
+        kind: wanted.kind,
+        name: Some(wanted.name),
+        secondary: wanted.secondary,
+        values: kept_beside(values),
+        maker: user.copied(alloc)?,
+        made: moment,
+        changer: user.copied(alloc)?,
+        changed: moment,
+        token: state.step() + 1,
+        series: None,
+    })
 }
 
 fn with_folder(
@@ -109,7 +170,7 @@ fn with_folder(
     parent: Oid,
 ) -> Result<State, AllocError>
     requires allowed { refusal_create_folder state.now user.now moment cost call.now ≡ Ok tt }
-    requires object { object ≡ folder_made state.now user.now moment call.now }
+    requires object { object ≡ new_folder state.now user.now moment call.now }
     requires parent { parent ≡ parent_of state.now user.now call.now }
     ensures { IfOk result (λ s. s ≡ after_create_folder state.now user.now moment cost call.now) }
 {
@@ -121,34 +182,9 @@ fn with_folder(
     Ok(draft.seal())
 }
 
-/// Makes a folder, which has the next number. The cost is the weight of the call and the default values that the folder takes.
+/// Makes a folder. The cost is the weight of the call and the default values that the folder takes.
 ///
-/// The answer is the first cause that refuses the call, or the repository after it.
-pub fn folder_created(
-    alloc: Global,
-    state: &State,
-    user: &Text,
-    moment: Moment,
-    call: &CreateFolder,
-) -> Result<State, Fail>
-    ensures created { Leaves result
-        (refusal_create_folder state.now user.now moment (cost_create_folder state.now call.now) call.now)
-        (after_create_folder state.now user.now moment (cost_create_folder state.now call.now) call.now) }
-    ensures there { IfOk result (λ s. object_at s (new_number state.now)
-        ≡ Some (folder_made state.now user.now moment call.now)) }
-    ensures well { IfOk result (λ s. IsWellFormed s) }
-{
-    let _step = state.step();
-    let wanted = wanted_of(alloc, state, &call.properties)?;
-    let cost = cost_of(state, call, &wanted);
-    let (parent, values) = judge(alloc, state, user, cost, call, &wanted)?;
-    let object = new_object(alloc, state, user, moment, wanted, values)?;
-    let made = with_folder(alloc, state, user, moment, cost, call, object, parent)?;
-    let _made_step = made.step();
-    Ok(made)
-}
-
-/// Makes a folder, as `folder_created` does, and shows it as the caller sees it after the step.
+/// The answer is the first cause that refuses the call, or the repository after it and the new folder as the caller sees it there.
 pub fn create_folder(
     alloc: Global,
     state: &State,
@@ -162,8 +198,13 @@ pub fn create_folder(
         (acknowledgement_create_folder state.now user.now moment (cost_create_folder state.now call.now) call.now) }
     ensures well { IfOk result (λ x. IsWellFormed x.0) }
 {
+    let _step = state.step();
+    let wanted = wanted_by(alloc, state.types(), call.properties.as_slice())?;
+    let cost = cost_of(state, call, &wanted);
+    let (parent, values) = judge(alloc, state, user, moment, cost, call, &wanted)?;
+    let object = new_folder(alloc, state, user, moment, wanted, values)?;
+    let made = with_folder(alloc, state, user, moment, cost, call, object, parent)?;
     let number = Oid(state.next_number());
-    let made = folder_created(alloc, state, user, moment, call)?;
     let (next, reply) = with_reply(alloc, made, user, call.succinct, number)?;
     let _next_step = next.step();
     Ok((next, reply))

@@ -3,6 +3,7 @@
 
 ghost use Rattle.std.specs.Prelude.{◌≡◌};
 
+pub mod beside;
 pub mod content;
 pub mod copied;
 pub mod costs;

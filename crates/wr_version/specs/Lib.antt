@@ -1,2 +1,3 @@
 pub mod CheckIn
+pub mod CheckInParts
 pub mod CheckOut
