@@ -1,6 +1,6 @@
 -- A folder that is not made, and a folder that may be.
-use Rattle.std.specs.Prelude.{◌≡◌, ℕ, nat_le, false, [], not, ◌||◌, List}
-use Rattle.std.proofs.Common.{refl, sym, ap, subst}
+use Rattle.std.specs.Prelude.{ℕ, nat_le, [], not, ◌||◌, List}
+use Rattle.std.proofs.Common.{refl, ap}
 use Rattle.action_parts.specs.declared.action.Action.TheVariants as actions
 use Rattle.call_parts.specs.declared.writes.CreateFolder.{CreateFolder}
 use Rattle.cm_base.specs.declared.number.Moment.{Moment}
@@ -18,13 +18,11 @@ use Rattle.cm_see.specs.Addressed.{addressed}
 use Rattle.cmis_spec.specs.Repository.{Repository, depth_of, is_a, is_taken, most_levels, new_number}
 use Rattle.cmis_spec.specs.Access.{is_at_least, level_of_caller}
 use Rattle.wr_rules.specs.Rules.{bars_child, judge_storage, unknown_type, has_other_secondary, has_unknown_permission, unread_cause, has_other_policy}
-use Rattle.wr_object.specs.CreateFolder.{is_uncontrollable, refusal_create_folder}
-use Rattle.wr_object.specs.Parts.{judge_found, judge_kinds, judge_name, judge_place}
+use Rattle.wr_object.specs.CreateFolder.{is_uncontrollable, judge_found, judge_kinds, judge_name, judge_place, refusal_create_folder}
 use Rattle.wr_rules.specs.Wanted.{wanted_in}
-use Rattle.wr_object.proofs.Parted.{parted}
 use Rattle.action_laws.specs.Refused.{IsBarred, IsRefused, MayDo, OnlyComes}
 use Rattle.action_laws.proofs.Judging.{at_any, at_later, at_object, creation_lines}
-use Rattle.action_laws.proofs.Passing.{find_aside, found, is_by, is_wrong_kind, later, making_free, only_comes, policies_aside, properties_aside, stands_but, three_aside, two_aside, types_aside, written}
+use Rattle.action_laws.proofs.Passing.{find_aside, found, is_wrong_kind, later, making_free, only_comes, policies_aside, properties_aside, stands_but, three_aside, two_aside, types_aside, written}
 
 module _ (r : Repository) (u : List ℕ) (m : Moment) (cost : ℕ) (call : CreateFolder) where
   abbrev of_kind : Object → TypeDef → Judged (Unit {0})
@@ -37,8 +35,7 @@ module _ (r : Repository) (u : List ℕ) (m : Moment) (cost : ℕ) (call : Creat
   create_folder b =
       let x = b.object in
       let wanted = wanted_in r.types call.properties in
-      subst (λ j. IsRefused j) (sym (parted r u m cost call))
-      (at_later (judge_storage r cost) (find_or causes.NotFound (addressed r u call.place) >>= in_parent)
+      at_later (judge_storage r cost) (find_or causes.NotFound (addressed r u call.place) >>= in_parent)
       (at_object (addressed r u call.place) x in_parent b.found
       (at_later (first_cause (unread_cause r u) call.policies) (find_or causes.TypeNotFound (type_in r.types wanted.kind) >>= of_kind x)
       (at_any (find_or causes.TypeNotFound (type_in r.types wanted.kind)) (of_kind x)
@@ -46,7 +43,7 @@ module _ (r : Repository) (u : List ℕ) (m : Moment) (cost : ℕ) (call : Creat
       (creation_lines causes.Denied causes.WrongKind
       (refuse causes.TypeKind (not (same_base bases.Folder kind.base) || has_other_secondary r.types wanted.secondary) >> refuse causes.NotCreatable (not kind.creatable))
       (judge_place r call x kind >> judge_properties calls.Create wanted.defs [] call.properties >> judge_name r call x.id wanted.name)
-      (is_a r bases.Folder x) (is_at_least levels.Write (level_of_caller r u x)) (has_other_policy r u call.policies) b.barred))))))
+      (is_a r bases.Folder x) (is_at_least levels.Write (level_of_caller r u x)) (has_other_policy r u call.policies) b.barred)))))
 
   pub create_folder_allowed : MayDo r u call.place actions.CreateFolder → OnlyComes actions.CreateFolder causes.WrongKind (has_other_policy r u call.policies) (refusal_create_folder r u m cost call)
   create_folder_allowed b =
@@ -54,7 +51,6 @@ module _ (r : Repository) (u : List ℕ) (m : Moment) (cost : ℕ) (call : Creat
       let x = b.object in
       let wanted = wanted_in r.types call.properties in
       only_comes actions.CreateFolder causes.WrongKind (has_other_policy r u call.policies) (refusal_create_folder r u m cost call) is_wrong_kind refl
-      (subst (λ j. is_by p j ≡ false) (sym (parted r u m cost call))
       (written p r cost (addressed r u call.place) x in_parent (λ i j k. refl) b.found
       (later p (first_cause (unread_cause r u) call.policies) (find_or causes.TypeNotFound (type_in r.types wanted.kind) >>= of_kind x) (policies_aside p r u call.policies refl)
       (found p (find_or causes.TypeNotFound (type_in r.types wanted.kind)) (of_kind x) (find_aside p causes.TypeNotFound (type_in r.types wanted.kind) refl)
@@ -69,4 +65,4 @@ module _ (r : Repository) (u : List ℕ) (m : Moment) (cost : ℕ) (call : Creat
       (three_aside p causes.ChildType causes.Deep causes.NotControllable (bars_child r x kind.id) (nat_le most_levels (depth_of r x.id)) (is_uncontrollable kind call) refl refl refl)
       (later p given (judge_name r call x.id wanted.name) (properties_aside p calls.Create wanted.defs [] call.properties (λ id fault. refl))
       (three_aside p causes.Permission causes.BadName causes.NameTaken (has_unknown_permission call.remove || has_unknown_permission call.add)
-      (not (is_name wanted.name)) (is_taken r x.id (new_number r) wanted.name) refl refl refl)))))))))
+      (not (is_name wanted.name)) (is_taken r x.id (new_number r) wanted.name) refl refl refl))))))))

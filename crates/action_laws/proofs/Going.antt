@@ -27,7 +27,8 @@ use Rattle.wr_rules.specs.Rules.{judge_storage}
 use Rattle.wr_rules.proofs.Found.{addressed_there}
 use Rattle.wr_rules.proofs.Numbers.{held_numbers}
 use Rattle.wr_remove.specs.CancelCheckOut.{refusal_cancel}
-use Rattle.wr_remove.specs.Delete.{doomed, is_applied, is_filled, judge_removal, refusal_delete}
+use Rattle.cm_state.specs.Looks.{is_policy_used}
+use Rattle.wr_remove.specs.Delete.{doomed, is_filled, judge_removal, refusal_delete}
 use Rattle.wr_delete_tree.specs.DeleteTree.{refusal_delete_tree}
 use Rattle.action_laws.specs.Refused.{IsBarred, IsRefused, MayDo, NoneComes, OnlyComes, is_another_held}
 use Rattle.action_laws.proofs.Judging.{at_later, at_object, removal_lines, cancel_lines, tree_lines}
@@ -100,7 +101,7 @@ module _ (r : Repository) (u : List ℕ) (m : Moment) (cost : ℕ) where
       let gone = filter_map (object_at r) (doomed r call x) in
       at_later (judge_storage r cost) (find_or causes.NotFound (addressed r u call.place) >>= removal call)
       (at_object (addressed r u call.place) x (removal call) b.found
-      (removal_lines causes.Denied causes.RootFixed causes.CheckedOut (refuse causes.NotEmpty (is_filled r x) >> refuse causes.PolicyInUse (is_applied r x)) (first_cause (retained_cause r m) gone)
+      (removal_lines causes.Denied causes.RootFixed causes.CheckedOut (refuse causes.NotEmpty (is_filled r x) >> refuse causes.PolicyInUse (is_policy_used r x.id)) (first_cause (retained_cause r m) gone)
       (is_at_least levels.All (level_of_caller r u x)) (same x.id root) (is_under_hold r x) (is_working_copy r x) (is_checked_out r x) (list_any (is_under_hold r) gone)
       (one_held r call x (found_holds (λ z. Belongs r z z.series) (λ z. same z.id x.id) r.objects x w.documents there) there) b.barred))
 
@@ -115,9 +116,9 @@ module _ (r : Repository) (u : List ℕ) (m : Moment) (cost : ℕ) where
       only_comes actions.DeleteObject causes.Held (is_another_held r call x) (refusal_delete r u m cost call) is_held refl
       (written p r cost (addressed r u call.place) x (removal call) (λ i j k. refl) b.found
       (removal_free p (is_at_least levels.All (level_of_caller r u x)) (same x.id root) (is_under_hold r x) (is_working_copy r x) (is_checked_out r x) (list_any (is_under_hold r) gone)
-      (refuse causes.NotEmpty (is_filled r x) >> refuse causes.PolicyInUse (is_applied r x)) (first_cause (retained_cause r m) gone) b.allowed
+      (refuse causes.NotEmpty (is_filled r x) >> refuse causes.PolicyInUse (is_policy_used r x.id)) (first_cause (retained_cause r m) gone) b.allowed
       (λ k. ap not (others_held r x.id (doomed r call x) free (held_numbers r (doomed r call x) ∙ k)))
-      (two_aside p causes.NotEmpty causes.PolicyInUse (is_filled r x) (is_applied r x) refl refl) (retained_aside p r m gone (λ e. refl))))
+      (two_aside p causes.NotEmpty causes.PolicyInUse (is_filled r x) (is_policy_used r x.id) refl refl) (retained_aside p r m gone (λ e. refl))))
 
 module _ (r : Repository) (u : List ℕ) (cost : ℕ) where
   pub cancel_check_out : (call : CancelCheckOut) → IsBarred r u call.place actions.CancelCheckOut → IsRefused (refusal_cancel r u cost call)

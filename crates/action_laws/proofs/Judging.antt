@@ -42,9 +42,9 @@ pub check_out_lines : (a b c e f : Cause) (d w v l o : Bool) → (d && w && v &&
     → IsRefused (refuse a (not w) >> refuse b (not d) >> refuse c (not v) >> refuse e o >> refuse f (not l))
 check_out_lines a b c e f d w v l o h = grind arith
 
-pub copy_lines : {B : Type 0} (a b c : Cause) (rest : Judged B) (d w k : Bool) → (k && w) ≡ false
-    → IsRefused (refuse a (not w) >> refuse b (not d) >> refuse c (not k) >> rest)
-copy_lines a b c rest d w k e = grind arith
+pub copy_lines : {B : Type 0} (a b c : Cause) (more : Judged (Unit {0})) (rest : Judged B) (d w k : Bool) → (k && w) ≡ false
+    → IsRefused ((refuse a (not w) >> refuse b (not d) >> refuse c (not k) >> more) >> rest)
+copy_lines a b c more rest d w k e = grind arith
 
 pub cancel_lines : (a b c : Cause) (d w k : Bool) → (k && w) ≡ false → IsRefused (refuse a (not w) >> refuse b (not d) >> refuse c (not k))
 cancel_lines a b c d w k e = grind arith

@@ -1,6 +1,6 @@
 -- A document that is not made, and a document that may be.
 use Rattle.std.specs.Prelude.{◌≡◌, ℕ, Bool, false, [], not, ◌&&◌, ◌||◌, List, Option, Some, None, is_some}
-use Rattle.std.proofs.Common.{refl, sym, ap, subst}
+use Rattle.std.proofs.Common.{refl, ap}
 use Rattle.action_parts.specs.declared.action.Action.TheVariants as actions
 use Rattle.call_parts.specs.declared.place.Place.{Place}
 use Rattle.call_parts.specs.declared.versions.CreateDocument.{CreateDocument}
@@ -20,10 +20,8 @@ use Rattle.cmis_spec.specs.Repository.{Repository, is_a}
 use Rattle.cmis_spec.specs.Access.{is_at_least, level_of_caller}
 use Rattle.wr_rules.specs.Documents.{judge_content}
 use Rattle.wr_rules.specs.Rules.{bars_child, judge_storage, unknown_type, has_other_secondary, has_unknown_permission, unread_cause, has_other_policy}
-use Rattle.wr_object.specs.CreateDocument.{folder_at, has_other_state, is_name_taken, is_uncontrollable, refusal_create_document}
-use Rattle.wr_object.specs.DocumentParts.{judge_found, judge_kinds, judge_name, judge_place}
+use Rattle.wr_object.specs.CreateDocument.{folder_at, has_other_state, is_name_taken, is_uncontrollable, judge_found, judge_kinds, judge_name, judge_place, refusal_create_document}
 use Rattle.wr_rules.specs.Wanted.{wanted_in}
-use Rattle.wr_object.proofs.DocumentParted.{parted}
 use Rattle.action_laws.specs.Refused.{IsBarred, IsRefused, MayDo, OnlyComes}
 use Rattle.action_laws.proofs.Judging.{at_any, at_later, creation_lines}
 use Rattle.action_laws.proofs.Passing.{aside, content_aside, find_aside, found, is_by, is_wrong_kind, later, making_free, only_comes, policies_aside, properties_aside, stands_but, storage_aside, three_aside, two_aside, types_aside}
@@ -47,8 +45,7 @@ module _ (r : Repository) (u : List ℕ) (cost : ℕ) (call : CreateDocument) wh
   create_document place e b =
       let x = b.object in
       let wanted = wanted_in r.types call.properties in
-      subst (λ j. IsRefused j) (sym (parted r u cost call))
-      (at_later (judge_storage r cost) (folder_at r u call.place >>= in_folder)
+      at_later (judge_storage r cost) (folder_at r u call.place >>= in_folder)
       (at_folder r u call.place place x in_folder e b.found
       (at_later (first_cause (unread_cause r u) call.policies) (find_or causes.TypeNotFound (type_in r.types wanted.kind) >>= of_kind (Some x))
       (at_any (find_or causes.TypeNotFound (type_in r.types wanted.kind)) (of_kind (Some x))
@@ -56,7 +53,7 @@ module _ (r : Repository) (u : List ℕ) (cost : ℕ) (call : CreateDocument) wh
       (creation_lines causes.Denied causes.WrongKind
       (refuse causes.TypeKind (not (same_base bases.Document kind.base) || has_other_secondary r.types wanted.secondary) >> refuse causes.NotCreatable (not kind.creatable))
       (judge_place r call (Some x) kind >> judge_properties calls.Create wanted.defs [] call.properties >> judge_name r call (Some x) kind wanted.name)
-      (is_a r bases.Folder x) (is_at_least levels.Write (level_of_caller r u x)) (has_other_policy r u call.policies) b.barred))))))
+      (is_a r bases.Folder x) (is_at_least levels.Write (level_of_caller r u x)) (has_other_policy r u call.policies) b.barred)))))
 
   pub create_document_allowed : (place : Place) → call.place ≡ Some place → MayDo r u place actions.CreateDocument
       → OnlyComes actions.CreateDocument causes.WrongKind (has_other_policy r u call.policies) (refusal_create_document r u cost call)
@@ -65,7 +62,6 @@ module _ (r : Repository) (u : List ℕ) (cost : ℕ) (call : CreateDocument) wh
       let x = b.object in
       let wanted = wanted_in r.types call.properties in
       only_comes actions.CreateDocument causes.WrongKind (has_other_policy r u call.policies) (refusal_create_document r u cost call) is_wrong_kind refl
-      (subst (λ j. is_by p j ≡ false) (sym (parted r u cost call))
       (later p (judge_storage r cost) (folder_at r u call.place >>= in_folder) (storage_aside p r cost (λ i j k. refl))
       (free_at_folder p r u call.place place x in_folder e b.found
       (later p (first_cause (unread_cause r u) call.policies) (find_or causes.TypeNotFound (type_in r.types wanted.kind) >>= of_kind (Some x)) (policies_aside p r u call.policies refl)
@@ -86,4 +82,4 @@ module _ (r : Repository) (u : List ℕ) (cost : ℕ) (call : CreateDocument) wh
       (aside p causes.Permission (has_unknown_permission call.remove || has_unknown_permission call.add) (judge_content kind call.stream None >> named) refl
       (later p (judge_content kind call.stream None) named
       (content_aside p kind call.stream None refl refl refl)
-      (two_aside p causes.BadName causes.NameTaken (not (is_name wanted.name)) (is_name_taken r (Some x) wanted.name) refl refl))))))))))))
+      (two_aside p causes.BadName causes.NameTaken (not (is_name wanted.name)) (is_name_taken r (Some x) wanted.name) refl refl)))))))))))

@@ -26,12 +26,11 @@ use Rattle.cmis_laws.proofs.Lists.{found_holds}
 use Rattle.wr_rules.proofs.Found.{addressed_there}
 use Rattle.wr_rules.specs.Documents.{form_slots, is_checked_out, is_taken_anywhere, is_versionable, judge_content, name_after}
 use Rattle.wr_rules.specs.Rules.{judge_storage, secondary_in, unknown_type, has_other_secondary}
-use Rattle.wr_version.specs.CheckIn.{judge_new_name, props_after, refusal_check_in}
-use Rattle.wr_version.specs.CheckInParts.{judge_copy, judge_found, judge_given}
+use Rattle.wr_version.specs.CheckIn.{judge_copy, judge_found, judge_given, judge_new_name, props_after, refusal_check_in}
 use Rattle.wr_version.specs.CheckOut.{judge_latest, refusal_check_out}
 use Rattle.action_laws.specs.Refused.{IsBarred, IsRefused, MayDo, NoneComes}
 use Rattle.action_laws.proofs.Judging.{at_any, at_later, at_object, check_out_lines, copy_lines}
-use Rattle.action_laws.proofs.Passing.{aside, check_out_free, content_aside, copy_free, find_aside, found, is_by, later, none_comes, properties_aside, stands_for, two_aside, types_aside, written}
+use Rattle.action_laws.proofs.Passing.{check_out_free, content_aside, copy_free, find_aside, found, is_by, last_aside, later, none_comes, properties_aside, stands_for, two_aside, types_aside, written}
 
 module _ (r : Repository) (u : List ℕ) (cost : ℕ) where
   pub check_out : (call : CheckOut) → IsBarred r u call.place actions.CheckOut → IsRefused (refusal_check_out r u cost call)
@@ -47,10 +46,10 @@ module _ (r : Repository) (u : List ℕ) (cost : ℕ) where
       let x = b.object in
       at_later (judge_storage r cost) (find_or causes.NotFound (addressed r u call.place) >>= judge_found r u call)
       (at_object (addressed r u call.place) x (judge_found r u call) b.found
-      (at_any (find_or causes.TypeNotFound (type_of r x)) (λ kind. first_cause (unknown_type r.types) (secondary_in call.properties) >> judge_copy r u call x kind)
-      (λ kind. at_later (first_cause (unknown_type r.types) (secondary_in call.properties)) (judge_copy r u call x kind)
+      (at_any (find_or causes.TypeNotFound (type_of r x)) (λ kind. first_cause (unknown_type r.types) (secondary_in call.properties) >> judge_copy r u call x >> judge_given r call x kind)
+      (λ kind. at_later (first_cause (unknown_type r.types) (secondary_in call.properties)) (judge_copy r u call x >> judge_given r call x kind)
       (copy_lines causes.Denied causes.WrongKind causes.NotWorking
-      (refuse causes.TypeKind (has_other_secondary r.types (secondary_in call.properties)) >> judge_given r call x kind)
+      (refuse causes.TypeKind (has_other_secondary r.types (secondary_in call.properties))) (judge_given r call x kind)
       (is_a r bases.Document x) (is_at_least levels.Write (level_of_caller r u x)) (is_working_copy r x) b.barred))))
 
 -- a working copy is a document
@@ -89,9 +88,11 @@ module _ (r : Repository) (u : List ℕ) (cost : ℕ) where
       (and_parts (is_working_copy r x) (is_at_least levels.Write (level_of_caller r u x)) b.allowed).0 in
       none_comes actions.CheckIn (refusal_check_in r u cost call) refl
       (written p r cost (addressed r u call.place) x (judge_found r u call) (λ i j k. refl) b.found
-      (found p (find_or causes.TypeNotFound (type_of r x)) (λ kind. first_cause (unknown_type r.types) (secondary_in call.properties) >> judge_copy r u call x kind)
+      (found p (find_or causes.TypeNotFound (type_of r x)) (λ kind. first_cause (unknown_type r.types) (secondary_in call.properties) >> judge_copy r u call x >> judge_given r call x kind)
       (find_aside p causes.TypeNotFound (type_of r x) refl)
-      (λ kind. later p (first_cause (unknown_type r.types) (secondary_in call.properties)) (judge_copy r u call x kind) (types_aside p r.types (secondary_in call.properties) refl)
+      (λ kind. later p (first_cause (unknown_type r.types) (secondary_in call.properties)) (judge_copy r u call x >> judge_given r call x kind) (types_aside p r.types (secondary_in call.properties) refl)
+      (later p (judge_copy r u call x) (judge_given r call x kind)
       (copy_free p (is_working_copy r x) (is_at_least levels.Write (level_of_caller r u x)) (is_a r bases.Document x)
-      (refuse causes.TypeKind (has_other_secondary r.types (secondary_in call.properties)) >> judge_given r call x kind) b.allowed document
-      (aside p causes.TypeKind (has_other_secondary r.types (secondary_in call.properties)) (judge_given r call x kind) refl (given_aside call x kind))))))
+      (refuse causes.TypeKind (has_other_secondary r.types (secondary_in call.properties))) b.allowed document
+      (last_aside p causes.TypeKind (has_other_secondary r.types (secondary_in call.properties)) refl))
+      (given_aside call x kind)))))

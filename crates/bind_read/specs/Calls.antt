@@ -2,13 +2,15 @@
 -- field, and then the arguments of the call in their order.
 use Rattle.std.specs.Prelude.{Ok}
 use Rattle.cm_base.specs.Judged.{Judged, ◌>>=◌}
+use Rattle.cm_call.specs.declared.write.Write.{Write}
 use Rattle.cm_call.specs.declared.write.Write.TheVariants as writes
+use Rattle.cm_call.specs.declared.question.Question.{Question}
 use Rattle.cm_call.specs.declared.question.Question.TheVariants as questions
 use Rattle.http_grammar.specs.Request.{Request}
 use Rattle.http_caller.specs.Steps.{least_of}
 use Rattle.request_target.specs.Targets.{target_of, query_of}
-use Rattle.bind_read.specs.declared.asked.Asked.{Asked}
-use Rattle.bind_read.specs.declared.asked.Asked.TheVariants as asks
+use Rattle.cm_base.specs.declared.asked.Asked.{Asked}
+use Rattle.cm_base.specs.declared.asked.Asked.TheVariants as asks
 use Rattle.bind_words.specs.declared.words.Service.{Service}
 use Rattle.bind_words.specs.declared.words.Service.TheVariants as services
 use Rattle.bind_parts.specs.declared.asking.Asking.{Asking}
@@ -42,7 +44,7 @@ use Rattle.bind_readings.specs.Actions.{actions_of}
 use Rattle.bind_readings.specs.Relationships.{relationships_of}
 
 -- the arguments of each service
-abbrev pub bound : Service → Asking → Judged Asked
+abbrev pub bound : Service → Asking → Judged (Asked Write Question)
 bound services.CreateFolder asking = create_folder_of asking >>= λ call. Ok (asks.Write (writes.CreateFolder call))
 bound services.CreateDocument asking = create_document_of asking >>= λ call. Ok (asks.Write (writes.CreateDocument call))
 bound services.CheckOut asking = check_out_of asking >>= λ call. Ok (asks.Write (writes.CheckOut call))
@@ -93,7 +95,7 @@ bound services.Relationships asking = relationships_of asking >>= λ question. O
 bound services.Default asking = show_default_of asking >>= λ question. Ok (asks.Question (questions.Default question))
 
 -- what a request asks, in the order in which its causes come
-abbrev pub call_of_request : Request → Judged Asked
+abbrev pub call_of_request : Request → Judged (Asked Write Question)
 call_of_request q = do
   method ← method_of q.head.method
   target ← target_of q.head.target

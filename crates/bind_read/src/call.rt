@@ -3,7 +3,6 @@ ghost use Rattle.std.specs.Prelude.{◌≡◌};
 ghost use Rattle.cm_base.specs.Judged.{Meets};
 ghost use Rattle.bind_read.specs.Calls.{bound, call_of_request};
 
-use crate::asked::Asked;
 use bind_form::form::{form_of, method_of};
 use bind_parts::asking::{Asking, host_of, with_query};
 use bind_readings::access::{acl_of, parent_of, policies_of};
@@ -35,6 +34,7 @@ use bind_writes::source::create_document_from_source_of;
 use bind_writes::type_change::{create_type_of, delete_type_of, update_type_of};
 use bind_writes::update::update_of;
 use bind_writes::versioning::{cancel_check_out_of, check_in_of, check_out_of};
+use cm_base::asked::Asked;
 use cm_base::fail::Fail;
 use cm_call::question::Question;
 use cm_call::write::Write;
@@ -43,7 +43,7 @@ use http_wire::Request;
 use request_target::target::{query_of, target_of};
 use std::alloc::Global;
 
-fn bound(alloc: Global, service: Service, asking: &Asking) -> Result<Asked, Fail>
+fn bound(alloc: Global, service: Service, asking: &Asking) -> Result<Asked<Write, Question>, Fail>
     ensures { Meets (λ a. a) result (bound service asking.now) }
 {
     match service {
@@ -245,7 +245,7 @@ fn bound(alloc: Global, service: Service, asking: &Asking) -> Result<Asked, Fail
 /// What a request asks, or the first cause why it asks nothing, in this order: the method, the address, the form, the action or
 /// selector, the CMIS-Step field, and the arguments of the call in their order.
 #[tactic(auto, using(cm_types::proofs::Exits::fails_bind))]
-pub fn call_of(alloc: Global, request: &Request) -> Result<Asked, Fail>
+pub fn call_of(alloc: Global, request: &Request) -> Result<Asked<Write, Question>, Fail>
     ensures { Meets (λ a. a) result (call_of_request request.now) }
 {
     let head = request.head();

@@ -3,5 +3,4 @@
 
 ghost use Rattle.std.specs.Prelude.{◌≡◌};
 
-pub mod asked;
 pub mod call;

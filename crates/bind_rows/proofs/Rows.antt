@@ -22,7 +22,7 @@ use Rattle.http_grammar.specs.Request.{Request, FieldParts}
 use Rattle.http_grammar.specs.Fields.{values_named}
 use Rattle.form_args.specs.Properties.{most_properties, most_values}
 use Rattle.ql_lex.specs.Words.{keyword_of}
-use Rattle.bind_read.specs.declared.asked.Asked.TheVariants as asks
+use Rattle.cm_base.specs.declared.asked.Asked.TheVariants as asks
 use Rattle.http_header.specs.Token.{is_token_byte}
 use Rattle.form_parts.specs.Reading.{lines_of, inside, outside}
 use Rattle.bind_read.specs.Calls.{call_of_request}

@@ -5,6 +5,7 @@ ghost use Rattle.std.specs.Prelude.{◌≡◌};
 
 pub mod access;
 pub mod argument;
+pub mod asked;
 pub mod cause;
 pub mod content;
 pub mod copies;

@@ -13,6 +13,9 @@ pub struct Oid(pub u64);
 #[derive(Clone, Copy, Debug, PartialEq, Eq, PartialOrd, Ord)]
 pub struct Moment(pub i64);
 
+/// The end of the year 9999: the last moment that has a form of text, in milliseconds since 1970.
+pub const LAST_MOMENT_MS: u64 = 253_402_300_799_999;
+
 /// A list of numbers of objects.
 pub type Oids = Items<Oid>;
 

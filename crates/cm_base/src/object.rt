@@ -22,11 +22,11 @@ pub struct Object {
     /// The kept values of the properties that a form or a default may give.
     pub values: Values,
     /// Who made it, and when.
-    pub maker: Text,
-    pub made: Moment,
+    pub created_by: Text,
+    pub created_at: Moment,
     /// Who last changed it, and when.
-    pub changer: Text,
-    pub changed: Moment,
+    pub modified_by: Text,
+    pub modified_at: Moment,
     /// The number of the step that last changed it, its change token.
     pub token: u64,
     /// The number of its version series, for a document.
@@ -44,10 +44,10 @@ impl Copies for Object {
             name: Copies::copied(&self.name, alloc)?,
             secondary: self.secondary.copied(alloc)?,
             values: self.values.copied(alloc)?,
-            maker: self.maker.copied(alloc)?,
-            made: self.made,
-            changer: self.changer.copied(alloc)?,
-            changed: self.changed,
+            created_by: self.created_by.copied(alloc)?,
+            created_at: self.created_at,
+            modified_by: self.modified_by.copied(alloc)?,
+            modified_at: self.modified_at,
             token: self.token,
             series: self.series,
         })

@@ -20,6 +20,8 @@ pub struct Iter<'a, K: Key, V: Drop> {
     pub middles: &'a [Arc<Middle<K, V>>],
     /// The top blocks after that one.
     pub blocks: &'a [Arc<Branch<K, V>>],
+    /// The entries behind all blocks.
+    pub tail: &'a [Arc<(K, V)>],
 }
 
 // The same entries, with the next one in the leaf at hand.
@@ -31,6 +33,7 @@ fn filled<'a, K: Key, V: Drop>(it: Iter<'a, K, V>) -> Iter<'a, K, V>
     let mut leaves = it.leaves;
     let mut middles = it.middles;
     let mut blocks = it.blocks;
+    let mut tail = it.tail;
     while entries.is_empty() {
         if let Some((leaf, others)) = leaves.split_first() {
             let leaf: &'a Leaf<K, V> = leaf;
@@ -44,6 +47,9 @@ fn filled<'a, K: Key, V: Drop>(it: Iter<'a, K, V>) -> Iter<'a, K, V>
             let block: &'a Branch<K, V> = block;
             middles = &block.members;
             blocks = others;
+        } else if !tail.is_empty() {
+            entries = tail;
+            tail = &[];
         } else {
             break;
         }
@@ -53,6 +59,7 @@ fn filled<'a, K: Key, V: Drop>(it: Iter<'a, K, V>) -> Iter<'a, K, V>
         leaves,
         middles,
         blocks,
+        tail,
     }
 }
 
@@ -69,11 +76,13 @@ impl<'a, K: Key, V: Drop> Iterator for Iter<'a, K, V> {
             leaves: self.leaves,
             middles: self.middles,
             blocks: self.blocks,
+            tail: self.tail,
         });
         self.entries = it.entries;
         self.leaves = it.leaves;
         self.middles = it.middles;
         self.blocks = it.blocks;
+        self.tail = it.tail;
         let (first, others) = it.entries.split_first()?;
         self.entries = others;
         let entry: &'a (K, V) = first;

@@ -1,97 +1,363 @@
 //! Finite maps that keep their older states.
-ghost use Rattle.std.specs.Prelude.{◌≡◌, ◌↔◌, ℕ, ◌+◌, ◌*◌, ◌/◌, ◌≤◌, List, [], ◌∷◌, None, Some, map, length, T, IsTrue, IfOk, IfSome, option_map, option_copied};
+ghost use Rattle.std.specs.Prelude.{◌≡◌, ◌↔◌, ℕ, ◌+◌, ◌*◌, ◌/◌, ◌≤◌, List, [], ◌∷◌, ◌++◌, None, Some, false, true, map, length, T, IsTrue, IsSome, IfOk, IfSome, option_map, option_copied};
 ghost use Rattle.std.specs.Arc.{arc_value};
 ghost use Rattle.core.specs.List.{AllByRecursion, flat_map};
+ghost use Rattle.core.specs.Ordering.{is_lt};
+ghost use Rattle.core.specs.declared.cmp.Ordering.TheVariants.{Less};
 ghost use Rattle.core.specs.FinMap.Entries.{put, find, is_sorted, where_key};
 ghost use Rattle.cm_map.specs.Parts.{without_key, pointee, within};
+ghost use Rattle.cm_map.specs.Pieces.{blocks_of};
 ghost use Rattle.cm_map.specs.Rows.{Spaced, change};
-ghost use Rattle.cm_map.specs.Blocks.{branch_entries, group_count, IsBranch};
-ghost use Rattle.cm_map.specs.Maps.{IsMap, IsWidth};
+ghost use Rattle.cm_map.specs.Blocks.{leaf_entries, IsLeaf, branch_entries, group_count, IsBranch};
+ghost use Rattle.cm_map.specs.Maps.{tree_entries, tail_entries, IsCut, IsWidth};
 ghost use Rattle.cm_map.specs.Rests.{rest};
 
-use crate::blocks::{Branch, Leaf, Middle};
+use crate::block::Block;
+use crate::blocks::{Branch, Leaf};
 use crate::iter::Iter;
-use crate::key::Key;
-use crate::levels::{group_of, shared};
-use crate::row::{row_changed, row_found, row_ranged};
+use crate::key::{Headed, Key};
+use crate::leaf::{find_in, range_in};
+use crate::pieces::Pieces;
+use crate::tree::{Tree, leaf_of};
 use std::alloc::{AllocError, Global};
 use std::marker::Model;
 use std::sync::Arc;
 
 /// A finite map, seen as the list of its entries in the order of their keys.
 ///
-/// Each change takes `&self` and makes a new map that shares all other blocks with the old one, so both stand.
+/// Each change takes `&self` and makes a new map that shares all other blocks with the old one, so both stand. Behind the blocks stands one leaf,
+/// so that an entry behind all others takes a copy of this leaf alone.
 /// `put`, `find` and `where_key` of the contracts are std's words for a list of entries in order.
 #[derive(Drop)]
 pub struct Map<K: Key, V: Drop> {
-    blocks: Vec<Arc<Branch<K, V>>>,
+    body: Body<K, V>,
     len: u64,
 }
 
+/// The blocks of a map, and the leaf behind them.
+pub struct Body<K: Key, V: Drop> {
+    tree: Option<Arc<Tree<K, V>>>,
+    tail: Option<Arc<Leaf<K, V>>>,
+}
+
+// That it goes is proved here once, and not at each place where a map goes.
+impl<K: Key, V: Drop> Drop for Body<K, V> {
+    fn drop(self) {
+        let Body { tree: _, tail: _ } = self;
+    }
+}
+
 impl<K: Key, V: Drop> Model for Map<K, V> {
+    ghost use Rattle.std.specs.Prelude.{◌++◌, List, option_map};
+    ghost use Rattle.std.specs.Arc.{arc_value};
+    ghost use Rattle.cm_map.specs.Maps.{tree_entries, tail_entries, IsMap};
+
     ghost Value = { List (K × V) };
 
-    ghost view = { λ m. flat_map branch_entries (map arc_value m.blocks.items) };
+    ghost view = { λ m. tree_entries (option_map arc_value m.body.tree) ++ tail_entries (option_map arc_value m.body.tail) };
 
-    ghost invariant = { λ m. IsMap K.cmp m.len (map arc_value m.blocks.items) };
+    ghost invariant = { λ m. IsMap K.cmp m.len (option_map arc_value m.body.tree) (option_map arc_value m.body.tail) };
 }
 
-// A row of one member.
-fn alone<B: Drop>(alloc: Global, member: Arc<B>) -> Result<Vec<Arc<B>>, AllocError>
-    ensures { IfOk result (λ v. v.items ≡ member ∷ []) }
+// The same once more, by sharing.
+fn again<B: Drop>(x: &Option<Arc<B>>) -> Result<Option<Arc<B>>, AllocError>
+    ensures { IfOk result (λ o. option_map arc_value o ≡ option_map arc_value x.now) }
 {
-    let mut row = Vec::with_capacity(alloc, 1)?;
-    row.push(member)?;
-    Ok(row)
+    match x {
+        Some(held) => Ok(Some(Arc::try_clone(held)?)),
+        None => Ok(None),
+    }
 }
 
-// The top blocks of a map with one entry.
-fn single<K: Key, V: Drop>(
-    alloc: Global,
-    entry: Arc<(K, V)>,
-) -> Result<Vec<Arc<Branch<K, V>>>, AllocError>
-    ensures entries { IfOk result (λ v. flat_map branch_entries (map arc_value v.items) ≡ arc_value entry ∷ []) }
-    ensures whole { IfOk result (λ v. AllByRecursion IsBranch (map arc_value v.items)) }
-    ensures spaced { IfOk result (λ v. Spaced (map group_count (map arc_value v.items))) }
+// Whether a key stands in the leaf behind the blocks, or would.
+fn is_behind<K: Key, V: Drop>(
+    tree: &Option<Arc<Tree<K, V>>>,
+    tail: &Option<Arc<Leaf<K, V>>>,
+    key: &K,
+) -> bool
+    requires tail { IfSome (option_map arc_value tail.now) IsLeaf }
+    requires sorted { T (is_sorted K.cmp (tree_entries (option_map arc_value tree.now)
+        ++ tail_entries (option_map arc_value tail.now))) }
+    ensures yes { result ≡ true → AllByRecursion (λ e. K.cmp e.0 key.now
+        ≡ Less) (tree_entries (option_map arc_value tree.now)) }
+    ensures no { result ≡ false → AllByRecursion (λ e. K.cmp key.now e.0
+        ≡ Less) (tail_entries (option_map arc_value tail.now)) }
+    ensures there { result ≡ false → IsSome (option_map arc_value tree.now) }
 {
-    let entries = alone(alloc, entry)?;
-    let leaf = Arc::new(alloc, Leaf { entries })?;
-    let leaves = alone(alloc, leaf)?;
-    let middle = group_of::<K, V, Leaf<K, V>>(alloc, leaves)?;
-    let middles = alone(alloc, middle)?;
-    let branch = group_of::<K, V, Middle<K, V>>(alloc, middles)?;
-    let row = alone(alloc, branch)?;
-    Ok(row)
+    if tree.is_none() {
+        return true;
+    }
+    match tail {
+        Some(leaf) => !leaf.head().cmp(key).is_gt(),
+        None => false,
+    }
 }
 
-// The top blocks with a new entry in place of the key's, or with none.
-fn blocks_changed<K: Key, V: Drop>(
+// The value at the key in the leaf.
+fn tail_found<'a, K: Key, V: Drop>(tail: &'a Option<Arc<Leaf<K, V>>>, key: &K) -> Option<&'a V>
+    requires { T (is_sorted K.cmp (tail_entries (option_map arc_value tail.now))) }
+    ensures { option_copied result ≡ find K.cmp key.now (tail_entries (option_map arc_value tail.now)) }
+{
+    match tail {
+        Some(leaf) => {
+            let inner: &'a Leaf<K, V> = leaf;
+            find_in(&inner.entries, key)
+        }
+        None => None,
+    }
+}
+
+// The value at the key in the blocks.
+fn tree_found<'a, K: Key, V: Drop>(tree: &'a Option<Arc<Tree<K, V>>>, key: &K) -> Option<&'a V>
+    ensures { option_copied result ≡ find K.cmp key.now (tree_entries (option_map arc_value tree.now)) }
+{
+    match tree {
+        Some(held) => {
+            let inner: &'a Tree<K, V> = held;
+            inner.get(key)
+        }
+        None => None,
+    }
+}
+
+// The leaf with a new entry in place of the key's, or with none.
+fn tail_changed<K: Key, V: Drop>(
     alloc: Global,
-    xs: &[Arc<Branch<K, V>>],
+    tail: &Option<Arc<Leaf<K, V>>>,
     key: &K,
     new: Option<Arc<(K, V)>>,
-) -> Result<Vec<Arc<Branch<K, V>>>, AllocError>
-    requires whole { AllByRecursion IsBranch (map arc_value xs.now) }
-    requires spaced { Spaced (map group_count (map arc_value xs.now)) }
-    requires sorted { T (is_sorted K.cmp (flat_map branch_entries (map arc_value xs.now))) }
+) -> Result<Pieces<Leaf<K, V>>, AllocError>
+    requires tail { IfSome (option_map arc_value tail.now) IsLeaf }
+    requires sorted { T (is_sorted K.cmp (tail_entries (option_map arc_value tail.now))) }
     requires at_key { IfSome new (λ e. (arc_value e).0 ≡ key.now) }
-    ensures entries { IfOk result (λ v. flat_map branch_entries (map arc_value v.items) ≡ change K.cmp key.now (option_map arc_value new) (flat_map branch_entries (map arc_value xs.now))) }
-    ensures whole { IfOk result (λ v. AllByRecursion IsBranch (map arc_value v.items)) }
-    ensures spaced { IfOk result (λ v. Spaced (map group_count (map arc_value v.items))) }
+    ensures entries { IfOk result (λ p. flat_map leaf_entries (blocks_of p)
+        ≡ change K.cmp key.now (option_map arc_value new) (tail_entries (option_map arc_value tail.now))) }
+    ensures whole { IfOk result (λ p. AllByRecursion IsLeaf (blocks_of p)) }
 {
-    if xs.is_empty() {
-        match new {
+    match tail {
+        Some(leaf) => {
+            let pieces = leaf.changed(alloc, key, new)?;
+            Ok(pieces)
+        }
+        None => match new {
             Some(entry) => {
-                let blocks = single(alloc, entry)?;
-                return Ok(blocks);
+                let leaf = leaf_of(alloc, entry)?;
+                Ok(Pieces::One(leaf))
             }
-            None => {
-                return Ok(Vec::new(alloc));
-            }
+            None => Ok(Pieces::Gone),
+        },
+    }
+}
+
+// The blocks with a leaf behind them.
+fn with_leaf<K: Key, V: Drop>(
+    alloc: Global,
+    tree: &Option<Arc<Tree<K, V>>>,
+    leaf: Arc<Leaf<K, V>>,
+) -> Result<Arc<Tree<K, V>>, AllocError>
+    requires whole { IsLeaf (arc_value leaf) }
+    requires sorted { T (is_sorted K.cmp (tree_entries (option_map arc_value tree.now)
+        ++ leaf_entries (arc_value leaf))) }
+    ensures { IfOk result (λ t. arc_value t
+        ≡ tree_entries (option_map arc_value tree.now) ++ leaf_entries (arc_value leaf)) }
+{
+    match tree {
+        Some(held) => {
+            let tree = held.with_leaf(alloc, leaf)?;
+            let tree = Arc::new(alloc, tree)?;
+            Ok(tree)
+        }
+        None => {
+            let tree = Tree::of_leaf(alloc, leaf)?;
+            let tree = Arc::new(alloc, tree)?;
+            Ok(tree)
         }
     }
-    let blocks = row_changed::<K, V, Branch<K, V>>(alloc, xs, key, new)?;
-    Ok(blocks)
+}
+
+// The blocks with a new entry in place of the key's, or with none.
+fn tree_changed<K: Key, V: Drop>(
+    alloc: Global,
+    tree: &Option<Arc<Tree<K, V>>>,
+    key: &K,
+    new: Option<Arc<(K, V)>>,
+) -> Result<Arc<Tree<K, V>>, AllocError>
+    requires there { IsSome (option_map arc_value tree.now) }
+    requires at_key { IfSome new (λ e. (arc_value e).0 ≡ key.now) }
+    ensures { IfOk result (λ t. arc_value t
+        ≡ change K.cmp key.now (option_map arc_value new) (tree_entries (option_map arc_value tree.now))) }
+{
+    let Some(held) = tree else { unreachable!() };
+    let tree = held.changed(alloc, key, new)?;
+    let tree = Arc::new(alloc, tree)?;
+    Ok(tree)
+}
+
+// The blocks, and behind them what the leaf became.
+fn with_pieces<K: Key, V: Drop>(
+    alloc: Global,
+    tree: &Option<Arc<Tree<K, V>>>,
+    pieces: Pieces<Leaf<K, V>>,
+) -> Result<(Option<Arc<Tree<K, V>>>, Option<Arc<Leaf<K, V>>>), AllocError>
+    requires whole { AllByRecursion IsLeaf (blocks_of pieces) }
+    requires sorted { T (is_sorted K.cmp (tree_entries (option_map arc_value tree.now)
+        ++ flat_map leaf_entries (blocks_of pieces))) }
+    ensures entries { IfOk result (λ p. tree_entries (option_map arc_value p.0)
+        ++ tail_entries (option_map arc_value p.1)
+        ≡ tree_entries (option_map arc_value tree.now) ++ flat_map leaf_entries (blocks_of pieces)) }
+    ensures tail { IfOk result (λ p. IfSome (option_map arc_value p.1) IsLeaf) }
+{
+    match pieces {
+        Pieces::Gone => {
+            let tree = again(tree)?;
+            Ok((tree, None))
+        }
+        Pieces::One(leaf) => {
+            let tree = again(tree)?;
+            Ok((tree, Some(leaf)))
+        }
+        Pieces::Two(low, high) => {
+            let tree = with_leaf(alloc, tree, low)?;
+            Ok((Some(tree), Some(high)))
+        }
+    }
+}
+
+// The top blocks.
+fn blocks_in<K: Key, V: Drop>(tree: &Option<Arc<Tree<K, V>>>) -> &[Arc<Branch<K, V>>]
+    ensures entries { flat_map branch_entries (map arc_value result.now)
+        ≡ tree_entries (option_map arc_value tree.now) }
+    ensures bounded { AllByRecursion IsBranch (map arc_value result.now) }
+    ensures spaced { Spaced (map group_count (map arc_value result.now)) }
+{
+    match tree {
+        Some(held) => held.blocks(),
+        None => &[],
+    }
+}
+
+// The entries of the leaf.
+fn entries_in<K: Key, V: Drop>(tail: &Option<Arc<Leaf<K, V>>>) -> &[Arc<(K, V)>]
+    ensures { map arc_value result.now ≡ tail_entries (option_map arc_value tail.now) }
+{
+    match tail {
+        Some(leaf) => &leaf.entries,
+        None => &[],
+    }
+}
+
+// The entries of the blocks from `least` to `most`, at the end of `out`.
+fn tree_ranged<'a, K: Key, V: Drop>(
+    out: &mut Vec<&'a (K, V)>,
+    tree: &'a Option<Arc<Tree<K, V>>>,
+    least: &K,
+    most: &K,
+) -> Result<(), AllocError>
+    ensures { IfOk result (λ _. map pointee out.new.items ≡ map pointee out.old.items
+        ++ where_key K.cmp (within K.cmp least.now most.now) (tree_entries (option_map arc_value tree.now))) }
+{
+    match tree {
+        Some(held) => {
+            let inner: &'a Tree<K, V> = held;
+            inner.ranged(out, least, most)?;
+            Ok(())
+        }
+        None => Ok(()),
+    }
+}
+
+// The entries of the leaf from `least` to `most`, at the end of `out`.
+fn tail_ranged<'a, K: Key, V: Drop>(
+    out: &mut Vec<&'a (K, V)>,
+    tail: &'a Option<Arc<Leaf<K, V>>>,
+    least: &K,
+    most: &K,
+) -> Result<(), AllocError>
+    requires { T (is_sorted K.cmp (tail_entries (option_map arc_value tail.now))) }
+    ensures { IfOk result (λ _. map pointee out.new.items ≡ map pointee out.old.items
+        ++ where_key K.cmp (within K.cmp least.now most.now) (tail_entries (option_map arc_value tail.now))) }
+{
+    match tail {
+        Some(leaf) => {
+            let inner: &'a Leaf<K, V> = leaf;
+            range_in(out, &inner.entries, least, most)?;
+            Ok(())
+        }
+        None => Ok(()),
+    }
+}
+
+// The blocks and the leaf with a new entry in place of the key's, or with none, where it stands in the leaf.
+fn edited_behind<K: Key, V: Drop>(
+    alloc: Global,
+    tree: &Option<Arc<Tree<K, V>>>,
+    tail: &Option<Arc<Leaf<K, V>>>,
+    key: &K,
+    new: Option<Arc<(K, V)>>,
+) -> Result<(Option<Arc<Tree<K, V>>>, Option<Arc<Leaf<K, V>>>), AllocError>
+    requires tail { IfSome (option_map arc_value tail.now) IsLeaf }
+    requires sorted { T (is_sorted K.cmp (tree_entries (option_map arc_value tree.now)
+        ++ tail_entries (option_map arc_value tail.now))) }
+    requires behind { AllByRecursion (λ e. K.cmp e.0 key.now ≡ Less) (tree_entries (option_map arc_value tree.now)) }
+    requires at_key { IfSome new (λ e. (arc_value e).0 ≡ key.now) }
+    ensures entries { IfOk result (λ p. tree_entries (option_map arc_value p.0)
+        ++ tail_entries (option_map arc_value p.1)
+        ≡ change K.cmp key.now (option_map arc_value new)
+        (tree_entries (option_map arc_value tree.now) ++ tail_entries (option_map arc_value tail.now))) }
+    ensures tail { IfOk result (λ p. IfSome (option_map arc_value p.1) IsLeaf) }
+{
+    let pieces = tail_changed(alloc, tail, key, new)?;
+    let parts = with_pieces(alloc, tree, pieces)?;
+    Ok(parts)
+}
+
+// The blocks and the leaf with a new entry in place of the key's, or with none, where it stands in the blocks.
+fn edited_before<K: Key, V: Drop>(
+    alloc: Global,
+    tree: &Option<Arc<Tree<K, V>>>,
+    tail: &Option<Arc<Leaf<K, V>>>,
+    key: &K,
+    new: Option<Arc<(K, V)>>,
+) -> Result<(Option<Arc<Tree<K, V>>>, Option<Arc<Leaf<K, V>>>), AllocError>
+    requires tail { IfSome (option_map arc_value tail.now) IsLeaf }
+    requires before { AllByRecursion (λ e. K.cmp key.now e.0 ≡ Less) (tail_entries (option_map arc_value tail.now)) }
+    requires there { IsSome (option_map arc_value tree.now) }
+    requires at_key { IfSome new (λ e. (arc_value e).0 ≡ key.now) }
+    ensures entries { IfOk result (λ p. tree_entries (option_map arc_value p.0)
+        ++ tail_entries (option_map arc_value p.1)
+        ≡ change K.cmp key.now (option_map arc_value new)
+        (tree_entries (option_map arc_value tree.now) ++ tail_entries (option_map arc_value tail.now))) }
+    ensures tail { IfOk result (λ p. IfSome (option_map arc_value p.1) IsLeaf) }
+{
+    let changed = tree_changed(alloc, tree, key, new)?;
+    let same = again(tail)?;
+    Ok((Some(changed), same))
+}
+
+// The blocks and the leaf with a new entry in place of the key's, or with none.
+fn edited<K: Key, V: Drop>(
+    alloc: Global,
+    tree: &Option<Arc<Tree<K, V>>>,
+    tail: &Option<Arc<Leaf<K, V>>>,
+    key: &K,
+    new: Option<Arc<(K, V)>>,
+) -> Result<(Option<Arc<Tree<K, V>>>, Option<Arc<Leaf<K, V>>>), AllocError>
+    requires tail { IfSome (option_map arc_value tail.now) IsLeaf }
+    requires sorted { T (is_sorted K.cmp (tree_entries (option_map arc_value tree.now)
+        ++ tail_entries (option_map arc_value tail.now))) }
+    requires at_key { IfSome new (λ e. (arc_value e).0 ≡ key.now) }
+    ensures entries { IfOk result (λ p. tree_entries (option_map arc_value p.0)
+        ++ tail_entries (option_map arc_value p.1)
+        ≡ change K.cmp key.now (option_map arc_value new)
+        (tree_entries (option_map arc_value tree.now) ++ tail_entries (option_map arc_value tail.now))) }
+    ensures tail { IfOk result (λ p. IfSome (option_map arc_value p.1) IsLeaf) }
+{
+    if is_behind(tree, tail, key) {
+        let parts = edited_behind(alloc, tree, tail, key, new)?;
+        return Ok(parts);
+    }
+    let parts = edited_before(alloc, tree, tail, key, new)?;
+    Ok(parts)
 }
 
 impl<K: Key, V: Drop> Map<K, V> {
@@ -99,8 +365,12 @@ impl<K: Key, V: Drop> Map<K, V> {
     pub fn empty(alloc: Global) -> Self
         ensures { result ≡ [] }
     {
+        let _ = alloc;
         Map {
-            blocks: Vec::new(alloc),
+            body: Body {
+                tree: None,
+                tail: None,
+            },
             len: 0,
         }
     }
@@ -125,24 +395,26 @@ impl<K: Key, V: Drop> Map<K, V> {
         ensures blocks { IsWidth result self.now }
         ensures long { 2048 * (result / 2) ≤ length self.now }
     {
-        self.blocks.len() as u64
+        blocks_in(&self.body.tree).len() as u64
     }
 
     /// The top blocks. Each has 1 to `FULL` blocks, each of these as many leaves, and each leaf as many entries; two neighbours in a row
-    /// have together more than `HALF` members.
+    /// have together more than `HALF` members. Behind them stand at most `FULL` entries more.
     pub fn blocks(&self) -> &[Arc<Branch<K, V>>]
-        ensures entries { flat_map branch_entries (map arc_value result.now) ≡ self.now }
-        ensures bounded { AllByRecursion IsBranch (map arc_value result.now) }
-        ensures spaced { Spaced (map group_count (map arc_value result.now)) }
+        ensures { IsCut (map arc_value result.now) self.now }
     {
-        &self.blocks
+        blocks_in(&self.body.tree)
     }
 
     /// The value at the key, or none. It takes no memory, and compares about as many keys as the length has binary digits.
     pub fn get(&self, key: &K) -> Option<&V>
         ensures { option_copied result ≡ find K.cmp key.now self.now }
     {
-        row_found::<K, V, Branch<K, V>>(&self.blocks, key)
+        if is_behind(&self.body.tree, &self.body.tail, key) {
+            tail_found(&self.body.tail, key)
+        } else {
+            tree_found(&self.body.tree, key)
+        }
     }
 
     // The map with a new entry in place of the key's, or with none.
@@ -157,8 +429,11 @@ impl<K: Key, V: Drop> Map<K, V> {
         requires len { len ≡ length (change K.cmp key.now (option_map arc_value new) self.now) }
         ensures { IfOk result (λ m. m ≡ change K.cmp key.now (option_map arc_value new) self.now) }
     {
-        let blocks = blocks_changed(alloc, &self.blocks, key, new)?;
-        Ok(Map { blocks, len })
+        let (tree, tail) = edited(alloc, &self.body.tree, &self.body.tail, key, new)?;
+        Ok(Map {
+            body: Body { tree, tail },
+            len,
+        })
     }
 
     /// The map with the value at the key, in place of an older one.
@@ -194,13 +469,15 @@ impl<K: Key, V: Drop> Map<K, V> {
         Ok(map)
     }
 
-    /// The same map once more. The top blocks are shared, and no entry is copied.
+    /// The same map once more. All is shared, and no entry is copied.
     pub fn share(&self, alloc: Global) -> Result<Self, AllocError>
         ensures { IfOk result (λ m. m ≡ self.now) }
     {
-        let blocks = shared(alloc, &self.blocks)?;
+        let _ = alloc;
+        let tree = again(&self.body.tree)?;
+        let tail = again(&self.body.tail)?;
         Ok(Map {
-            blocks,
+            body: Body { tree, tail },
             len: self.len,
         })
     }
@@ -212,7 +489,8 @@ impl<K: Key, V: Drop> Map<K, V> {
         ensures { IfOk result (λ r. map pointee r.items ≡ where_key K.cmp (within K.cmp least.now most.now) self.now) }
     {
         let mut out = Vec::new(alloc);
-        row_ranged::<K, V, Branch<K, V>>(&mut out, &self.blocks, least, most)?;
+        tree_ranged(&mut out, &self.body.tree, least, most)?;
+        tail_ranged(&mut out, &self.body.tail, least, most)?;
         Ok(out)
     }
 
@@ -225,7 +503,8 @@ impl<K: Key, V: Drop> Map<K, V> {
             entries: &[],
             leaves: &[],
             middles: &[],
-            blocks: &self.blocks,
+            blocks: blocks_in(&self.body.tree),
+            tail: entries_in(&self.body.tail),
         }
     }
 }

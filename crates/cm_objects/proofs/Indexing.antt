@@ -1,7 +1,8 @@
 -- What an index of a list of objects has, after an object more, one less, and one in the place of another.
-use Rattle.std.specs.Prelude.{◌≡◌, ◌<◌, Bool, true, false, ◌||◌, ◌&&◌, not, if◌then◌else◌, List, [], ◌∷◌, ◌++◌, map, filter, find, All, is_some}
+use Rattle.std.specs.Prelude.{◌≡◌, ℕ, ◌+◌, ◌==◌, ◌<◌, length, take, Bool, true, false, ◌||◌, ◌&&◌, not, if◌then◌else◌, List, [], ◌∷◌, ◌++◌, map, filter, find, All, is_some}
 use Rattle.std.specs.List.{list_any}
-use Rattle.std.proofs.Common.{refl, sym, ap, subst, ◌∙◌, arith}
+use Rattle.std.proofs.Common.{suc, get_or, refl, sym, ap, subst, ◌∙◌, arith}
+use lib.Seq.{take-suc}
 use Rattle.std.proofs.lemmas.Bool.{both_ways}
 use Rattle.std.proofs.lemmas.List.Folds.{list_any-append}
 use Rattle.std.proofs.lemmas.List.Elements.{All-head, All-tail}
@@ -10,7 +11,7 @@ use Rattle.cm_base.specs.declared.object.Object.{Object}
 use Rattle.cm_map.specs.Keyed.{Rises}
 use Rattle.cmis_spec.specs.Repository.{same}
 use Rattle.cm_map.specs.declared.index_key.IndexKey.{IndexKey}
-use Rattle.cm_map.specs.Pairs.{same_key}
+use Rattle.cm_map.specs.Pairs.{same_key, same_pair}
 use Rattle.cm_objects.specs.Indexed.{keys_of, keys_at, is_pair_of, is_keyed}
 use Rattle.cm_objects.proofs.Rising.{by_test, same_eq, same_refl, differ}
 
@@ -107,3 +108,20 @@ members_of key test m fits (x ∷ xs) = (λ i. turned x.id m i && fits x i || me
         ≡ list_any (same m) (map (λ x. x.id) (if b then x ∷ filter test xs else filter test xs))
     by true = grind arith
     by false = grind arith
+
+-- ---- one key less
+
+-- a pair that is not of the first keys, nor of the next one
+pub pair_less : (n : Oid) (ks : List IndexKey) (i : ℕ) (k : IndexKey) (p : IndexKey × Oid) (b : Bool) → i < length ks → k ≡ get_or ks i k
+    → ((b && not (is_pair_of n (take i ks) p)) && not (same_pair p (k, n))) ≡ (b && not (is_pair_of n (take (i + 1) ks) p))
+pair_less n ks i k p b lt is =
+    let on : i + 1 ≡ suc i = omega arith in
+    let more : take (i + 1) ks ≡ take i ks ++ k ∷ [] = ap (λ m. take m ks) on ∙ take-suc ks i k lt ∙ ap (λ x. take i ks ++ x ∷ []) (sym is) in
+    let some : list_any (same_key p.0) (take (i + 1) ks) ≡ (list_any (same_key p.0) (take i ks) || (same_key p.0 k || false)) =
+    ap (list_any (same_key p.0)) more ∙ list_any-append (same_key p.0) (take i ks) (k ∷ []) in
+    ap (λ s. (b && not (is_pair_of n (take i ks) p)) && not (same_key p.0 k && s)) (turned p.1 n)
+    ∙ bools b (same n p.1) (list_any (same_key p.0) (take i ks)) (same_key p.0 k)
+    ∙ ap (λ a. b && not (same n p.1 && a)) (sym some)
+  where
+    bools : (b s a t : Bool) → ((b && not (s && a)) && not (t && s)) ≡ (b && not (s && (a || (t || false))))
+    bools b s a t = grind arith

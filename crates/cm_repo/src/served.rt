@@ -1,13 +1,14 @@
 //! How sessions read the requests of the repository.
 ghost use Rattle.std.specs.Prelude.{◌≡◌, Result};
-ghost use Rattle.cm_repo.specs.Requests.{called, least};
+ghost use Rattle.bind_read.specs.Calls.{call_of_request};
+ghost use Rattle.cm_repo.specs.Requests.{least};
 ghost use Rattle.cm_repo.specs.Numbers.{step_has_number, answer_has_number};
 ghost use Rattle.http_caller.specs.Callers.{caller_of};
 ghost use Rattle.http_wire.specs.Connections.{closes};
 
 use crate::server_machine::ServerMachine;
-use bind_read::asked::Asked as Read;
 use bind_read::call::call_of;
+use cm_base::asked::Asked;
 use cm_base::fail::Fail;
 use cm_base::text::Text;
 use cm_base::user::Users;
@@ -16,10 +17,10 @@ use cm_call::write::Write;
 use http_caller::{caller_of, least_of};
 use http_wire::{Head, Request};
 use std::alloc::Global;
-use talk::{Asked, Served};
+use talk::Served;
 
 impl Served for ServerMachine {
-    ghost call = { called };
+    ghost call = { call_of_request };
 
     ghost user = { caller_of };
 
@@ -28,11 +29,7 @@ impl Served for ServerMachine {
     ghost closes = { closes };
 
     fn call_of(alloc: Global, request: &Request) -> Result<Asked<Write, Question>, Fail> {
-        match call_of(alloc, request) {
-            Ok(Read::Write(call)) => Ok(Asked::Write(call)),
-            Ok(Read::Question(question)) => Ok(Asked::Question(question)),
-            Err(fail) => Err(fail),
-        }
+        call_of(alloc, request)
     }
 
     fn user_of(alloc: Global, head: &Head, users: &Users) -> Result<Text, Fail> {

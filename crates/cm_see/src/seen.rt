@@ -75,8 +75,8 @@ pub fn system_seen<'a>(
         SystemProperty::ObjectId => Ok(PropertyValue::Digits(x.id.0)),
         SystemProperty::BaseTypeId => Ok(base(state, x)),
         SystemProperty::ObjectTypeId => Ok(PropertyValue::Text(x.kind.as_str())),
-        SystemProperty::CreatedBy => Ok(PropertyValue::Text(x.maker.as_str())),
-        SystemProperty::LastModifiedBy => Ok(PropertyValue::Text(x.changer.as_str())),
+        SystemProperty::CreatedBy => Ok(PropertyValue::Text(x.created_by.as_str())),
+        SystemProperty::LastModifiedBy => Ok(PropertyValue::Text(x.modified_by.as_str())),
         SystemProperty::ChangeToken => Ok(PropertyValue::Digits(x.token)),
         SystemProperty::ParentId => Ok(parent(state, x)),
         _ => {

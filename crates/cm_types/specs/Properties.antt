@@ -211,10 +211,6 @@ kept_value call old given d = unwrap_or (option_map (stated d) (given_of given d
 abbrev pub kept_values : PropertyCall → List PropDef → List Slot → List Given → List Slot
 kept_values call defs old given = map (λ d. record { id = d.id; value = kept_value call old given d }) defs
 
--- the default values of the properties
-abbrev pub default_values : List PropDef → List Slot
-default_values defs = map (λ d. record { id = d.id; value = d.default }) defs
-
 abbrev pub is_missing : PropertyCall → List Slot → List Given → PropDef → Bool
 is_missing call old given d = d.required && not (is_set (kept_value call old given d))
 

@@ -33,10 +33,10 @@ folder n name = record {
   name = Some name;
   secondary = [];
   values = [];
-  maker = admin;
-  made = dawn;
-  changer = admin;
-  changed = dawn;
+  created_by = admin;
+  created_at = dawn;
+  modified_by = admin;
+  modified_at = dawn;
   token = n;
   series = None;
 }

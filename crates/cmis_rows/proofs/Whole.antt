@@ -43,10 +43,10 @@ object n kind = record {
   name = None;
   secondary = [];
   values = [];
-  maker = admin;
-  made = dawn;
-  changer = admin;
-  changed = dawn;
+  created_by = admin;
+  created_at = dawn;
+  modified_by = admin;
+  modified_at = dawn;
   token = n;
   series = None;
 }

@@ -6,7 +6,7 @@ use Rattle.cm_base.specs.declared.user.User.{User}
 use Rattle.desk_core.specs.Interleaving.{Rules}
 use Rattle.desk_model.specs.declared.entry.Entry.{Entry}
 use Rattle.http_grammar.specs.Request.{Head, Request}
-use Rattle.talk.specs.declared.asked.Asked.{Asked}
+use Rattle.cm_base.specs.declared.asked.Asked.{Asked}
 use Rattle.talk.specs.Served.{Kind, wire_of}
 
 abbrev pub kind_of : {S C Q : Type 0} → (S → Entry C → Result (S × Shown) Cause) → (S → List ℕ → Q → Result Shown Cause) → (S → ℕ)

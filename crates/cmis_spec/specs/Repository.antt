@@ -91,10 +91,10 @@ root_folder maker m step = record {
   name = Some (codes "root");
   secondary = [];
   values = [];
-  maker = maker;
-  made = m;
-  changer = maker;
-  changed = m;
+  created_by = maker;
+  created_at = m;
+  modified_by = maker;
+  modified_at = m;
   token = step;
   series = None;
 }

@@ -7,6 +7,7 @@ use Rattle.cm_base.specs.declared.user.User.{User}
 use Rattle.cm_base.specs.declared.user.Group.{Group}
 use Rattle.cm_base.specs.Decimals.{decimal_u64}
 use Rattle.cm_base.specs.UserLists.{users_of}
+use Rattle.cm_base.specs.Moments.{last_moment}
 use Rattle.cmis_words.specs.Options.{option_of}
 use Rattle.cmis_words.specs.Programs.{at_most, at_by, from_by, groups_by, are_pipe_options, pipe_by, words_of}
 use Rattle.cmis_words.specs.declared.words.Words.TheVariants.{Pipe}
@@ -24,13 +25,13 @@ at_most_bound most (Some n) = by_bound (nat_le n most) refl
 abbrev moment : ℕ → Moment
 moment n = record { 0 = pos n }
 
-moment_good : (o : Option ℕ) → IfSome o (λ n. n ≤ 253402300799999) → IfSome (option_map Some (option_map moment o)) (λ at. IfSome at IsMoment)
+moment_good : (o : Option ℕ) → IfSome o (λ n. n ≤ last_moment) → IfSome (option_map Some (option_map moment o)) (λ at. IfSome at IsMoment)
 moment_good None h = tt
 moment_good (Some n) h = (n, h, refl)
 
 at_good : (option : Option (List ℕ)) → IfSome (at_by option) (λ at. IfSome at IsMoment)
 at_good None = tt
-at_good (Some digits) = moment_good (at_most 253402300799999 (decimal_u64 digits)) (at_most_bound 253402300799999 (decimal_u64 digits))
+at_good (Some digits) = moment_good (at_most last_moment (decimal_u64 digits)) (at_most_bound last_moment (decimal_u64 digits))
 
 from_good : (option : Option (List ℕ)) → IfSome (from_by option) (λ n. n ≤ 1048576)
 from_good None = omega arith

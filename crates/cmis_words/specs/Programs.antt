@@ -6,6 +6,7 @@ use Rattle.cm_base.specs.declared.user.User.{User}
 use Rattle.cm_base.specs.declared.user.Group.{Group}
 use Rattle.cm_base.specs.Decimals.{decimal_u64}
 use Rattle.cm_base.specs.UserLists.{users_of}
+use Rattle.cm_base.specs.Moments.{last_moment}
 use Rattle.cmis_words.specs.Options.{behind, option_of, stands_once}
 use Rattle.cmis_words.specs.GroupLists.{groups_of}
 use Rattle.cmis_words.specs.declared.words.Words.{Words}
@@ -18,9 +19,9 @@ abbrev pub at_most : ℕ → Option ℕ → Option ℕ
 at_most most None = None
 at_most most (Some n) = if nat_le n most then Some n else None
 
--- the last moment: the end of the year 9999
+-- the moment of a number in decimal, up to the last moment
 abbrev pub moment_of : List ℕ → Option Moment
-moment_of digits = option_map (λ n. record { 0 = pos n }) (at_most 253402300799999 (decimal_u64 digits))
+moment_of digits = option_map (λ n. record { 0 = pos n }) (at_most last_moment (decimal_u64 digits))
 
 abbrev pub step_of : List ℕ → Option ℕ
 step_of digits = at_most 1048576 (decimal_u64 digits)

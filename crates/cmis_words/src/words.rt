@@ -9,13 +9,10 @@ use crate::groups::read_groups;
 use crate::options::{behind, option, stands_once};
 use cm_base::decimal::read_u64;
 use cm_base::items::Items;
-use cm_base::number::Moment;
+use cm_base::number::{LAST_MOMENT_MS, Moment};
 use cm_base::user::{Groups, User, Users};
 use cm_base::users::{UsersStop, read_users};
 use std::alloc::{AllocError, AllocFailed, Global};
-
-/// The last moment that a word may name, in milliseconds since 1970: the end of the year 9999.
-pub const LAST_MOMENT: u64 = 253402300799999;
 
 /// The greatest step number with which a repository may begin.
 pub const LAST_STEP: u64 = 1048576;
@@ -70,10 +67,11 @@ fn at_most(most: u64, number: Option<u64>) -> Option<u64>
     }
 }
 
+#[tactic(auto, unfolding(cm_base::specs::Moments::last_moment))]
 fn moment(digits: &[u8]) -> Option<Moment>
     ensures { result ≡ moment_of digits.now }
 {
-    match at_most(LAST_MOMENT, read_u64(digits)) {
+    match at_most(LAST_MOMENT_MS, read_u64(digits)) {
         None => None,
         Some(n) => Some(Moment(n as i64)),
     }
@@ -161,7 +159,8 @@ fn is_pipe(word: &String) -> bool
 }
 
 /// What the words ask for: `pipe USERS [at=MS] [from=N] [groups=LIST]`, the options in any order, each at most once. USERS is a list
-/// of users, MS a moment up to 253402300799999 and N a step number up to 1048576, decimal without sign or leading zeros, LIST a list of groups.
+/// of users, MS a moment in milliseconds since 1970 up to the end of the year 9999 and N a step number up to 1048576, decimal without sign or
+/// leading zeros, LIST a list of groups.
 pub fn read_words(alloc: Global, words: &[String]) -> Result<Words, WordsStop>
     ensures { ReadsWords result (map string_bytes words.now) }
 {

@@ -59,8 +59,8 @@ module _ {S C Q A X : Type 0} (m : Rules S C Q A X) where
 
   -- the entry that a session writes
   pub entry_so : (w : World S C) (s n : ℕ) (user : List ℕ) (moment : Moment) (call : C) → n ≡ length (own w.base s w.journal)
-      → record { caller = s; serial = n; user = user; moment = moment; call = call } ≡ entry_by w s user moment call
-  entry_so w s n user moment call is = ap (λ k. record { caller = s; serial = k; user = user; moment = moment; call = call }) is
+      → record { session = s; serial = n; user = user; moment = moment; call = call } ≡ entry_by w s user moment call
+  entry_so w s n user moment call is = ap (λ k. record { session = s; serial = k; user = user; moment = moment; call = call }) is
 
   pub refused_so : (b : ℕ) (v : History S C) (es fs : List (ℕ × Hold S C)) (s k n serial : ℕ) (user : List ℕ) (moment : Moment) (call : C) (e : Entry C) (x : X) → holds (world_of b v es) s ≡ Some k
       → e ≡ entry_by (world_of b v es) s user moment call → shown_by (m.next (state_of m.next v) e) ≡ Err x
@@ -87,8 +87,8 @@ module _ {S C Q A X : Type 0} (m : Rules S C Q A X) where
       )
 
 -- the number of the entries of a session, with one more, is no more than the length of the journal
-pub serial_fits : {S C : Type 0} (b s n : ℕ) (begin v u : History S C) (es : List (ℕ × Hold S C)) (e : Entry C) → IsCore b begin v es → u ≡ grown v e → e.caller ≡ s → n ≡ length (own b s v.journal) → n + 1 ≤ length u.journal
-serial_fits b s n begin v u es e c grows caller is =
+pub serial_fits : {S C : Type 0} (b s n : ℕ) (begin v u : History S C) (es : List (ℕ × Hold S C)) (e : Entry C) → IsCore b begin v es → u ≡ grown v e → e.session ≡ s → n ≡ length (own b s v.journal) → n + 1 ≤ length u.journal
+serial_fits b s n begin v u es e c grows session is =
     let begun : b ≤ length v.journal = omega (arith, c.begun, prefix-le begin.journal v.journal c.prefix) in
-    let mine : own b s u.journal ≡ own b s v.journal ++ e ∷ [] = ap (λ u. own b s u.journal) grows ∙ own-mine b s v.journal e begun caller in
+    let mine : own b s u.journal ≡ own b s v.journal ++ e ∷ [] = ap (λ u. own b s u.journal) grows ∙ own-mine b s v.journal e begun session in
     omega (arith, is, ap length mine, length-append (own b s v.journal) (e ∷ []), own-length b s u.journal)

@@ -93,19 +93,19 @@ core-puts b begin v es s x c h = record {
   strangers = λ t is. c.strangers t (put-strangers s x es t is).1;
 }
 
--- the serials of a list with one entry more that has its caller's next serial
-pub numbered-more : {C : Type 0} (b s : ℕ) (h : List (Entry C)) (e : Entry C) → b ≤ length h → e.caller ≡ s → e.serial ≡ length (own b s h) → IsNumbered b h → IsNumbered b (h ++ e ∷ [])
-numbered-more b s h e le caller serial num n = elim (eqb_tells n s) [
-  | inl p ↦ (let mine : e.caller ≡ n = caller ∙ sym p.1 in
+-- the serials of a list with one entry more that has its session's next serial
+pub numbered-more : {C : Type 0} (b s : ℕ) (h : List (Entry C)) (e : Entry C) → b ≤ length h → e.session ≡ s → e.serial ≡ length (own b s h) → IsNumbered b h → IsNumbered b (h ++ e ∷ [])
+numbered-more b s h e le session serial num n = elim (eqb_tells n s) [
+  | inl p ↦ (let mine : e.session ≡ n = session ∙ sym p.1 in
       let at : e.serial ≡ 0 + length (own b n h) = serial ∙ (ap (λ k. length (own b k h)) (sym p.1) ∙ sym (zero-add (length (own b n h)))) in
       subst (CountsFrom 0) (sym (own-mine b n h e le mine)) (counts-more 0 (own b n h) e (num n) at))
-  | inr p ↦ subst (CountsFrom 0) (sym (own-other b n h e le (λ q. p.1 (sym q ∙ caller)))) (num n)
+  | inr p ↦ subst (CountsFrom 0) (sym (own-other b n h e le (λ q. p.1 (sym q ∙ session)))) (num n)
 ]
 
 -- an entry more, of a session that then holds the whole
 pub core-grows : {S C : Type 0} (b : ℕ) (begin v w : History S C) (es : List (ℕ × Hold S C)) (s : ℕ) (e : Entry C) (x : Hold S C)
-    → IsCore b begin v es → w ≡ grown v e → e.caller ≡ s → e.serial ≡ length (own b s v.journal) → x.seen ≡ w → x.serial ≡ length (own b s v.journal) + 1 → IsCore b begin w (put nat_cmp s x es)
-core-grows b begin v w es s e x c is caller next seen serial =
+    → IsCore b begin v es → w ≡ grown v e → e.session ≡ s → e.serial ≡ length (own b s v.journal) → x.seen ≡ w → x.serial ≡ length (own b s v.journal) + 1 → IsCore b begin w (put nat_cmp s x es)
+core-grows b begin v w es s e x c is session next seen serial =
     let o : w.opening ≡ v.opening = ap (λ w. w.opening) is in
     let j : w.journal ≡ v.journal ++ e ∷ [] = ap (λ w. w.journal) is in
     let begun : b ≤ length v.journal = omega (arith, c.begun, prefix-le begin.journal v.journal c.prefix) in
@@ -113,21 +113,21 @@ core-grows b begin v w es s e x c is caller next seen serial =
       opening = c.opening ∙ sym o;
       prefix = rw j (prefix-more begin.journal v.journal (e ∷ []) c.prefix);
       begun = c.begun;
-      numbered = subst (IsNumbered b) (sym j) (numbered-more b s v.journal e begun caller next c.numbered);
+      numbered = subst (IsNumbered b) (sym j) (numbered-more b s v.journal e begun session next c.numbered);
       holds = put-keeps s x es (IsHold b v) (IsHold b w)
           (record {
             opening = ap (λ w. w.opening) seen;
             prefix = ([], append_nil x.seen.journal ∙ ap (λ w. w.journal) seen);
-            serial = serial ∙ (sym (length-append (own b s v.journal) (e ∷ [])) ∙ ap length (sym (ap (own b s) j ∙ own-mine b s v.journal e begun caller)));
+            serial = serial ∙ (sym (length-append (own b s v.journal) (e ∷ [])) ∙ ap length (sym (ap (own b s) j ∙ own-mine b s v.journal e begun session)));
           })
           (λ t y ne old. record {
             opening = old.opening ∙ sym o;
             prefix = rw j (prefix-more y.seen.journal v.journal (e ∷ []) old.prefix);
-            serial = old.serial ∙ ap length (sym (ap (own b t) j ∙ own-other b t v.journal e begun (λ q. ne (sym q ∙ caller))));
+            serial = old.serial ∙ ap length (sym (ap (own b t) j ∙ own-other b t v.journal e begun (λ q. ne (sym q ∙ session))));
           })
           c.holds;
       strangers = λ t none. (let p = put-strangers s x es t none in
-          ap length (ap (own b t) j ∙ own-other b t v.journal e begun (λ q. p.0 (sym q ∙ caller))) ∙ c.strangers t p.1);
+          ap length (ap (own b t) j ∙ own-other b t v.journal e begun (λ q. p.0 (sym q ∙ session))) ∙ c.strangers t p.1);
     }
   where
     append_nil : {A : Type 0} (xs : List A) → xs ++ [] ≡ xs

@@ -67,10 +67,10 @@ Adds b s old new more = map request_of (own b s new) ≡ map request_of (own b s
 adds_none : {C : Type 0} (b s : ℕ) (h : List (Entry C)) → Adds b s h h []
 adds_none b s h = sym (append-nil (map request_of (own b s h)))
 
-adds_write : {C : Type 0} (b s t : ℕ) (h : List (Entry C)) (e : Entry C) → b ≤ length h → e.caller ≡ t → Adds b s h (h ++ e ∷ []) (if t == s then request_of e ∷ [] else [])
+adds_write : {C : Type 0} (b s t : ℕ) (h : List (Entry C)) (e : Entry C) → b ≤ length h → e.session ≡ t → Adds b s h (h ++ e ∷ []) (if t == s then request_of e ∷ [] else [])
 adds_write b s t h e le is = elim (eqb_tells t s) [
-  | inl p ↦ (let mine : e.caller ≡ s = is ∙ p.1 in rw (eq-eqb t s p.1) (ap (map request_of) (own-mine b s h e le mine) ∙ map-append request_of (own b s h) (e ∷ [])))
-  | inr p ↦ (let other : e.caller ≢ s = λ q. p.1 (sym is ∙ q) in rw (ne_eqb t s p.1) (ap (map request_of) (own-other b s h e le other) ∙ adds_none b s h))
+  | inl p ↦ (let mine : e.session ≡ s = is ∙ p.1 in rw (eq-eqb t s p.1) (ap (map request_of) (own-mine b s h e le mine) ∙ map-append request_of (own b s h) (e ∷ [])))
+  | inr p ↦ (let other : e.session ≢ s = λ q. p.1 (sym is ∙ q) in rw (ne_eqb t s p.1) (ap (map request_of) (own-other b s h e le other) ∙ adds_none b s h))
 ]
 
 adds_if : {S C : Type 0} (s : ℕ) (w v : World S C) (n : Option ℕ) (f : ℕ → World S C) → v.journal ≡ w.journal → ((k : ℕ) → (f k).journal ≡ w.journal) → Adds w.base s w.journal (if_entered n v f).journal []

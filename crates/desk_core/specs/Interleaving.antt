@@ -42,7 +42,7 @@ state_now m w = replay m.next w.opening w.journal
 
 -- the entry of a session's write: its next serial
 abbrev pub entry_by : {S C : Type 0} → World S C → ℕ → List ℕ → Moment → C → Entry C
-entry_by w s user moment call = record { caller = s; serial = length (own w.base s w.journal); user = user; moment = moment; call = call }
+entry_by w s user moment call = record { session = s; serial = length (own w.base s w.journal); user = user; moment = moment; call = call }
 
 -- what the machine says of an entry at the whole history
 abbrev pub verdict : {S C Q A X : Type 0} → Rules S C Q A X → World S C → Entry C → Result A X

@@ -134,7 +134,7 @@ impl<M: Machine> Core<M> {
             None => return Err(CoreStop::Unknown),
         };
         let entry = Entry {
-            caller: session,
+            session,
             serial,
             user,
             moment,

@@ -152,7 +152,7 @@ module _ {S C A : Type 0} (base : History S C) where
           apart = subst AreApart listed (r.ranks.apart id (card v) at');
           mine = ap (by v.number) news ∙ f.own live;
           ended = λ k e is. ap (by e.0) news ∙ r.ranks.ended id k (card v) e at' is;
-          all = λ k e is. let c = r.ranks.covered k e (subst (λ (l : List (Entry C)). get_elem? l k ≡ some e) news is) in let b = (r.ranks.kept c.0 e.caller c.1 c.2 c.3).1 in subst (IsIn e.caller) listed (has e.caller (omega arith));
+          all = λ k e is. let c = r.ranks.covered k e (subst (λ (l : List (Entry C)). get_elem? l k ≡ some e) news is) in let b = (r.ranks.kept c.0 e.session c.1 c.2 c.3).1 in subst (IsIn e.session) listed (has e.session (omega arith));
         },
       )
 

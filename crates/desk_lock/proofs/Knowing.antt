@@ -4,7 +4,7 @@ use Rattle.std.specs.Prelude as std
 use Rattle.std.proofs.lemmas.List.{drop-append-le}
 use Rattle.atomic_table.specs.Seated.{TableId}
 use Rattle.desk_model.specs.declared.entry.Entry.{Entry}
-use Rattle.desk_model.specs.Histories.{IsLegal, own, CallersBelow}
+use Rattle.desk_model.specs.Histories.{IsLegal, own, SessionsBelow}
 use Rattle.desk_model.specs.Desks.{with_seen, with_entry}
 use Rattle.desk_lock.specs.declared.board.View.{View}
 use Rattle.desk_lock.specs.Numbers.{by, most_passes}
@@ -19,39 +19,39 @@ same_table y z e i = record { words = get_or (e i) 0 0; slots = get_or (e i) 1 0
 module _ {S C : Type 0} where
   -- the pass of a seat
   abbrev pub seat_pass : TableId → S → View S C → PassView S C
-  seat_pass z o v = record { table = z; known = record { opening = o; base = v.start; caller = v.number; seen = v.seen; own = v.own }; made = v.made; ended = v.ended }
+  seat_pass z o v = record { table = z; known = record { opening = o; base = v.start; session = v.number; seen = v.seen; own = v.own }; made = v.made; ended = v.ended }
 
 module _ {S C A X : Type 0} (next : S → Entry C → std.Result (S × A) X) where
   -- a pass that has seen a legal journal with the same own entries
-  pub sees : (l : LockView S C) (p : PassView S C) (g : List (Entry C)) → IsOf next l p → IsLegal next p.known.opening g → p.known.base ≤ length g → own p.known.base p.known.caller g ≡ p.known.own
-      → CallersBelow most_passes (drop p.known.base g) → IsOf next l (knowing p (with_seen p.known g))
+  pub sees : (l : LockView S C) (p : PassView S C) (g : List (Entry C)) → IsOf next l p → IsLegal next p.known.opening g → p.known.base ≤ length g → own p.known.base p.known.session g ≡ p.known.own
+      → SessionsBelow most_passes (drop p.known.base g) → IsOf next l (knowing p (with_seen p.known g))
   sees l p g of legal begun mine below = record { table = of.table; opening = of.opening; base = of.base; below = below; sound = record { lawful = legal; begun = begun; mine = mine; serials = of.sound.serials } }
 
   -- a pass with one more entry of its own
-  pub adds : (l : LockView S C) (p : PassView S C) (g : List (Entry C)) (e : Entry C) → IsOf next l p → IsLegal next p.known.opening (g ++ e ∷ []) → p.known.base ≤ length g → own p.known.base p.known.caller g ≡ p.known.own
-      → CallersBelow most_passes (drop p.known.base g) → p.known.caller < most_passes → e.caller ≡ p.known.caller → e.serial ≡ length p.known.own → IsOf next l (knowing p (with_entry p.known g e))
-  adds l p g e of legal begun mine below few caller serial =
-      let b = p.known.base in let n = p.known.caller in
+  pub adds : (l : LockView S C) (p : PassView S C) (g : List (Entry C)) (e : Entry C) → IsOf next l p → IsLegal next p.known.opening (g ++ e ∷ []) → p.known.base ≤ length g → own p.known.base p.known.session g ≡ p.known.own
+      → SessionsBelow most_passes (drop p.known.base g) → p.known.session < most_passes → e.session ≡ p.known.session → e.serial ≡ length p.known.own → IsOf next l (knowing p (with_entry p.known g e))
+  adds l p g e of legal begun mine below few session serial =
+      let b = p.known.base in let n = p.known.session in
       let cut : drop b (g ++ e ∷ []) ≡ drop b g ++ e ∷ [] = drop-append-le b g (e ∷ []) begun in
       record {
         table = of.table;
         opening = of.opening;
         base = of.base;
-        below = subst (CallersBelow most_passes) (sym cut) (below_append most_passes (drop b g) (e ∷ []) below (omega (arith, few, caller), tt));
+        below = subst (SessionsBelow most_passes) (sym cut) (below_append most_passes (drop b g) (e ∷ []) below (omega (arith, few, session), tt));
         sound = record {
           lawful = legal;
           begun = omega (arith, length-append g (e ∷ []), begun);
-          mine = ap (by n) cut ∙ (by_mine n (drop b g) e caller ∙ ap (λ (z : List (Entry C)). z ++ e ∷ []) mine);
+          mine = ap (by n) cut ∙ (by_mine n (drop b g) e session ∙ ap (λ (z : List (Entry C)). z ++ e ∷ []) mine);
           serials = counts_more 0 p.known.own e of.sound.serials (omega (arith, serial));
         };
       }
 
   -- of two passes of one lock the first sees the longer journal
-  pub sees_longer : (l : LockView S C) (p q : PassView S C) → IsOf next l p → IsOf next l q → own p.known.base p.known.caller (longer p.known.seen q.known.seen) ≡ p.known.own → IsOf next l (knowing p (with_seen p.known (longer p.known.seen q.known.seen)))
+  pub sees_longer : (l : LockView S C) (p q : PassView S C) → IsOf next l p → IsOf next l q → own p.known.base p.known.session (longer p.known.seen q.known.seen) ≡ p.known.own → IsOf next l (knowing p (with_seen p.known (longer p.known.seen q.known.seen)))
   sees_longer l p q of off mine = pick (nat_lt (length p.known.seen) (length q.known.seen)) refl
     where
       Good : List (Entry C) → Type 0
-      Good g = IsLegal next p.known.opening g × (p.known.base ≤ length g) × CallersBelow most_passes (drop p.known.base g)
+      Good g = IsLegal next p.known.opening g × (p.known.base ≤ length g) × SessionsBelow most_passes (drop p.known.base g)
 
       all : Good p.known.seen → Good q.known.seen → (c : Bool) → Good (if c then q.known.seen else p.known.seen)
       all a b true = b
@@ -61,7 +61,7 @@ module _ {S C A X : Type 0} (next : S → Entry C → std.Result (S × A) X) whe
       one = (of.sound.lawful, of.sound.begun, of.below)
 
       two : Good q.known.seen
-      two = subst (λ (x : S × ℕ). IsLegal next x.0 q.known.seen × (x.1 ≤ length q.known.seen) × CallersBelow most_passes (drop x.1 q.known.seen)) (λ i. ((off.opening ∙ sym of.opening) i, (off.base ∙ sym of.base) i)) (off.sound.lawful, off.sound.begun, off.below)
+      two = subst (λ (x : S × ℕ). IsLegal next x.0 q.known.seen × (x.1 ≤ length q.known.seen) × SessionsBelow most_passes (drop x.1 q.known.seen)) (λ i. ((off.opening ∙ sym of.opening) i, (off.base ∙ sym of.base) i)) (off.sound.lawful, off.sound.begun, off.below)
 
       pick : (c : Bool) → nat_lt (length p.known.seen) (length q.known.seen) ≡ c → IsOf next l (knowing p (with_seen p.known (longer p.known.seen q.known.seen)))
       pick c e = let g = all one two (nat_lt (length p.known.seen) (length q.known.seen)) in sees l p (longer p.known.seen q.known.seen) of g.0 g.1 mine g.2
@@ -72,7 +72,7 @@ module _ {S C A X : Type 0} (next : S → Entry C → std.Result (S × A) X) whe
     table = refl;
     opening = refl;
     base = refl;
-    below = subst (CallersBelow most_passes) (sym (past l.version.journal)) tt;
+    below = subst (SessionsBelow most_passes) (sym (past l.version.journal)) tt;
     sound = record { lawful = legal; begun = omega arith; mine = ap (by 0) (past l.version.journal); serials = tt };
   }
     where

@@ -1,11 +1,11 @@
--- Journals: what a caller has in them, and their beginnings.
+-- Journals: what a session has in them, and their beginnings.
 use Rattle.std.proofs.Common.{◌≡◌, ◌≢◌, ℕ, eqb, zero, suc, ◌<◌, ◌≤◌, ◌+◌, Bool, true, false, List, [], ◌∷◌, ◌++◌, length, drop, refl, ap, sym, ◌∙◌, subst, ◌⊎◌, inl, inr, ⊎_elim, arith, append_assoc, cond, Option, Some, None, eq-eqb, ne_eqb, length-append, append-nil}
 use Rattle.std.proofs.lemmas.List.{drop-append-le}
 use mathlib.Core.Option.{some, some-ne-none, some-injective}
 use mathlib.Core.List.{IsPrefix}
 use lib.ListN.{get_elem?}
 use Rattle.desk_model.specs.declared.entry.Entry.{Entry}
-use Rattle.desk_model.specs.Histories.{CountsFrom, CallersBelow}
+use Rattle.desk_model.specs.Histories.{CountsFrom, SessionsBelow}
 use Rattle.desk_lock.specs.Numbers.{by}
 
 module _ {A : Type 0} where
@@ -78,23 +78,23 @@ module _ {C : Type 0} where
 
   pub by_append : (n : ℕ) (h m : List (Entry C)) → by n (h ++ m) ≡ by n h ++ by n m
   by_append n [] m = refl
-  by_append n (x ∷ h) m = split_by (eqb x.caller n) x (by n h) (by n m) (by n (h ++ m)) (by_append n h m)
+  by_append n (x ∷ h) m = split_by (eqb x.session n) x (by n h) (by n m) (by n (h ++ m)) (by_append n h m)
 
-  pub by_none : (n : ℕ) (h : List (Entry C)) → ((k : ℕ) (e : Entry C) → get_elem? h k ≡ some e → e.caller ≢ n) → by n h ≡ []
+  pub by_none : (n : ℕ) (h : List (Entry C)) → ((k : ℕ) (e : Entry C) → get_elem? h k ≡ some e → e.session ≢ n) → by n h ≡ []
   by_none n [] no_one = refl
-  by_none n (x ∷ h) no_one = ap (λ b. cond b (x ∷ by n h) (by n h)) (ne_eqb x.caller n (no_one 0 x refl)) ∙ by_none n h (λ k e at. no_one (suc k) e at)
+  by_none n (x ∷ h) no_one = ap (λ b. cond b (x ∷ by n h) (by n h)) (ne_eqb x.session n (no_one 0 x refl)) ∙ by_none n h (λ k e at. no_one (suc k) e at)
 
   joined : (b : Bool) (x e : Entry C) (l m : List (Entry C)) → m ≡ l ++ e ∷ [] → cond b (x ∷ m) m ≡ cond b (x ∷ l) l ++ e ∷ []
   joined true x e l m is = ap (λ z. x ∷ z) is
   joined false x e l m is = is
 
-  pub by_mine : (n : ℕ) (h : List (Entry C)) (e : Entry C) → e.caller ≡ n → by n (h ++ e ∷ []) ≡ by n h ++ e ∷ []
-  by_mine n [] e is = ap (λ b. cond b (e ∷ []) []) (eq-eqb e.caller n is)
-  by_mine n (x ∷ h) e is = joined (eqb x.caller n) x e (by n h) (by n (h ++ e ∷ [])) (by_mine n h e is)
+  pub by_mine : (n : ℕ) (h : List (Entry C)) (e : Entry C) → e.session ≡ n → by n (h ++ e ∷ []) ≡ by n h ++ e ∷ []
+  by_mine n [] e is = ap (λ b. cond b (e ∷ []) []) (eq-eqb e.session n is)
+  by_mine n (x ∷ h) e is = joined (eqb x.session n) x e (by n h) (by n (h ++ e ∷ [])) (by_mine n h e is)
 
-  pub by_other : (n : ℕ) (h : List (Entry C)) (e : Entry C) → e.caller ≢ n → by n (h ++ e ∷ []) ≡ by n h
-  by_other n [] e is = ap (λ b. cond b (e ∷ []) []) (ne_eqb e.caller n is)
-  by_other n (x ∷ h) e is = ap (λ z. cond (eqb x.caller n) (x ∷ z) z) (by_other n h e is)
+  pub by_other : (n : ℕ) (h : List (Entry C)) (e : Entry C) → e.session ≢ n → by n (h ++ e ∷ []) ≡ by n h
+  by_other n [] e is = ap (λ b. cond b (e ∷ []) []) (ne_eqb e.session n is)
+  by_other n (x ∷ h) e is = ap (λ z. cond (eqb x.session n) (x ∷ z) z) (by_other n h e is)
 
   -- serials that count on, and one more
   pub counts_more : (k : ℕ) (es : List (Entry C)) (e : Entry C) → CountsFrom k es → e.serial ≡ k + length es → CountsFrom k (es ++ e ∷ [])
@@ -107,18 +107,18 @@ module _ {C : Type 0} where
 
   pub by_length : (n : ℕ) (h : List (Entry C)) → length (by n h) ≤ length h
   by_length n [] = omega arith
-  by_length n (x ∷ h) = let a = no_longer (eqb x.caller n) x (by n h) (length h) (by_length n h) in omega arith
+  by_length n (x ∷ h) = let a = no_longer (eqb x.session n) x (by n h) (length h) (by_length n h) in omega arith
 
-  -- each caller is below n
-  pub all_below : (n : ℕ) (h : List (Entry C)) → ((k : ℕ) (e : Entry C) → get_elem? h k ≡ some e → e.caller < n) → CallersBelow n h
+  -- each session is below n
+  pub all_below : (n : ℕ) (h : List (Entry C)) → ((k : ℕ) (e : Entry C) → get_elem? h k ≡ some e → e.session < n) → SessionsBelow n h
   all_below n [] each = tt
   all_below n (x ∷ h) each = (each 0 x refl, all_below n h (λ k e at. each (suc k) e at))
 
-  pub below_front : (n : ℕ) (g h : List (Entry C)) → CallersBelow n (g ++ h) → CallersBelow n g
+  pub below_front : (n : ℕ) (g h : List (Entry C)) → SessionsBelow n (g ++ h) → SessionsBelow n g
   below_front n [] h b = tt
   below_front n (x ∷ g) h b = (b.0, below_front n g h b.1)
 
-  -- what a caller has in a beginning and in the whole, it has in between
+  -- what a session has in a beginning and in the whole, it has in between
   pub between : (n k : ℕ) (a b h o : List (Entry C)) → k ≤ length a → IsPrefix a b → IsPrefix b h → by n (drop k a) ≡ o → by n (drop k h) ≡ o → by n (drop k b) ≡ o
   between n k a b h o in_a p q first last =
       let cut : drop k b ≡ drop k a ++ p.0 = ap (drop k) (sym p.1) ∙ drop-append-le k a p.0 in_a in
@@ -139,6 +139,6 @@ module _ {C : Type 0} where
       let l1 = ap length one ∙ length-append (by n (drop k a)) (by n p.0) in let l2 = ap length last in
       nil_of (by n (drop k a)) (omega arith)
 
-  pub below_append : (n : ℕ) (g h : List (Entry C)) → CallersBelow n g → CallersBelow n h → CallersBelow n (g ++ h)
+  pub below_append : (n : ℕ) (g h : List (Entry C)) → SessionsBelow n g → SessionsBelow n h → SessionsBelow n (g ++ h)
   below_append n [] h p q = q
   below_append n (x ∷ g) h p q = (p.0, below_append n g h p.1 q)

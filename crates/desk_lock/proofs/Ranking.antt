@@ -7,7 +7,7 @@ use lib.ListN.{get_elem?}
 use lib.Seq.{map-set}
 use Rattle.atomic_table.proofs.Lists.{at_snoc, at_map, set_again, at_set, set_here, set_else, at_longer}
 use Rattle.desk_model.specs.declared.entry.Entry.{Entry}
-use Rattle.desk_model.specs.Histories.{CallersBelow}
+use Rattle.desk_model.specs.Histories.{SessionsBelow}
 use Rattle.desk_lock.specs.declared.board.View.{View}
 use Rattle.desk_lock.specs.Numbers.{Card, Ranks, by, names, numbers, numbers_at, IsIn, AreApart, most_passes}
 use Rattle.desk_lock.specs.Board.{card}
@@ -28,9 +28,9 @@ module _ {C : Type 0} where
   ended_in c k x e zero l = (k, in_names c.ended k x e)
   ended_in c k x e (suc n) l = (suc k, in_names c.ended k x e)
 
-  pub grown : (news : List (Entry C)) (cards : List (Card C)) (id : ℕ) (c : Card C) (e : Entry C) → Ranks news cards → get_elem? cards id ≡ some c → c.live ≡ 1 → e.caller ≡ c.number → Ranks (news ++ e ∷ []) cards
+  pub grown : (news : List (Entry C)) (cards : List (Card C)) (id : ℕ) (c : Card C) (e : Entry C) → Ranks news cards → get_elem? cards id ≡ some c → c.live ≡ 1 → e.session ≡ c.number → Ranks (news ++ e ∷ []) cards
   grown news cards id c e r at live mine =
-      let own : IsIn e.caller (numbers c) = subst (λ (n : ℕ). IsIn e.caller (numbers_at n c.number c.ended)) (sym live) (0, ap some (sym mine)) in
+      let own : IsIn e.session (numbers c) = subst (λ (n : ℕ). IsIn e.session (numbers_at n c.number c.ended)) (sym live) (0, ap some (sym mine)) in
       record {
         first = r.first;
         made = r.made;
@@ -39,11 +39,11 @@ module _ {C : Type 0} where
         one_first = r.one_first;
         kept = r.kept;
         apart = r.apart;
-        covered = λ k f is. ⊎_elim (λ old. r.covered k f old) (λ (new : e ≡ f). subst (λ (z : Entry C). (j : ℕ) × (d : Card C) × (get_elem? cards j ≡ some d) × IsIn z.caller (numbers d)) new (id, c, at, own)) (at_snoc news e f k is);
-        ended = λ j k d x here there. by_other x.0 news e (λ (same : e.caller ≡ x.0).
+        covered = λ k f is. ⊎_elim (λ old. r.covered k f old) (λ (new : e ≡ f). subst (λ (z : Entry C). (j : ℕ) × (d : Card C) × (get_elem? cards j ≡ some d) × IsIn z.session (numbers d)) new (id, c, at, own)) (at_snoc news e f k is);
+        ended = λ j k d x here there. by_other x.0 news e (λ (same : e.session ≡ x.0).
             let a = ended_in d k x there d.live refl in
             let one : r.keeper x.0 ≡ j = (r.kept j x.0 d here a).0 in
-            let two : r.keeper e.caller ≡ id = (r.kept id e.caller c at own).0 in
+            let two : r.keeper e.session ≡ id = (r.kept id e.session c at own).0 in
             let ids : id ≡ j = sym two ∙ (ap r.keeper same ∙ one) in
             let cs : d ≡ c = same_at cards j d c here (subst (λ (z : ℕ). get_elem? cards z ≡ some c) ids at) in
             clash c k x (subst (λ (z : Card C). get_elem? z.ended k ≡ some x) cs there) live (sym mine ∙ same) (r.apart id c at)) ∙ r.ended j k d x here there;
@@ -122,7 +122,7 @@ module _ {C : Type 0} where
             (ap (λ b. if b then length cards else r.keeper n) (eq-eqb n c.made m) ∙ (sym (length-set cards id c') ∙ sym t.1), omega arith)) (snoc_at one d e j is);
         apart = λ j e is. ⊎_elim (λ o. let x = old j e o in subst AreApart x.2 (r.apart j x.0 x.1)) (λ (q : d ≡ e). subst (λ (z : Card C). AreApart (numbers z)) q (alone_apart c.made)) (at_snoc one d e j is);
         covered = λ k e is. let x = r.covered k e is in dite (ℕ_discrete x.0 id)
-            (λ same. (id, c', at_longer one (d ∷ []) id c' (set_here cards id c' (inside cards id c at)), subst (λ (z : Card C). IsIn e.caller (numbers z)) (same_at cards id x.1 c (subst (λ (z : ℕ). get_elem? cards z ≡ some x.1) same x.2) at) x.3))
+            (λ same. (id, c', at_longer one (d ∷ []) id c' (set_here cards id c' (inside cards id c at)), subst (λ (z : Card C). IsIn e.session (numbers z)) (same_at cards id x.1 c (subst (λ (z : ℕ). get_elem? cards z ≡ some x.1) same x.2) at) x.3))
             (λ other. (x.0, x.1, at_longer one (d ∷ []) x.0 x.1 (set_else cards id x.0 c' other ∙ x.2), x.3));
         ended = λ j k e y is there. ⊎_elim (λ o. let x = old j e o in r.ended j k x.0 y x.1 (subst (λ (l : List (ℕ × List (Entry C))). get_elem? l k ≡ some y) (sym x.3) there)) (λ (q : d ≡ e). absurd (some-ne-none y (sym (subst (λ (z : Card C). get_elem? z.ended k ≡ some y) (sym q) there)))) (at_snoc one d e j is);
       }
@@ -167,9 +167,9 @@ module _ {C : Type 0} where
             (λ n a b. apart (sym (r.kept other n d there b).0 ∙ (r.kept id n c at a).0)))))
             (λ (t : (j ≢ other) × (get_elem? cards j ≡ some e)). r.apart j e t.1) u) (look j e is);
         covered = λ k e is. let x = r.covered k e is in dite (ℕ_discrete x.0 other)
-            (λ same. (id, c', here, subst (IsIn e.caller) (sym all) (in_right (numbers c) (numbers d) e.caller (subst (λ (y : Card C). IsIn e.caller (numbers y)) (same_at cards other x.1 d (subst (λ (y : ℕ). get_elem? cards y ≡ some x.1) same x.2) there) x.3))))
+            (λ same. (id, c', here, subst (IsIn e.session) (sym all) (in_right (numbers c) (numbers d) e.session (subst (λ (y : Card C). IsIn e.session (numbers y)) (same_at cards other x.1 d (subst (λ (y : ℕ). get_elem? cards y ≡ some x.1) same x.2) there) x.3))))
             (λ no_other. dite (ℕ_discrete x.0 id)
-            (λ same. (id, c', here, subst (IsIn e.caller) (sym all) (in_left (numbers c) (numbers d) e.caller (subst (λ (y : Card C). IsIn e.caller (numbers y)) (same_at cards id x.1 c (subst (λ (y : ℕ). get_elem? cards y ≡ some x.1) same x.2) at) x.3))))
+            (λ same. (id, c', here, subst (IsIn e.session) (sym all) (in_left (numbers c) (numbers d) e.session (subst (λ (y : Card C). IsIn e.session (numbers y)) (same_at cards id x.1 c (subst (λ (y : ℕ). get_elem? cards y ≡ some x.1) same x.2) at) x.3))))
             (λ no_id. (x.0, x.1, set_else one other x.0 z no_other ∙ (set_else cards id x.0 c' no_id ∙ x.2), x.3)));
         ended = λ j k e y is has. ⊎_elim (λ (t : (j ≡ other) × (z ≡ e)). absurd (some-ne-none y (sym (subst (λ (q : Card C). get_elem? q.ended k ≡ some y) (sym t.1) has))))
             (λ u. ⊎_elim (λ (t : (j ≡ id) × (c' ≡ e)). ⊎_elim (λ (q : get_elem? c.ended k ≡ some y). r.ended id k c y at q)
@@ -186,8 +186,8 @@ module _ {C : Type 0} where
 
 module _ {C : Type 0} where
   -- each entry past the beginning has the number of a pass
-  pub callers_below : (news : List (Entry C)) (cards : List (Card C)) → Ranks news cards → CallersBelow most_passes news
-  callers_below news cards r = all_below most_passes news (λ k e at. let c = r.covered k e at in omega (arith, r.few, (r.kept c.0 e.caller c.1 c.2 c.3).1))
+  pub sessions_below : (news : List (Entry C)) (cards : List (Card C)) → Ranks news cards → SessionsBelow most_passes news
+  sessions_below news cards r = all_below most_passes news (λ k e at. let c = r.covered k e at in omega (arith, r.few, (r.kept c.0 e.session c.1 c.2 c.3).1))
 
   -- a pass's number
   pub number_below : (news : List (Entry C)) (cards : List (Card C)) (id : ℕ) (c : Card C) → Ranks news cards → get_elem? cards id ≡ some c → c.live ≡ 1 → c.number < most_passes

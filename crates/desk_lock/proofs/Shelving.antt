@@ -9,7 +9,7 @@ use Rattle.std_alloc.specs.declared.arc.Arc.{Arc}
 use Rattle.atomic_table.specs.Table.{step, Act, keeps, takes, gives, stepped, Allows, Valid, carried_after, rest}
 use Rattle.atomic_table.proofs.Lists.{set_here, set_else, at_map, exchanged}
 use Rattle.desk_model.specs.declared.entry.Entry.{Entry}
-use Rattle.desk_model.specs.Histories.{History, CallersBelow}
+use Rattle.desk_model.specs.Histories.{History, SessionsBelow}
 use Rattle.desk_lock.specs.declared.board.View.{View}
 use Rattle.desk_lock.specs.declared.board.Turn.{Turn}
 use Rattle.desk_lock.specs.declared.board.Turn.TheVariants.{NoTurn, HasTurn, Committed}
@@ -18,7 +18,7 @@ use Rattle.desk_lock.specs.Numbers.{Ranks, most_passes}
 use Rattle.desk_lock.specs.Board.{Slot, Now, limit, KnowsTurn, KnowsShelf, Kept, card, InTurn, AtShelf}
 use Rattle.desk_lock.specs.Steps.{Sat, HasIt, claimed_shelf, shelved_by, looked, history_of, stored, released_shelf}
 use Rattle.desk_lock.proofs.Lists.{some_same, prefix_self, prefix_into, below_front}
-use Rattle.desk_lock.proofs.Ranking.{cards_stay, callers_below, number_below}
+use Rattle.desk_lock.proofs.Ranking.{cards_stay, sessions_below, number_below}
 use Rattle.desk_lock.proofs.Keeping.{St, held_on, held_here, no_turn, no_shelf, shelf_free, quiet, off_shelf, shelf_word, number_word, build, same, loaded}
 use Rattle.desk_lock.proofs.Turning.{follows}
 
@@ -56,7 +56,7 @@ module _ {S C A : Type 0} (base : History S C) where
                 refl,
                 ap Some x.2 ∙ sym (f.origin live),
                 (λ quiet_turn. follows base n (map card s.views) me.0 n.shelved (arc_value a).journal r.ranks (f.start live) (f.own live) is (n.owed, sym r.level)
-                    (below_front most_passes n.shelved n.owed (subst (CallersBelow most_passes) r.level (callers_below n.news (map card s.views) r.ranks)))
+                    (below_front most_passes n.shelved n.owed (subst (SessionsBelow most_passes) r.level (sessions_below n.news (map card s.views) r.ranks)))
                     (subst (λ (t : Turn C). IsPrefix me.0.seen (base.journal ++ limit n.news n.shelved t)) quiet_turn f.seen) (number_below n.news (map card s.views) id (card me.0) r.ranks (at_map card s.views id me.0 at) live)),
               )),
               (λ ne. absurd (ne zero)),

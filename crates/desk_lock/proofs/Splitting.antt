@@ -137,7 +137,7 @@ module _ {S C A : Type 0} (base : History S C) where
       let one : List (View S C) = set s.views id (parent v) in
       let at' : get_elem? (map card s.views) id ≡ some (card v) = at_map card s.views id v at in
       let made = (r.ranks.one_first id (card v) at' first).1 in
-      let nobody : by v.made n.news ≡ [] = by_none v.made n.news (λ k e is same. let c = r.ranks.covered k e is in let b = (r.ranks.kept c.0 e.caller c.1 c.2 c.3).1 in omega arith) in
+      let nobody : by v.made n.news ≡ [] = by_none v.made n.news (λ k e is same. let c = r.ranks.covered k e is in let b = (r.ranks.kept c.0 e.session c.1 c.2 c.3).1 in omega arith) in
       record {
         now = n;
         words = r.words;

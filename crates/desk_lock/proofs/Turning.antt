@@ -12,7 +12,7 @@ use Rattle.std_alloc.specs.declared.arc.Arc.{Arc}
 use Rattle.atomic_table.specs.Table.{step, Act, keeps, takes, gives, stepped, Allows, Valid, carried_after, rest}
 use Rattle.atomic_table.proofs.Lists.{set_here, set_else, at_map, exchanged}
 use Rattle.desk_model.specs.declared.entry.Entry.{Entry}
-use Rattle.desk_model.specs.Histories.{History, CountsFrom, CallersBelow}
+use Rattle.desk_model.specs.Histories.{History, CountsFrom, SessionsBelow}
 use Rattle.desk_lock.specs.declared.board.View.{View}
 use Rattle.desk_lock.specs.declared.board.Turn.{Turn}
 use Rattle.desk_lock.specs.declared.board.Turn.TheVariants.{NoTurn, HasTurn, Committed}
@@ -21,7 +21,7 @@ use Rattle.desk_lock.specs.Board.{Slot, Now, limit, KnowsTurn, Kept, card, InTur
 use Rattle.desk_lock.specs.Seats.{IsIdle}
 use Rattle.desk_lock.specs.Steps.{Sat, Follows, Has, claimed, history_of, learned, hand, committed, released}
 use Rattle.desk_lock.proofs.Lists.{some_same, prefix_self, prefix_into, by_mine, by_other, counts_more, between}
-use Rattle.desk_lock.proofs.Ranking.{cards_stay, grown, one_seat, callers_below, number_below}
+use Rattle.desk_lock.proofs.Ranking.{cards_stay, grown, one_seat, sessions_below, number_below}
 use Rattle.desk_lock.proofs.Keeping.{St, held_on, held_here, no_turn, quiet, count_word, turn_word, build, same, loaded}
 
 module _ {S C : Type 0} (base : History S C) where
@@ -29,13 +29,13 @@ module _ {S C : Type 0} (base : History S C) where
   pub seam : (v : View S C) (news h : List (Entry C)) → v.start ≡ length base.journal → h ≡ base.journal ++ news → drop v.start h ≡ news
   seam v news h start is = ap (λ (x : ℕ × List (Entry C)). drop x.0 x.1) (λ i. (start i, is i)) ∙ drop-append_seam base.journal news
 
-  numbered : (news : List (Entry C)) (e : Entry C) → ((n : ℕ) → CountsFrom 0 (by n news)) → e.serial ≡ length (by e.caller news) → (n : ℕ) → CountsFrom 0 (by n (news ++ e ∷ []))
-  numbered news e all is n = dite (ℕ_discrete e.caller n)
+  numbered : (news : List (Entry C)) (e : Entry C) → ((n : ℕ) → CountsFrom 0 (by n news)) → e.serial ≡ length (by e.session news) → (n : ℕ) → CountsFrom 0 (by n (news ++ e ∷ []))
+  numbered news e all is n = dite (ℕ_discrete e.session n)
       (λ mine. subst (CountsFrom 0) (sym (by_mine n news e mine)) (counts_more 0 (by n news) e (all n) (let l = ap (λ (z : ℕ). length (by z news)) mine in omega arith)))
       (λ other. subst (CountsFrom 0) (sym (by_other n news e other)) (all n))
 
   -- a journal of the history goes on from what the seat has seen
-  pub follows : (n : Now C) (cards : _) (v : View S C) (past h : List (Entry C)) → Ranks n.news cards → v.start ≡ length base.journal → by v.number n.news ≡ v.own → h ≡ base.journal ++ past → IsPrefix past n.news → CallersBelow most_passes past
+  pub follows : (n : Now C) (cards : _) (v : View S C) (past h : List (Entry C)) → Ranks n.news cards → v.start ≡ length base.journal → by v.number n.news ≡ v.own → h ≡ base.journal ++ past → IsPrefix past n.news → SessionsBelow most_passes past
       → IsPrefix v.seen (base.journal ++ past) → v.number < most_passes → Follows v h
   follows n cards v past h ranks start own is front below seen few = record {
     seen = subst (IsPrefix v.seen) (sym is) seen;
@@ -43,7 +43,7 @@ module _ {S C : Type 0} (base : History S C) where
     mine = λ long first. between v.number v.start v.seen h (base.journal ++ n.news) v.own long (subst (IsPrefix v.seen) (sym is) seen)
         (subst (λ (z : List (Entry C)). IsPrefix z (base.journal ++ n.news)) (sym is) (prefix_into (base.journal ++ past) base.journal past n.news (prefix_self (base.journal ++ past)) front)) first
         (ap (by v.number) (seam v n.news (base.journal ++ n.news) start refl) ∙ own);
-    below = subst (CallersBelow most_passes) (sym (seam v past h start is)) below;
+    below = subst (SessionsBelow most_passes) (sym (seam v past h start is)) below;
     number = few;
   }
 
@@ -83,7 +83,7 @@ module _ {S C A : Type 0} (base : History S C) where
                 refl,
                 refl,
                 ap Some x.2 ∙ sym (f.origin live),
-                follows base n (map card s.views) me.0 n.news (arc_value a).journal r.ranks (f.start live) (f.own live) is (prefix_self n.news) (callers_below n.news (map card s.views) r.ranks)
+                follows base n (map card s.views) me.0 n.news (arc_value a).journal r.ranks (f.start live) (f.own live) is (prefix_self n.news) (sessions_below n.news (map card s.views) r.ranks)
                     (subst (λ (z : List (Entry C)). IsPrefix me.0.seen (base.journal ++ z)) level seen) (number_below n.news (map card s.views) id (card me.0) r.ranks (at_map card s.views id me.0 at) live),
               )),
               (λ ne. absurd (ne zero)),
@@ -123,7 +123,7 @@ module _ {S C A : Type 0} (base : History S C) where
       )
 
   pub commits : (slots id : ℕ) (me : Sat S C A) (h : List (Entry C)) (a : Arc (History S C) A) (e : Entry C) → me.0.turn ≡ HasTurn h → me.1 ≡ (0, Some a) ∷ []
-      → (arc_value a).journal ≡ h ++ e ∷ [] → e.caller ≡ me.0.number → e.serial ≡ length me.0.own → length (arc_value a).journal < 2 ^ 64
+      → (arc_value a).journal ≡ h ++ e ∷ [] → e.session ≡ me.0.number → e.serial ≡ length me.0.own → length (arc_value a).journal < 2 ^ 64
       → Allows (Kept base) slots id me 0 (λ n. (n + 1) % 2 ^ 64) (committed (step slots 0 1 0 none) me)
   commits slots id me h a e is carried longer mine serial fits s r deep at small =
       let k = has_turn s r id me.0 h at is in

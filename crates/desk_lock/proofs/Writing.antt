@@ -88,13 +88,13 @@ module _ {S C A X B : Type 0} (next : S → Entry C → std.Result (S × A) X) (
   -- an accepted write, by what its steps told
   pub writes : (l : LockView S C) (q : PassView S C) (z zz : TableId) (o : S) (m m1 m2 : Sat S C B) (t n : History S C) (k s : ℕ) (us user : List ℕ) (moment : Moment) (call : C) (least num : ℕ) (shown : A)
       → seat_pass z o m.0 ≡ q → IsOf next l q → m.0.origin ≡ Some o → IsOpen m t m1 → IsLegal next n.opening n.journal → k ≡ m.0.number → s ≡ length m.0.own → us ≡ user
-      → n ≡ grown t record { caller = k; serial = s; user = us; moment = moment; call = call }
+      → n ≡ grown t record { session = k; serial = s; user = us; moment = moment; call = call }
       → m2.0 ≡ record m1.0 { seen = n.journal; told = []; own = by m1.0.number (drop m1.0.start n.journal); turn = NoTurn } → zz ≡ z
-      → num ≡ number (state_of next t) → least ≤ num → shown_by (next (state_of next t) record { caller = k; serial = s; user = us; moment = moment; call = call }) ≡ std.Ok shown
+      → num ≡ number (state_of next t) → least ≤ num → shown_by (next (state_of next t) record { session = k; serial = s; user = us; moment = moment; call = call }) ≡ std.Ok shown
       → Added next l q t (entry_of q.known user moment call) (seat_pass zz o m2.0) × Wrote next number q.known least user moment call (std.Ok shown) (seat_pass zz o m2.0).known
-  writes l q z zz o m m1 m2 t n k s us user moment call least num shown is of origin had legal caller serial copied new left table counts judged told =
-      let e : Entry C = record { caller = k; serial = s; user = us; moment = moment; call = call } in
-      let same : e ≡ entry_of (seat_pass z o m.0).known user moment call = λ i. record { caller = caller i; serial = serial i; user = copied i; moment = moment; call = call } in
+  writes l q z zz o m m1 m2 t n k s us user moment call least num shown is of origin had legal session serial copied new left table counts judged told =
+      let e : Entry C = record { session = k; serial = s; user = us; moment = moment; call = call } in
+      let same : e ≡ entry_of (seat_pass z o m.0).known user moment call = λ i. record { session = session i; serial = serial i; user = copied i; moment = moment; call = call } in
       let whole : e ≡ entry_of q.known user moment call = same ∙ ap (λ (p : PassView S C). entry_of p.known user moment call) is in
       let now : seat_pass zz o m2.0 ≡ seat_pass z o (record m.0 { seen = n.journal; own = by m.0.number (drop m.0.start n.journal) }) = ap (λ y. seat_pass y o m2.0) table ∙ (ap (seat_pass z o) left ∙ ap (λ (u : View S C). seat_pass z o (record u { seen = n.journal; own = by u.number (drop u.start n.journal) })) had.1) in
       let a = added next l q z o m.0 t n user moment call e (seat_pass zz o m2.0) is of origin had.2 had.3 legal same new now in

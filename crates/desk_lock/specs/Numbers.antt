@@ -10,7 +10,7 @@ use Rattle.desk_model.specs.Histories.{is_by}
 unfoldable pub most_passes : ℕ
 most_passes = 4294967295
 
--- the entries of caller n
+-- the entries of session n
 abbrev pub by : {C : Type 0} → ℕ → List (Entry C) → List (Entry C)
 by n es = filter (is_by n) es
 
@@ -53,5 +53,5 @@ pub record Ranks {C : Type 0} (news : List (Entry C)) (cards : List (Card C)) : 
   pub one_first : (j : ℕ) (c : Card C) → get_elem? cards j ≡ some c → 0 < c.made → (j ≡ first) × (c.made ≡ made)
   pub kept : (j n : ℕ) (c : Card C) → get_elem? cards j ≡ some c → IsIn n (numbers c) → (keeper n ≡ j) × (n < made)
   pub apart : (j : ℕ) (c : Card C) → get_elem? cards j ≡ some c → AreApart (numbers c)
-  pub covered : (k : ℕ) (e : Entry C) → get_elem? news k ≡ some e → (j : ℕ) × (c : Card C) × (get_elem? cards j ≡ some c) × IsIn e.caller (numbers c)
+  pub covered : (k : ℕ) (e : Entry C) → get_elem? news k ≡ some e → (j : ℕ) × (c : Card C) × (get_elem? cards j ≡ some c) × IsIn e.session (numbers c)
   pub ended : (j k : ℕ) (c : Card C) (x : ℕ × List (Entry C)) → get_elem? cards j ≡ some c → get_elem? c.ended k ≡ some x → by x.0 news ≡ x.1

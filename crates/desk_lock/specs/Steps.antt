@@ -5,7 +5,7 @@ use Rattle.std.specs.Arc.{arc_value}
 use Rattle.std_alloc.specs.declared.arc.Arc.{Arc}
 use Rattle.atomic_table.specs.Table.{Me, Step, rest}
 use Rattle.desk_model.specs.declared.entry.Entry.{Entry}
-use Rattle.desk_model.specs.Histories.{History, CallersBelow}
+use Rattle.desk_model.specs.Histories.{History, SessionsBelow}
 use Rattle.desk_lock.specs.declared.board.View.{View}
 use Rattle.desk_lock.specs.declared.board.Turn.{Turn}
 use Rattle.desk_lock.specs.declared.board.Turn.TheVariants.{NoTurn, HasTurn, Committed}
@@ -20,12 +20,12 @@ abbrev pub Sat : Type 0 → Type 0 → Type 0 → Type 0
 Sat S C A = Me (Slot S C A) (View S C)
 
 module _ {S C : Type 0} where
-  -- the journal goes on from what the seat has seen, has the lock's beginning in it and no entry of the seat's number beside its own ones, and its callers and the seat's number are numbers of passes
+  -- the journal goes on from what the seat has seen, has the lock's beginning in it and no entry of the seat's number beside its own ones, and its sessions and the seat's number are numbers of passes
   pub record Follows (v : View S C) (journal : List (Entry C)) : Type 0 where
     pub seen : IsPrefix v.seen journal
     pub begun : v.start ≤ length journal
     pub mine : v.start ≤ length v.seen → by v.number (drop v.start v.seen) ≡ v.own → by v.number (drop v.start journal) ≡ v.own
-    pub below : CallersBelow most_passes (drop v.start journal)
+    pub below : SessionsBelow most_passes (drop v.start journal)
     pub number : v.number < most_passes
 
 module _ {C : Type 0} where

@@ -6,7 +6,7 @@ use lib.ListN.{get_elem?}
 use Rattle.std.specs.Prelude as std
 use Rattle.atomic_table.specs.Seated.{TableId}
 use Rattle.desk_model.specs.declared.entry.Entry.{Entry}
-use Rattle.desk_model.specs.Histories.{History, own, IsNumbered, CallersBelow}
+use Rattle.desk_model.specs.Histories.{History, own, IsNumbered, SessionsBelow}
 use Rattle.desk_model.specs.Desks.{Known, IsSound, with_seen}
 use Rattle.desk_lock.specs.declared.lock.SplitStop.{SplitStop}
 use Rattle.desk_lock.specs.declared.lock.SplitStop.TheVariants.{Many, Memory}
@@ -32,7 +32,7 @@ place_of z = z.words ∷ z.slots ∷ z.views_name ∷ z.atom ∷ z.block ∷ z.o
 module _ {S C : Type 0} where
   -- the first pass of a lock
   abbrev pub first_pass : LockView S C → PassView S C
-  first_pass l = record { table = l.table; known = record { opening = l.version.opening; base = length l.version.journal; caller = 0; seen = l.version.journal; own = [] }; made = 1; ended = [] }
+  first_pass l = record { table = l.table; known = record { opening = l.version.opening; base = length l.version.journal; session = 0; seen = l.version.journal; own = [] }; made = 1; ended = [] }
 
   -- the first pass, after it has made another
   abbrev pub with_one_more : PassView S C → PassView S C
@@ -40,7 +40,7 @@ module _ {S C : Type 0} where
 
   -- the pass that it makes: a new number, with what it has seen itself
   abbrev pub made_by : PassView S C → PassView S C
-  made_by p = record { table = p.table; known = record { opening = p.known.opening; base = p.known.base; caller = p.made; seen = p.known.seen; own = [] }; made = 0; ended = [] }
+  made_by p = record { table = p.table; known = record { opening = p.known.opening; base = p.known.base; session = p.made; seen = p.known.seen; own = [] }; made = 0; ended = [] }
 
   -- A new pass is made by the first one. Many comes exactly where all passes were made, and want of memory only where they weren't; then the first pass is as before.
   abbrev pub Splits : PassView S C → PassView S C → std.Result (PassView S C) SplitStop → Type 0
@@ -61,23 +61,23 @@ module _ {S C : Type 0} where
   -- the pass q ended into p: p has then seen the longer journal, and keeps the number and the entries of q, and those of the passes that had ended into q
   abbrev pub Retired : PassView S C → PassView S C → PassView S C → Type 0
   Retired p q p' = (IsPrefix p.known.seen q.known.seen ⊎ IsPrefix q.known.seen p.known.seen)
-      × (p' ≡ record { table = p.table; known = with_seen p.known (longer p.known.seen q.known.seen); made = p.made; ended = p.ended ++ (q.known.caller, q.known.own) ∷ q.ended })
+      × (p' ≡ record { table = p.table; known = with_seen p.known (longer p.known.seen q.known.seen); made = p.made; ended = p.ended ++ (q.known.session, q.known.own) ∷ q.ended })
 
-  -- What stands at the end, where all passes have ended into p. The version t is the lock's: its journal begins with all that p has seen, and its serials are those of its callers' writes.
+  -- What stands at the end, where all passes have ended into p. The version t is the lock's: its journal begins with all that p has seen, and its serials are those of its sessions' writes.
   -- The numbers of p and of the passes that ended into it are apart, each entry past the lock's beginning has one of them, and the entries of each number are the pass's own.
   pub record Closes (l : LockView S C) (p : PassView S C) (t : History S C) : Type 0 where
     pub opening : t.opening ≡ l.version.opening
     pub seen : IsPrefix p.known.seen t.journal
     pub serials : IsNumbered (length l.version.journal) t.journal
-    pub apart : AreApart (p.known.caller ∷ names p.ended)
-    pub mine : own (length l.version.journal) p.known.caller t.journal ≡ p.known.own
+    pub apart : AreApart (p.known.session ∷ names p.ended)
+    pub mine : own (length l.version.journal) p.known.session t.journal ≡ p.known.own
     pub ended : (k : ℕ) (x : ℕ × List (Entry C)) → get_elem? p.ended k ≡ some x → own (length l.version.journal) x.0 t.journal ≡ x.1
-    pub all : (k : ℕ) (e : Entry C) → get_elem? (drop (length l.version.journal) t.journal) k ≡ some e → IsIn e.caller (p.known.caller ∷ names p.ended)
+    pub all : (k : ℕ) (e : Entry C) → get_elem? (drop (length l.version.journal) t.journal) k ≡ some e → IsIn e.session (p.known.session ∷ names p.ended)
 
 -- the pass is one of this lock: it has the lock's opening and beginning, and what it knows is sound
 pub record IsOf {S C A X : Type 0} (next : S → Entry C → std.Result (S × A) X) (l : LockView S C) (p : PassView S C) : Type 0 where
   pub table : p.table ≡ l.table
   pub opening : p.known.opening ≡ l.version.opening
   pub base : p.known.base ≡ length l.version.journal
-  pub below : CallersBelow most_passes (drop p.known.base p.known.seen)
+  pub below : SessionsBelow most_passes (drop p.known.base p.known.seen)
   pub sound : IsSound next p.known

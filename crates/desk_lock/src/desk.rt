@@ -55,7 +55,7 @@ impl<'a, R: Wait + 'a, M: Machine + 'a, C: Clock + Drop + 'a> Desk for LockDesk<
 
     ghost words = { λ d. None };
 
-    ghost aside = { λ d. record { callers = most_passes; stands_for = [] } };
+    ghost aside = { λ d. record { sessions = most_passes; stands_for = [] } };
 
     fn moment(&mut self, leave: &mut &'a R) -> Moment {
         self.lock.moment(*leave)
@@ -79,7 +79,7 @@ impl<'a, R: Wait + 'a, M: Machine + 'a, C: Clock + Drop + 'a> Desk for LockDesk<
         self.lock.look(*leave, pass)
     }
 
-    fn caller(&self, pass: &Pass<M>) -> u32 {
+    fn session(&self, pass: &Pass<M>) -> u32 {
         pass.number()
     }
 

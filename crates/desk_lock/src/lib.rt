@@ -6,6 +6,7 @@ mod desk;
 mod lock;
 mod pass;
 mod plays;
+mod queue;
 mod seats;
 mod shelf;
 mod turn;

@@ -9,6 +9,7 @@ ghost use Rattle.desk_lock.specs.Words.{LockView, PassView, IsOf, place_of, Spli
 
 use crate::board::{Board, HOME, SHELVED};
 use crate::pass::Pass;
+use crate::queue::Queues;
 use crate::seats::{bear, catch_up, hear, take_in};
 use crate::shelf::{look_at_shelf, open_shelf, shut_shelf};
 use crate::turn::{learn, open, publish, shut};
@@ -42,6 +43,7 @@ pub enum SplitStop {
 #[derive(Drop)]
 pub struct Lock<M: Machine, C: Clock> {
     pub(crate) board: Board<M>,
+    queues: Queues,
     clock: Mutex<C>,
 }
 
@@ -80,6 +82,7 @@ impl<M: Machine, C: Clock + Drop> Lock<M, C> {
         Ok((
             Lock {
                 board,
+                queues: Queues::empty(),
                 clock: Mutex::new(clock),
             },
             Pass {
@@ -126,7 +129,7 @@ impl<M: Machine, C: Clock + Drop> Lock<M, C> {
         requires is_of { IsOf M.next self.now keep.old × IsOf M.next self.now gone }
         requires other { gone.made ≡ 0 }
         ensures retired { Retired keep.old gone keep.new }
-        ensures tally { (result.number ≡ gone.known.caller) × (result.seen ≡ length gone.known.seen)
+        ensures tally { (result.number ≡ gone.known.session) × (result.seen ≡ length gone.known.seen)
             × (result.own ≡ length gone.known.own) }
         ensures is_of { IsOf M.next self.now keep.new }
     {
@@ -178,36 +181,36 @@ impl<M: Machine, C: Clock + Drop> Lock<M, C> {
         };
         let top = &self.board.shared;
         let entry = Entry {
-            caller: pass.number,
+            session: pass.number,
             serial: pass.own,
             user,
             moment,
             call,
         };
-        let version = open(rt, top, &mut pass.place);
+        let version = open(rt, top, &self.queues, &mut pass.place);
         version.lawful();
         let number = version.number();
         let seen = version.len();
         if number < least {
             learn(top, &mut pass.place, &version);
-            shut(top, &mut pass.place, version);
+            shut(top, &self.queues, &mut pass.place, version);
             pass.seen = seen;
             return Err(Stop::Ahead { number });
         }
         match next_of(alloc, &version, entry) {
             Err(Halt::Memory) => {
-                shut(top, &mut pass.place, version);
+                shut(top, &self.queues, &mut pass.place, version);
                 Err(Stop::Memory)
             }
             Err(Halt::Refused(cause)) => {
                 learn(top, &mut pass.place, &version);
-                shut(top, &mut pass.place, version);
+                shut(top, &self.queues, &mut pass.place, version);
                 pass.seen = seen;
                 Err(Stop::Refused { cause, number })
             }
             Ok((next, again, shown)) => {
                 let len = next.len();
-                publish(rt, top, &mut pass.place, next, again, len);
+                publish(rt, top, &self.queues, &mut pass.place, next, again);
                 pass.seen = len;
                 pass.own += 1;
                 Ok(shown)
@@ -224,17 +227,17 @@ impl<M: Machine, C: Clock + Drop> Lock<M, C> {
         ensures is_of { IsOf M.next self.now pass.new }
     {
         let top = &self.board.shared;
-        let version = open_shelf(rt, top, &mut pass.place);
+        let version = open_shelf(rt, top, &self.queues, &mut pass.place);
         version.lawful();
         match Arc::try_clone(&version) {
             Ok(copy) => {
                 pass.seen = version.len();
                 look_at_shelf(top, &mut pass.place, &version);
-                shut_shelf(top, &mut pass.place, version);
+                shut_shelf(top, &self.queues, &mut pass.place, version);
                 Ok(Snapshot { version: copy })
             }
             Err(failed) => {
-                shut_shelf(top, &mut pass.place, version);
+                shut_shelf(top, &self.queues, &mut pass.place, version);
                 Err(failed)
             }
         }
@@ -261,7 +264,11 @@ impl<M: Machine, C: Clock + Drop> Lock<M, C> {
         requires all { pass.made ≡ 1 + length pass.ended }
         ensures { Closes self pass result.0 }
     {
-        let Lock { board, clock } = self;
+        let Lock {
+            board,
+            queues: _,
+            clock,
+        } = self;
         let Pass {
             place,
             began: _,

@@ -1,4 +1,4 @@
-//! A caller's token.
+//! A session's token.
 ghost use Rattle.std.specs.Prelude.{◌≡◌, length};
 
 use crate::board::Place;
@@ -28,7 +28,7 @@ impl<M: Machine> Model for Pass<M> {
 
     ghost view = { λ p. record {
       table = p.place.table_id;
-      known = record { opening = (arc_value p.began).opening; base = p.place.me.0.start; caller = p.place.me.0.number; seen = p.place.me.0.seen; own = p.place.me.0.own };
+      known = record { opening = (arc_value p.began).opening; base = p.place.me.0.start; session = p.place.me.0.number; seen = p.place.me.0.seen; own = p.place.me.0.own };
       made = p.place.me.0.made;
       ended = p.place.me.0.ended;
     } };
@@ -40,7 +40,7 @@ impl<M: Machine> Model for Pass<M> {
 impl<M: Machine> Pass<M> {
     /// Its number. It takes no memory.
     pub fn number(&self) -> u32
-        ensures { result ≡ self.now.known.caller }
+        ensures { result ≡ self.now.known.session }
     {
         self.number
     }

@@ -9,11 +9,12 @@ ghost use Rattle.atomic_table.specs.Table.{rest};
 
 use crate::board::{Place, SHELF, SHELF_NUMBER, SHELVED, Top};
 use crate::plays::{ClaimShelf, LookAtShelf, ReleaseShelf, StoreShelf};
+use crate::queue::Queues;
 use desk_model::{Machine, Version};
 use std::sync::{Arc, Wait};
 
 // Takes the shelf, with the version that stands on it.
-fn claim_shelf<M: Machine, R: Wait>(rt: &R, top: &Top<M>, place: &mut Place<M>)
+fn claim_shelf<M: Machine, R: Wait>(rt: &R, top: &Top<M>, queues: &Queues, place: &mut Place<M>)
     requires table { (place.old.table_id ≡ top.now.table_id) × IsSized top.now.table_id }
     requires ready { (place.old.me.0.live ≡ 1) × (place.old.me.0.shelf ≡ NoShelf) }
     ensures seat { (place.new.table_id ≡ place.old.table_id) × (place.new.id ≡ place.old.id) }
@@ -23,7 +24,7 @@ fn claim_shelf<M: Machine, R: Wait>(rt: &R, top: &Top<M>, place: &mut Place<M>)
         if top.compare_exchange::<ClaimShelf<M>>(place, SHELF, 0, 1) == 0 {
             return;
         }
-        top.park(rt, SHELF, 1);
+        queues.shelf.wait(rt, top, SHELF);
     }
     unreachable!()
 }
@@ -32,6 +33,7 @@ fn claim_shelf<M: Machine, R: Wait>(rt: &R, top: &Top<M>, place: &mut Place<M>)
 pub(crate) fn open_shelf<M: Machine, R: Wait>(
     rt: &R,
     top: &Top<M>,
+    queues: &Queues,
     place: &mut Place<M>,
 ) -> Arc<Version<M>>
     requires table { (place.old.table_id ≡ top.now.table_id) × IsSized top.now.table_id }
@@ -39,7 +41,7 @@ pub(crate) fn open_shelf<M: Machine, R: Wait>(
     ensures seat { (place.new.table_id ≡ place.old.table_id) × (place.new.id ≡ place.old.id) }
     ensures had { IsTaken place.old.me (arc_value result) place.new.me }
 {
-    claim_shelf(rt, top, place);
+    claim_shelf(rt, top, queues, place);
     let Some(version) = top.exchange(place, SHELVED, None) else {
         unreachable!()
     };
@@ -63,7 +65,12 @@ pub(crate) fn look_at_shelf<M: Machine>(
 }
 
 /// Puts the version on the shelf, and gives the shelf back.
-pub(crate) fn shut_shelf<M: Machine>(top: &Top<M>, place: &mut Place<M>, version: Arc<Version<M>>)
+pub(crate) fn shut_shelf<M: Machine>(
+    top: &Top<M>,
+    queues: &Queues,
+    place: &mut Place<M>,
+    version: Arc<Version<M>>,
+)
     requires table { (place.old.table_id ≡ top.now.table_id) × IsSized top.now.table_id }
     requires out { (place.old.me.0.shelf ≡ HasShelf (arc_value version).journal)
         × (Some (arc_value version).opening ≡ place.old.me.0.origin)
@@ -75,7 +82,7 @@ pub(crate) fn shut_shelf<M: Machine>(top: &Top<M>, place: &mut Place<M>, version
         unreachable!()
     };
     top.store::<ReleaseShelf<M>>(place, SHELF, 0);
-    top.wake_one(SHELF);
+    queues.shelf.call(top, SHELF);
 }
 
 // Stores the shelf's number.
@@ -101,6 +108,7 @@ fn store_number<M: Machine>(
 pub(crate) fn show<M: Machine, R: Wait>(
     rt: &R,
     top: &Top<M>,
+    queues: &Queues,
     place: &mut Place<M>,
     version: Arc<Version<M>>,
     number: u64,
@@ -114,7 +122,7 @@ pub(crate) fn show<M: Machine, R: Wait>(
     ensures shown { place.new.me
         ≡ (record place.old.me.0 { turn = HasTurn (arc_value version).journal }, place.old.me.1) }
 {
-    let _before = open_shelf(rt, top, place);
+    let _before = open_shelf(rt, top, queues, place);
     store_number(top, place, number, &version);
-    shut_shelf(top, place, version);
+    shut_shelf(top, queues, place, version);
 }

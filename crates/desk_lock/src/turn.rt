@@ -11,29 +11,13 @@ ghost use Rattle.desk_lock.specs.Steps.{Has, IsOpen};
 
 use crate::board::{COUNT, HOME, Place, TURN, Top};
 use crate::plays::{Claim, Commit, Learn, Release};
+use crate::queue::Queues;
 use crate::shelf::show;
 use desk_model::{Machine, Version};
-use std::hint::spin_loop;
 use std::sync::{Arc, Wait};
 
-/// How often a thread looks at the turn before it sleeps. A look and its pause take about 50 nanoseconds, and a short write as long as all.
-const LOOKS: u32 = 1000;
-
-// Whether the turn is seen free within so many looks. To wake a thread that sleeps takes longer than a short write.
-fn comes_free<M: Machine>(top: &Top<M>) -> bool
-    requires { IsSized top.now.table_id }
-{
-    for _ in 0..LOOKS {
-        if top.peek(TURN) == 0 {
-            return true;
-        }
-        spin_loop();
-    }
-    false
-}
-
-// Takes the turn, with the version at home.
-fn claim<M: Machine, R: Wait>(rt: &R, top: &Top<M>, place: &mut Place<M>)
+// Takes the turn. The next one wakes meanwhile.
+fn claim<M: Machine, R: Wait>(rt: &R, top: &Top<M>, queues: &Queues, place: &mut Place<M>)
     requires table { (place.old.table_id ≡ top.now.table_id) × IsSized top.now.table_id }
     requires ready { (place.old.me.0.live ≡ 1) × IsIdle place.old.me.0 × (place.old.me.1 ≡ []) }
     ensures seat { (place.new.table_id ≡ place.old.table_id) × (place.new.id ≡ place.old.id) }
@@ -41,11 +25,10 @@ fn claim<M: Machine, R: Wait>(rt: &R, top: &Top<M>, place: &mut Place<M>)
 {
     for _ in rt.forever() {
         if top.compare_exchange::<Claim<M>>(place, TURN, 0, 1) == 0 {
+            queues.turn.call(top, TURN);
             return;
         }
-        if !comes_free(top) {
-            top.park(rt, TURN, 1);
-        }
+        queues.turn.wait(rt, top, TURN);
     }
     unreachable!()
 }
@@ -54,6 +37,7 @@ fn claim<M: Machine, R: Wait>(rt: &R, top: &Top<M>, place: &mut Place<M>)
 pub(crate) fn open<M: Machine, R: Wait>(
     rt: &R,
     top: &Top<M>,
+    queues: &Queues,
     place: &mut Place<M>,
 ) -> Arc<Version<M>>
     requires table { (place.old.table_id ≡ top.now.table_id) × IsSized top.now.table_id }
@@ -61,7 +45,7 @@ pub(crate) fn open<M: Machine, R: Wait>(
     ensures seat { (place.new.table_id ≡ place.old.table_id) × (place.new.id ≡ place.old.id) }
     ensures had { IsOpen place.old.me (arc_value result) place.new.me }
 {
-    claim(rt, top, place);
+    claim(rt, top, queues, place);
     let Some(version) = top.exchange(place, HOME, None) else {
         unreachable!()
     };
@@ -81,7 +65,7 @@ pub(crate) fn learn<M: Machine>(top: &Top<M>, place: &mut Place<M>, version: &Ar
 }
 
 // Gives the turn back, with the version that is in hand.
-fn release<M: Machine>(top: &Top<M>, place: &mut Place<M>)
+fn release<M: Machine>(top: &Top<M>, queues: &Queues, place: &mut Place<M>)
     requires table { (place.old.table_id ≡ top.now.table_id) × IsSized top.now.table_id }
     requires out { (a : Arc (_) _) × (place.old.me.0.turn ≡ HasTurn (arc_value a).journal)
         × (Some (arc_value a).opening ≡ place.old.me.0.origin) × (place.old.me.1 ≡ (0, Some a) ∷ []) }
@@ -89,11 +73,16 @@ fn release<M: Machine>(top: &Top<M>, place: &mut Place<M>)
     ensures idle { place.new.me ≡ (record place.old.me.0 { turn = NoTurn }, []) }
 {
     top.store::<Release<M>>(place, TURN, 0);
-    top.wake_one(TURN);
+    queues.turn.call(top, TURN);
 }
 
 /// Puts the version back into its home, and gives the turn back.
-pub(crate) fn shut<M: Machine>(top: &Top<M>, place: &mut Place<M>, version: Arc<Version<M>>)
+pub(crate) fn shut<M: Machine>(
+    top: &Top<M>,
+    queues: &Queues,
+    place: &mut Place<M>,
+    version: Arc<Version<M>>,
+)
     requires table { (place.old.table_id ≡ top.now.table_id) × IsSized top.now.table_id }
     requires out { (place.old.me.0.turn ≡ HasTurn (arc_value version).journal)
         × (Some (arc_value version).opening ≡ place.old.me.0.origin) × (place.old.me.1 ≡ (0, None) ∷ []) }
@@ -104,23 +93,22 @@ pub(crate) fn shut<M: Machine>(top: &Top<M>, place: &mut Place<M>, version: Arc<
         unreachable!()
     };
     top.store::<Release<M>>(place, TURN, 0);
-    top.wake_one(TURN);
+    queues.turn.call(top, TURN);
 }
 
 // Puts the version in, which is one entry longer, and makes it the history. Answers the length of the history past the lock's beginning.
-fn commit<M: Machine>(top: &Top<M>, place: &mut Place<M>, version: Arc<Version<M>>, len: u64) -> u64
+fn commit<M: Machine>(top: &Top<M>, place: &mut Place<M>, version: Arc<Version<M>>) -> u64
     requires table { (place.old.table_id ≡ top.now.table_id) × IsSized top.now.table_id }
-    requires len { len ≡ length (arc_value version).journal }
     requires out { (h : List (Entry M.Call)) × (e : Entry M.Call) × (place.old.me.0.turn ≡ HasTurn h)
         × (Some (arc_value version).opening ≡ place.old.me.0.origin) × (place.old.me.1 ≡ (0, None) ∷ [])
-        × ((arc_value version).journal ≡ h ++ e ∷ []) × (e.caller ≡ place.old.me.0.number)
+        × ((arc_value version).journal ≡ h ++ e ∷ []) × (e.session ≡ place.old.me.0.number)
         × (e.serial ≡ length place.old.me.0.own) }
     ensures seat { (place.new.table_id ≡ place.old.table_id) × (place.new.id ≡ place.old.id) }
     ensures number { length (arc_value version).journal ≡ place.old.me.0.start + result }
     ensures done { place.new.me
         ≡ (record place.old.me.0 { seen = (arc_value version).journal; told = []; own = by place.old.me.0.number (drop place.old.me.0.start (arc_value version).journal); turn = Committed (arc_value version).journal }, (0, Some version) ∷ []) }
 {
-    let _ = len;
+    let _len = version.len();
     let None = top.exchange(place, HOME, Some(version)) else {
         unreachable!()
     };
@@ -132,24 +120,23 @@ fn commit<M: Machine>(top: &Top<M>, place: &mut Place<M>, version: Arc<Version<M
 pub(crate) fn publish<M: Machine, R: Wait>(
     rt: &R,
     top: &Top<M>,
+    queues: &Queues,
     place: &mut Place<M>,
     version: Arc<Version<M>>,
     again: Arc<Version<M>>,
-    len: u64,
 )
     requires table { (place.old.table_id ≡ top.now.table_id) × IsSized top.now.table_id }
-    requires len { len ≡ length (arc_value version).journal }
     requires same { arc_value again ≡ arc_value version }
     requires live { (place.old.me.0.live ≡ 1) × (place.old.me.0.shelf ≡ NoShelf) }
     requires out { (h : List (Entry M.Call)) × (e : Entry M.Call) × (place.old.me.0.turn ≡ HasTurn h)
         × (Some (arc_value version).opening ≡ place.old.me.0.origin) × (place.old.me.1 ≡ (0, None) ∷ [])
-        × ((arc_value version).journal ≡ h ++ e ∷ []) × (e.caller ≡ place.old.me.0.number)
+        × ((arc_value version).journal ≡ h ++ e ∷ []) × (e.session ≡ place.old.me.0.number)
         × (e.serial ≡ length place.old.me.0.own) }
     ensures seat { (place.new.table_id ≡ place.old.table_id) × (place.new.id ≡ place.old.id) }
     ensures idle { place.new.me
         ≡ (record place.old.me.0 { seen = (arc_value version).journal; told = []; own = by place.old.me.0.number (drop place.old.me.0.start (arc_value version).journal); turn = NoTurn }, []) }
 {
-    let number = commit(top, place, version, len);
-    show(rt, top, place, again, number);
-    release(top, place);
+    let number = commit(top, place, version);
+    show(rt, top, queues, place, again, number);
+    release(top, queues, place);
 }

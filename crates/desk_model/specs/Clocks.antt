@@ -1,10 +1,7 @@
 -- The moments that a clock's words stand for.
 use Rattle.std.specs.Prelude.{◌≡◌, ℕ, pos, min}
 use Rattle.cm_base.specs.declared.number.Moment.{Moment}
-
--- the last moment that has a form of text: the end of the year 9999, in milliseconds since 1970
-unfoldable pub last_moment : ℕ
-last_moment = 253402300799999
+use Rattle.cm_base.specs.Moments.{last_moment}
 
 -- the moment of a clock's word; a later one counts as the last moment
 abbrev pub moment_of : ℕ → Moment

@@ -11,37 +11,37 @@ use Rattle.desk_model.specs.Histories.{History, replay, IsLegal, own, CountsFrom
 pub record Known (S C : Type 0) : Type 0 where
   pub opening : S
   pub base : ℕ
-  pub caller : ℕ
+  pub session : ℕ
   pub seen : List (Entry C)
   pub own : List (Entry C)
 
--- what no call of a desk changes: the number below which the callers of its entries are, and the references that it holds, by their ghost names
+-- what no call of a desk changes: the number below which the sessions of its entries are, and the references that it holds, by their ghost names
 pub record KeptByCalls : Type 0 where
-  pub callers : ℕ
+  pub sessions : ℕ
   pub stands_for : List ℕ
 
 -- what the pass n knows that has seen the version v, at a desk that began with b entries
 abbrev pub known_at : {S C : Type 0} → ℕ → ℕ → History S C → Known S C
-known_at b n v = record { opening = v.opening; base = b; caller = n; seen = v.journal; own = own b n v.journal }
+known_at b n v = record { opening = v.opening; base = b; session = n; seen = v.journal; own = own b n v.journal }
 
 -- what holds of each pass: what it has seen is legal and has the desk's beginning in it, and its own entries are those with its number past that beginning, numbered from 0
 pub record IsSound {S C A X : Type 0} (next : S → Entry C → Result (S × A) X) (k : Known S C) : Type 0 where
   pub lawful : IsLegal next k.opening k.seen
   pub begun : k.base ≤ length k.seen
-  pub mine : own k.base k.caller k.seen ≡ k.own
+  pub mine : own k.base k.session k.seen ≡ k.own
   pub serials : CountsFrom 0 k.own
 
 -- the entry that a pass would add: its number, and its next serial
 abbrev pub entry_of : {S C : Type 0} → Known S C → List ℕ → Moment → C → Entry C
-entry_of k user moment call = record { caller = k.caller; serial = length k.own; user = user; moment = moment; call = call }
+entry_of k user moment call = record { session = k.session; serial = length k.own; user = user; moment = moment; call = call }
 
 -- the pass, with the journal g seen
 abbrev pub with_seen : {S C : Type 0} → Known S C → List (Entry C) → Known S C
-with_seen k g = record { opening = k.opening; base = k.base; caller = k.caller; seen = g; own = k.own }
+with_seen k g = record { opening = k.opening; base = k.base; session = k.session; seen = g; own = k.own }
 
 -- the pass, with the journal g and its new entry after it seen
 abbrev pub with_entry : {S C : Type 0} → Known S C → List (Entry C) → Entry C → Known S C
-with_entry k g e = record { opening = k.opening; base = k.base; caller = k.caller; seen = g ++ e ∷ []; own = k.own ++ e ∷ [] }
+with_entry k g e = record { opening = k.opening; base = k.base; session = k.session; seen = g ++ e ∷ []; own = k.own ++ e ∷ [] }
 
 -- What a write tells. The journal g at which it was judged begins with all that the pass had seen.
 -- Accepted: the number asked for isn't ahead there, the machine shows this of the entry there, and the pass has seen g with the entry, which is its own.

@@ -36,11 +36,11 @@ state_of next v = replay next v.opening v.journal
 abbrev pub grown : {S C : Type 0} → History S C → Entry C → History S C
 grown v e = record { opening = v.opening; journal = v.journal ++ e ∷ [] }
 
--- the entry is one of caller n
+-- the entry is one of session n
 abbrev pub is_by : {C : Type 0} → ℕ → Entry C → Bool
-is_by n e = e.caller == n
+is_by n e = e.session == n
 
--- the entries of caller n past the first b places
+-- the entries of session n past the first b places
 abbrev pub own : {C : Type 0} → ℕ → ℕ → List (Entry C) → List (Entry C)
 own b n h = filter (is_by n) (drop b h)
 
@@ -49,11 +49,11 @@ abbrev pub CountsFrom : {C : Type 0} → ℕ → List (Entry C) → Type 0
 CountsFrom k [] = Unit {0}
 CountsFrom k (e ∷ es) = (e.serial ≡ k) × CountsFrom (k + 1) es
 
--- past the first b places the serials of each caller are 0, 1, 2 and so on
+-- past the first b places the serials of each session are 0, 1, 2 and so on
 abbrev pub IsNumbered : {C : Type 0} → ℕ → List (Entry C) → Type 0
 IsNumbered b h = (n : ℕ) → CountsFrom 0 (own b n h)
 
--- all callers are below n
-abbrev pub CallersBelow : {C : Type 0} → ℕ → List (Entry C) → Type 0
-CallersBelow n [] = Unit {0}
-CallersBelow n (e ∷ es) = (e.caller < n) × CallersBelow n es
+-- all sessions are below n
+abbrev pub SessionsBelow : {C : Type 0} → ℕ → List (Entry C) → Type 0
+SessionsBelow n [] = Unit {0}
+SessionsBelow n (e ∷ es) = (e.session < n) × SessionsBelow n es

@@ -5,7 +5,7 @@ use Rattle.outside.specs.Clocks.{Words}
 use Rattle.desk_model.specs.declared.entry.Entry.{Entry}
 use Rattle.desk_model.specs.declared.machine.Stop.{Stop}
 use Rattle.desk_model.specs.declared.machine.Stop.TheVariants.{Refused, Ahead, Memory}
-use Rattle.desk_model.specs.Histories.{History, own, CallersBelow}
+use Rattle.desk_model.specs.Histories.{History, own, SessionsBelow}
 use Rattle.desk_model.specs.Desks.{Known, KeptByCalls, IsSound}
 
 -- a desk of one thread: its opening, its journal and the journal's length at the beginning, the number of passes made, the clock's words, and the references that the clock holds
@@ -35,17 +35,17 @@ the_place p = []
 
 -- what no call of a desk of one thread changes
 abbrev pub kept_by_calls : {S C : Type 0} → Single S C → KeptByCalls
-kept_by_calls d = record { callers = d.made; stands_for = d.stands_for }
+kept_by_calls d = record { sessions = d.made; stands_for = d.stands_for }
 
 -- the pass is one of the desk, and all entries of its number in the desk's journal are its own
 pub record IsOf {S C A X : Type 0} (next : S → Entry C → Result (S × A) X) (d : Single S C) (p : Known S C) : Type 0 where
   pub opening : p.opening ≡ d.opening
   pub base : p.base ≡ d.base
-  pub made : p.caller < d.made
+  pub made : p.session < d.made
   pub seen : IsPrefix p.seen d.journal
-  pub all : own p.base p.caller d.journal ≡ p.own
-  pub few : CallersBelow d.made (drop d.base d.journal)
-  pub below : CallersBelow d.made (drop p.base p.seen)
+  pub all : own p.base p.session d.journal ≡ p.own
+  pub few : SessionsBelow d.made (drop d.base d.journal)
+  pub below : SessionsBelow d.made (drop p.base p.seen)
   pub sound : IsSound next p
 
 -- what a write does at this desk: an accepted one puts its entry at the journal's end, every other leaves the desk as it was; the pass has then seen the whole journal, but where memory was wanted

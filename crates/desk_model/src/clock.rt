@@ -1,14 +1,11 @@
 //! The moments of a clock's words.
 ghost use Rattle.std.specs.Prelude.{◌≡◌};
-ghost use Rattle.desk_model.specs.Clocks.{moment_of, last_moment, IsOfWord};
+ghost use Rattle.desk_model.specs.Clocks.{moment_of, IsOfWord};
 
-use cm_base::number::Moment;
-
-/// The end of the year 9999: the last moment that has a form of text, in milliseconds since 1970.
-pub const LAST_MOMENT_MS: u64 = 253402300799999;
+use cm_base::number::{LAST_MOMENT_MS, Moment};
 
 // The moment of a word.
-#[tactic(auto, unfolding(crate::specs::Clocks::last_moment))]
+#[tactic(auto, unfolding(cm_base::specs::Moments::last_moment))]
 fn capped(word: u64) -> Moment
     ensures { result ≡ moment_of word }
 {

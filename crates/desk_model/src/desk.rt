@@ -2,7 +2,7 @@
 ghost use Rattle.std.specs.Prelude.{◌≡◌, ◌≢◌, ℕ, List, Option, Some, IfSome, MatchResult, Result, drop};
 ghost use Rattle.outside.specs.Clocks.{Words, first_word, rest_words};
 ghost use Rattle.desk_model.specs.Clocks.{moment_of, IsOfWord};
-ghost use Rattle.desk_model.specs.Histories.{CallersBelow};
+ghost use Rattle.desk_model.specs.Histories.{SessionsBelow};
 ghost use Rattle.desk_model.specs.Desks.{Known, KeptByCalls, IsSound, Wrote, Looked};
 
 use crate::machine::{Machine, Stop};
@@ -31,7 +31,7 @@ pub trait Desk {
     /// The words of the clock that are still to come, where the desk tells them.
     ghost words: { Self → Option Words };
 
-    /// What no call changes: the number below which all callers of entries past a pass's base are, and the references that the desk holds, by their ghost names.
+    /// What no call changes: the number below which all sessions of entries past a pass's base are, and the references that the desk holds, by their ghost names.
     ghost aside: { Self → KeptByCalls };
 
     /// The moment of the clock's next word; at a desk that tells no words it is that of some word. No other call takes one.
@@ -58,7 +58,7 @@ pub trait Desk {
         ensures is_of { is_of self.new pass.new }
         ensures place { place pass.new ≡ place pass.old }
         ensures aside { aside self.new ≡ aside self.old }
-        ensures passes { (p : Self.Pass) → (known p).caller ≢ (known pass.old).caller → is_of self.old p → is_of self.new p };
+        ensures passes { (p : Self.Pass) → (known p).session ≢ (known pass.old).session → is_of self.old p → is_of self.new p };
 
     /// A version whose journal begins with all that the pass had seen.
     fn look(
@@ -75,12 +75,12 @@ pub trait Desk {
         ensures passes { (p : Self.Pass) → is_of self.old p → is_of self.new p };
 
     /// The pass's number. It takes no memory.
-    fn caller(&self, pass: &Self::Pass) -> u32
+    fn session(&self, pass: &Self::Pass) -> u32
         requires { is_of self.now pass.now }
-        ensures { result ≡ (known pass.now).caller };
+        ensures { result ≡ (known pass.now).session };
 
-    /// The callers of what a pass of the desk sees past its base.
-    ghost below: { (d : Self) (p : Self.Pass) → is_of d p → CallersBelow (aside d).callers (drop (known p).base (known p).seen) };
+    /// The sessions of what a pass of the desk sees past its base.
+    ghost below: { (d : Self) (p : Self.Pass) → is_of d p → SessionsBelow (aside d).sessions (drop (known p).base (known p).seen) };
 
     /// Each pass of a desk is sound.
     ghost sound: { (d : Self) (p : Self.Pass) → is_of d p → IsSound Self.Kind.next (known p) };

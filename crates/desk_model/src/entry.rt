@@ -5,9 +5,9 @@ use cm_base::text::Text;
 /// An accepted write: who made it, which of his writes it is, for which user, when, and what it asked.
 #[derive(Drop)]
 pub struct Entry<C> {
-    /// The number of the pass that made it.
-    pub caller: u32,
-    /// How many entries this caller had made before.
+    /// The number of the session that made it.
+    pub session: u32,
+    /// How many entries this session had made before.
     pub serial: u64,
     pub user: Text,
     pub moment: Moment,

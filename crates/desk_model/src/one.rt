@@ -45,8 +45,8 @@ impl<M: Machine> Model for OnePass<M> {
 impl<M: Machine> OnePass<M> {
     // Sees a journal with as many entries of its own.
     fn see(&mut self, version: Arc<Version<M>>)
-        requires { length (own self.old.base self.old.caller (arc_value version).journal) ≡ length self.old.own }
-        ensures { self.new ≡ known_at self.old.base self.old.caller (arc_value version) }
+        requires { length (own self.old.base self.old.session (arc_value version).journal) ≡ length self.old.own }
+        ensures { self.new ≡ known_at self.old.base self.old.session (arc_value version) }
     {
         self.seen = version;
     }
@@ -62,7 +62,7 @@ impl<M: Machine> OnePass<M> {
         ensures { IfOk result (λ e. e ≡ entry_of self.now user.now moment call) }
     {
         Ok(Entry {
-            caller: self.number,
+            session: self.number,
             serial: self.serial,
             user: user.copied(alloc)?,
             moment,
@@ -72,8 +72,8 @@ impl<M: Machine> OnePass<M> {
 
     // Sees a journal with one more entry of its own.
     fn add(&mut self, version: Arc<Version<M>>)
-        requires { length (own self.old.base self.old.caller (arc_value version).journal) ≡ length self.old.own + 1 }
-        ensures { self.new ≡ known_at self.old.base self.old.caller (arc_value version) }
+        requires { length (own self.old.base self.old.session (arc_value version).journal) ≡ length self.old.own + 1 }
+        ensures { self.new ≡ known_at self.old.base self.old.session (arc_value version) }
     {
         let _len = version.len();
         self.serial += 1;
@@ -93,14 +93,14 @@ pub struct OneDesk<M: Machine, C: Clock> {
 impl<M: Machine, C: Clock> Model for OneDesk<M, C> {
     ghost use Rattle.std.specs.Prelude.{◌≤◌, length, drop};
     ghost use Rattle.std.specs.Arc.{arc_value};
-    ghost use Rattle.desk_model.specs.Histories.{CallersBelow};
+    ghost use Rattle.desk_model.specs.Histories.{SessionsBelow};
     ghost use Rattle.desk_model.specs.Single.{Single, single_at};
 
     ghost Value = { Single M.State M.Call };
 
     ghost view = { λ d. single_at (arc_value d.version) d.base d.made (C.words d.clock) (C.stands_for d.clock) };
 
-    ghost invariant = { λ d. (d.base ≤ length (arc_value d.version).journal) × CallersBelow d.made (drop d.base (arc_value d.version).journal) };
+    ghost invariant = { λ d. (d.base ≤ length (arc_value d.version).journal) × SessionsBelow d.made (drop d.base (arc_value d.version).journal) };
 }
 
 impl<M: Machine, C: Clock + Drop> OneDesk<M, C> {
@@ -121,7 +121,7 @@ impl<M: Machine, C: Clock + Drop> OneDesk<M, C> {
     /// A new pass: it has the next number, from 0 on, has seen the whole journal and has no own entries.
     pub fn pass(&mut self) -> Result<OnePass<M>, AllocError>
         requires { self.old.made < 4294967295 }
-        ensures ok { IfOk result (λ p. IsOf M.next self.new p × (p.base ≡ self.old.base) × (p.opening ≡ self.old.opening) × (p.caller ≡ self.old.made) × (p.seen ≡ self.old.journal) × (p.own ≡ [])) }
+        ensures ok { IfOk result (λ p. IsOf M.next self.new p × (p.base ≡ self.old.base) × (p.opening ≡ self.old.opening) × (p.session ≡ self.old.made) × (p.seen ≡ self.old.journal) × (p.own ≡ [])) }
         ensures made { OnOk result (self.new ≡ with_made self.old (self.old.made + 1)) }
         ensures passes { OnOk result ((p : Known M.State M.Call) → IsOf M.next self.old p → IsOf M.next self.new p) }
         ensures err { OnErr result (self.new ≡ self.old) }
@@ -192,7 +192,7 @@ impl<M: Machine, C: Clock> Desk for OneDesk<M, C> {
         ensures is_of { IsOf M.next self.new pass.new }
         ensures place { the_place pass.new ≡ the_place pass.old }
         ensures aside { kept_by_calls self.new ≡ kept_by_calls self.old }
-        ensures passes { (p : Known M.State M.Call) → p.caller ≢ pass.old.caller → IsOf M.next self.old p → IsOf M.next self.new p }
+        ensures passes { (p : Known M.State M.Call) → p.session ≢ pass.old.session → IsOf M.next self.old p → IsOf M.next self.new p }
     {
         self.version.lawful();
         let Ok(seen) = Arc::try_clone(&self.version) else {
@@ -238,7 +238,7 @@ impl<M: Machine, C: Clock> Desk for OneDesk<M, C> {
         Ok(Snapshot { version })
     }
 
-    fn caller(&self, pass: &OnePass<M>) -> u32 {
+    fn session(&self, pass: &OnePass<M>) -> u32 {
         pass.number
     }
 

@@ -37,10 +37,10 @@ module _ {C : Type 0} where
   rest_of false x l e = e
 
   -- who has an entry has one
-  has_one : (h : List (Entry C)) (k : ℕ) (e : Entry C) → get_elem? h k ≡ some e → filter (is_by e.caller) h ≢ []
+  has_one : (h : List (Entry C)) (k : ℕ) (e : Entry C) → get_elem? h k ≡ some e → filter (is_by e.session) h ≢ []
   has_one [] k e at none = absurd (some-ne-none e (sym at))
-  has_one (x ∷ h) zero e at none = picked (eqb x.caller e.caller) x (filter (is_by e.caller) h) (eq-eqb x.caller e.caller (ap (λ (y : Entry C). y.caller) (some-injective x e at))) none
-  has_one (x ∷ h) (suc k) e at none = has_one h k e at (rest_of (eqb x.caller e.caller) x (filter (is_by e.caller) h) none)
+  has_one (x ∷ h) zero e at none = picked (eqb x.session e.session) x (filter (is_by e.session) h) (eq-eqb x.session e.session (ap (λ (y : Entry C). y.session) (some-injective x e at))) none
+  has_one (x ∷ h) (suc k) e at none = has_one h k e at (rest_of (eqb x.session e.session) x (filter (is_by e.session) h) none)
 
 module _ {S C Q L : Type 0} (t : Terms S C Q L) where
   -- what a session was over a history it is over each longer one in which its own entries are the same
@@ -71,18 +71,18 @@ module _ {S C Q L : Type 0} (t : Terms S C Q L) (l : LockView S C) (stands : Sta
 
   covers : (p : PassView S C) (last : History S C) (ended : List (Ended L)) (rest : List ℕ) → l.version.journal ≡ [] → Closes l p last → p.known.own ≡ [] → names p.ended ≡ map number_of ended ++ rest
       → ((n : ℕ) → IsIn n rest → (j : ℕ) × (get_elem? p.ended j ≡ some (n, [])))
-      → (k : ℕ) (e : Entry C) → get_elem? last.journal k ≡ some e → (i : ℕ) → get_elem? (p.known.caller ∷ names p.ended) i ≡ some e.caller → IsIn e.caller (map number_of ended)
+      → (k : ℕ) (e : Entry C) → get_elem? last.journal k ≡ some e → (i : ℕ) → get_elem? (p.known.session ∷ names p.ended) i ≡ some e.session → IsIn e.session (map number_of ended)
   covers p last ended rest empty c idle numbers resting k e at zero is =
-      let same : p.known.caller ≡ e.caller = some-injective p.known.caller e.caller is in
+      let same : p.known.session ≡ e.session = some-injective p.known.session e.session is in
       let base : length l.version.journal ≡ 0 = ap length empty in
-      absurd (has_one last.journal k e at (ap (λ (m : ℕ). own 0 m last.journal) (sym same) ∙ (ap (λ (b : ℕ). own b p.known.caller last.journal) (sym base) ∙ (c.mine ∙ idle))))
+      absurd (has_one last.journal k e at (ap (λ (m : ℕ). own 0 m last.journal) (sym same) ∙ (ap (λ (b : ℕ). own b p.known.session last.journal) (sym base) ∙ (c.mine ∙ idle))))
   covers p last ended rest empty c idle numbers resting k e at (suc i) is =
       let base : length l.version.journal ≡ 0 = ap length empty in
-      ⊎_elim (λ (u : get_elem? (map number_of ended) i ≡ some e.caller). (i, u))
-      (λ (u : (k : ℕ) × (get_elem? rest k ≡ some e.caller)).
-      let j = resting e.caller u in
-      absurd (has_one last.journal k e at (ap (λ (b : ℕ). own b e.caller last.journal) (sym base) ∙ c.ended j.0 (e.caller, []) j.1)))
-      (at_append (map number_of ended) rest i e.caller (ap (λ m. get_elem? m i) (sym numbers) ∙ is))
+      ⊎_elim (λ (u : get_elem? (map number_of ended) i ≡ some e.session). (i, u))
+      (λ (u : (k : ℕ) × (get_elem? rest k ≡ some e.session)).
+      let j = resting e.session u in
+      absurd (has_one last.journal k e at (ap (λ (b : ℕ). own b e.session last.journal) (sym base) ∙ c.ended j.0 (e.session, []) j.1)))
+      (at_append (map number_of ended) rest i e.session (ap (λ m. get_elem? m i) (sym numbers) ∙ is))
 
   pub closed : (p : PassView S C) (last : History S C) (ended : List (Ended L)) → IsDone t l p ended → Closes l p last → IsLegal t.kind.next last.opening last.journal → Closed t l.version.opening last ended
   closed p last ended d c lawful =
@@ -94,7 +94,7 @@ module _ {S C Q L : Type 0} (t : Terms S C Q L) (l : LockView S C) (stands : Sta
         numbers = (λ i j n a b.
             let up = λ (k : ℕ) (q : get_elem? (map number_of ended) k ≡ some n). ap (λ m. get_elem? m k) d.numbers ∙ get_left (map number_of ended) d.rest k n q in
             let e : suc i ≡ suc j = c.apart (suc i) (suc j) n (up i a) (up j b) in omega arith);
-        callers = (λ k e at. let q = c.all k e (ap (λ (b : ℕ). get_elem? (drop b last.journal) k) base ∙ at) in covers p last ended d.rest d.empty c d.idle d.numbers d.resting k e at q.0 q.1);
+        sessions = (λ k e at. let q = c.all k e (ap (λ (b : ℕ). get_elem? (drop b last.journal) k) base ∙ at) in covers p last ended d.rest d.empty c d.idle d.numbers d.resting k e at q.0 q.1);
         places = d.places;
         served = All-weaker (IsNoted t p) (IsServed t l.version.opening last.journal) (serves p last d.empty d.is_of c) ended d.noted;
       }
@@ -125,18 +125,18 @@ module _ {S C Q L : Type 0} (t : Terms S C Q L) (l : LockView S C) where
   pub done_with : (p r q : PassView S C) (ended : List (Ended L)) (held : ℕ → ℕ) (n : ℕ) → ((k : ℕ) → held k ≡ 0) → Keeps t l p ended held 0 1 n → IsFresh t.kind.next l r → IsOf t.kind.next l q → Retired p r q → IsDone t l q ended
   done_with p r q ended held n none k fresh of_ retired =
       let same = retired.1 in
-      let ends : q.ended ≡ p.ended ++ (r.known.caller, []) ∷ [] = ap (λ (y : PassView S C). y.ended) same ∙ ap (λ (y : List (Entry C) × List (ℕ × List (Entry C))). p.ended ++ (r.known.caller, y.0) ∷ y.1) (λ i. (fresh.own i, fresh.ended i)) in
+      let ends : q.ended ≡ p.ended ++ (r.known.session, []) ∷ [] = ap (λ (y : PassView S C). y.ended) same ∙ ap (λ (y : List (Entry C) × List (ℕ × List (Entry C))). p.ended ++ (r.known.session, y.0) ∷ y.1) (λ i. (fresh.own i, fresh.ended i)) in
       let seen : q.known.seen ≡ longer p.known.seen r.known.seen = ap (λ (y : PassView S C). y.known.seen) same in
       let grows : IsPrefix p.known.seen q.known.seen = subst (λ g. IsPrefix p.known.seen g) (sym seen) (begin_longer p.known.seen r.known.seen retired.0).0 in
       record {
         empty = k.empty;
         is_of = of_;
         idle = ap (λ (y : PassView S C). y.known.own) same ∙ k.idle;
-        made = (let a = ap (λ (y : PassView S C). y.made) same in let b = ap length ends in let m = k.made in omega (arith, length-append p.ended ((r.known.caller, []) ∷ [])));
-        rest = r.known.caller ∷ [];
-        numbers = ap names ends ∙ (names_append p.ended ((r.known.caller, []) ∷ []) ∙ ap (λ e. e ++ r.known.caller ∷ []) (sym k.numbers));
-        resting = (λ n i. (length p.ended, ap (λ e. get_elem? e (length p.ended)) ends ∙ (get_mid p.ended [] (r.known.caller, []) ∙ ap (λ (m : ℕ). some (m, [])) (only r.known.caller n i.0 i.1))));
-        noted = All-weaker (IsNoted t p) (IsNoted t q) (kept_note t p q ((r.known.caller, []) ∷ []) (ap (λ (y : PassView S C). y.known.opening) same) grows ends) ended k.noted;
+        made = (let a = ap (λ (y : PassView S C). y.made) same in let b = ap length ends in let m = k.made in omega (arith, length-append p.ended ((r.known.session, []) ∷ [])));
+        rest = r.known.session ∷ [];
+        numbers = ap names ends ∙ (names_append p.ended ((r.known.session, []) ∷ []) ∙ ap (λ e. e ++ r.known.session ∷ []) (sym k.numbers));
+        resting = (λ n i. (length p.ended, ap (λ e. get_elem? e (length p.ended)) ends ∙ (get_mid p.ended [] (r.known.session, []) ∙ ap (λ (m : ℕ). some (m, [])) (only r.known.session n i.0 i.1))));
+        noted = All-weaker (IsNoted t p) (IsNoted t q) (kept_note t p q ((r.known.session, []) ∷ []) (ap (λ (y : PassView S C). y.known.opening) same) grows ends) ended k.noted;
         places = all_places ended held n none k.total k.places;
       }
 

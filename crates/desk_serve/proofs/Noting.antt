@@ -39,11 +39,11 @@ module _ {S C Q L : Type 0} (t : Terms S C Q L) where
 
 module _ {S C Q L : Type 0} (t : Terms S C Q L) (l : LockView S C) where
   -- the session that is over, as a note over what its pass has seen
-  served_one : (r : PassView S C) (x : Ended L) (o : S) → IsHeld t l x.place x.before r x.link x.outcome → l.version.opening ≡ o → x.number ≡ r.known.caller → x.after ≡ length r.known.seen → IsServed t o r.known.seen x
+  served_one : (r : PassView S C) (x : Ended L) (o : S) → IsHeld t l x.place x.before r x.link x.outcome → l.version.opening ≡ o → x.number ≡ r.known.session → x.after ≡ length r.known.seen → IsServed t o r.known.seen x
   served_one r x o h opens number after =
       let said = h.over.talked in
       let opening : h.pass.known.opening ≡ o = sym said.opening ∙ (h.over.is_of.opening ∙ opens) in
-      let caller : h.pass.known.caller ≡ x.number = sym said.caller ∙ sym number in
+      let session : h.pass.known.session ≡ x.number = sym said.number ∙ sym number in
       record {
         from = h.from;
         given = h.given;
@@ -55,15 +55,15 @@ module _ {S C Q L : Type 0} (t : Terms S C Q L) (l : LockView S C) where
         took = said.took;
         session = subst (λ (m : ℕ). Session t.kind (setting_of o t.users x) m r.known.seen said.input (t.source x.link).ended said.output said.times (rose (t.source h.from).faults (t.source x.link).faults) (rose (t.sink h.from).faults (t.sink x.link).faults) x.outcome) (sym after)
             (subst (λ (s : Setting S). Session t.kind s (length r.known.seen) r.known.seen said.input (t.source x.link).ended said.output said.times (rose (t.source h.from).faults (t.source x.link).faults) (rose (t.sink h.from).faults (t.sink x.link).faults) x.outcome)
-            (λ i. record { opening = opening i; users = t.users; number = caller i; before = sym h.before_is i }) said.session);
+            (λ i. record { opening = opening i; users = t.users; number = session i; before = sym h.before_is i }) said.session);
       }
 
   pub noted_one : (p r q : PassView S C) (ended ended' : List (Ended L)) (x : Ended L) (held : ℕ → ℕ) (running spare n : ℕ)
-      → IsHeld t l x.place x.before r x.link x.outcome → x.number ≡ r.known.caller → x.after ≡ length r.known.seen
+      → IsHeld t l x.place x.before r x.link x.outcome → x.number ≡ r.known.session → x.after ≡ length r.known.seen
       → IsOf t.kind.next l q → Retired p r q → ended' ≡ ended ++ x ∷ [] → Keeps t l p ended (and_at x.place held) (running + 1) spare n → Keeps t l q ended' held running spare n
   noted_one p r q ended ended' x held running spare n h number after of_ retired is k =
       let same = retired.1 in
-      let ends : q.ended ≡ p.ended ++ (r.known.caller, r.known.own) ∷ [] = ap (λ (y : PassView S C). y.ended) same ∙ ap (λ e. p.ended ++ (r.known.caller, r.known.own) ∷ e) h.over.ended in
+      let ends : q.ended ≡ p.ended ++ (r.known.session, r.known.own) ∷ [] = ap (λ (y : PassView S C). y.ended) same ∙ ap (λ e. p.ended ++ (r.known.session, r.known.own) ∷ e) h.over.ended in
       let seen : q.known.seen ≡ longer p.known.seen r.known.seen = ap (λ (y : PassView S C). y.known.seen) same in
       let begins = begin_longer p.known.seen r.known.seen retired.0 in
       let grows : IsPrefix p.known.seen q.known.seen = subst (λ g. IsPrefix p.known.seen g) (sym seen) begins.0 in
@@ -75,17 +75,17 @@ module _ {S C Q L : Type 0} (t : Terms S C Q L) (l : LockView S C) where
         mine = r.known.own;
         at = length p.ended;
         seen = there;
-        tallied = ap (λ e. get_elem? e (length p.ended)) ends ∙ (get_mid p.ended [] (r.known.caller, r.known.own) ∙ ap (λ (m : ℕ). some (m, r.known.own)) (sym number));
-        owns = ap (λ (m : ℕ). own 0 m r.known.seen) number ∙ (ap (λ (b : ℕ). own b r.known.caller r.known.seen) (sym base) ∙ h.over.is_of.sound.mine);
+        tallied = ap (λ e. get_elem? e (length p.ended)) ends ∙ (get_mid p.ended [] (r.known.session, r.known.own) ∙ ap (λ (m : ℕ). some (m, r.known.own)) (sym number));
+        owns = ap (λ (m : ℕ). own 0 m r.known.seen) number ∙ (ap (λ (b : ℕ). own b r.known.session r.known.seen) (sym base) ∙ h.over.is_of.sound.mine);
         served = served_one r x q.known.opening h (sym of_.opening) number after;
       } in
       record {
         empty = k.empty;
         is_of = of_;
         idle = ap (λ (y : PassView S C). y.known.own) same ∙ k.idle;
-        made = (let a = ap (λ (y : PassView S C). y.made) same in let b = ap length ends in let m = k.made in omega (arith, length-append p.ended ((r.known.caller, r.known.own) ∷ [])));
-        numbers = ap (map number_of) is ∙ (map-append number_of ended (x ∷ []) ∙ (ap (λ e. e ++ x.number ∷ []) k.numbers ∙ (ap (λ (m : ℕ). names p.ended ++ m ∷ []) number ∙ (sym (names_append p.ended ((r.known.caller, r.known.own) ∷ [])) ∙ ap names (sym ends)))));
-        noted = subst (All (IsNoted t q)) (sym is) (All-push (IsNoted t q) ended x (kept_notes t p q ((r.known.caller, r.known.own) ∷ []) ended opens grows ends k.noted) one);
+        made = (let a = ap (λ (y : PassView S C). y.made) same in let b = ap length ends in let m = k.made in omega (arith, length-append p.ended ((r.known.session, r.known.own) ∷ [])));
+        numbers = ap (map number_of) is ∙ (map-append number_of ended (x ∷ []) ∙ (ap (λ e. e ++ x.number ∷ []) k.numbers ∙ (ap (λ (m : ℕ). names p.ended ++ m ∷ []) number ∙ (sym (names_append p.ended ((r.known.session, r.known.own) ∷ [])) ∙ ap names (sym ends)))));
+        noted = subst (All (IsNoted t q)) (sym is) (All-push (IsNoted t q) ended x (kept_notes t p q ((r.known.session, r.known.own) ∷ []) ended opens grows ends k.noted) one);
         total = (let a = ap length is in let m = k.total in omega (arith, length-append ended (x ∷ [])));
         places = λ place. (let a = ap (count_by (is_at place)) is ∙ count_ended place ended x in let m = k.places place in
             sym (omega arith) ∙ m);

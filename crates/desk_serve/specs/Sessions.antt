@@ -13,7 +13,7 @@ use Rattle.outside.specs.Hosts.{HostTold, IsNew, NoneLeft}
 use Rattle.desk_model.specs.declared.entry.Entry.{Entry}
 use Rattle.desk_model.specs.Histories.{History, IsLegal, IsNumbered}
 use Rattle.desk_lock.specs.Numbers.{AreApart, IsIn}
-use Rattle.talk.specs.declared.asked.Asked.{Asked}
+use Rattle.cm_base.specs.declared.asked.Asked.{Asked}
 use Rattle.talk.specs.Served.{Kind, wire_of}
 use Rattle.talk.specs.Session.{Setting, Session}
 use Rattle.talk.specs.Talked.{rose}
@@ -95,13 +95,13 @@ pub record IsServed {S C Q L : Type 0} (t : Terms S C Q L) (opening : S) (h : Li
   pub session : Session t.kind (setting_of opening t.users x) x.after h input (t.source x.link).ended output times
       (rose (t.source from).faults (t.source x.link).faults) (rose (t.sink from).faults (t.sink x.link).faults) x.outcome
 
--- What is told at the end. One legal history of accepted writes: each entry's caller is the number of a link's session, these numbers are apart, and each session's serials are 0, 1, 2 and so on.
+-- What is told at the end. One legal history of accepted writes: each entry's session is that of a link, the numbers of these are apart, and each session's serials are 0, 1, 2 and so on.
 -- The links are those at the first places, each once, and each was served over this history.
 pub record Closed {S C Q L : Type 0} (t : Terms S C Q L) (opening : S) (last : History S C) (ended : List (Ended L)) : Type 0 where
   pub opening_is : last.opening ≡ opening
   pub lawful : IsLegal t.kind.next opening last.journal
   pub serials : IsNumbered 0 last.journal
   pub numbers : AreApart (map number_of ended)
-  pub callers : (k : ℕ) (e : Entry C) → get_elem? last.journal k ≡ some e → IsIn e.caller (map number_of ended)
+  pub sessions : (k : ℕ) (e : Entry C) → get_elem? last.journal k ≡ some e → IsIn e.session (map number_of ended)
   pub places : (place : ℕ) → count_by (is_at place) ended ≡ (if nat_lt place (length ended) then 1 else 0)
   pub served : All (IsServed t opening last.journal) ended

@@ -15,20 +15,20 @@ use std::test::Fail;
 use std::thread::Threads;
 use talk::End;
 
-/// Holds the first caller that passes until another one passes with serial 1, for a bounded number of turns.
+/// Holds the first session that passes until another one passes with serial 1, for a bounded number of turns.
 #[derive(Drop)]
 struct Holding {
-    /// The first caller's number and 1, once there is one.
+    /// The first session's number and 1, once there is one.
     first: AtomicU64,
-    /// 1 once another caller has passed with serial 1.
+    /// 1 once another session has passed with serial 1.
     passed: Arc<AtomicU64>,
     /// 1 once the bound was reached.
     is_late: AtomicU64,
 }
 
 impl Gate for Holding {
-    fn pass(&self, caller: u32, serial: u64) {
-        let number = caller as u64 + 1;
+    fn pass(&self, session: u32, serial: u64) {
+        let number = session as u64 + 1;
         match self.first.compare_exchange(0, number, SeqCst, SeqCst) {
             Ok(_) => {
                 if !waited(&self.passed) {

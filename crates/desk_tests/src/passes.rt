@@ -16,7 +16,7 @@ fn seen(alloc: Global) -> Result<(u64, u32), AllocError> {
     let mut second = desk.pass()?;
     drop(desk.write(alloc, &mut (), &mut first, 0, &user, Moment(3), 40));
     let snapshot = desk.look(&mut (), &mut second)?;
-    Ok((snapshot.number(), desk.caller(&second)))
+    Ok((snapshot.number(), desk.session(&second)))
 }
 
 #[test]

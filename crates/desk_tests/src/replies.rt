@@ -2,9 +2,10 @@
 ghost use Rattle.std.specs.Prelude.{◌≡◌, ◌+◌, ◌&&◌, nat_lt, [], ◌∷◌, Some, Ok, Err, if◌then◌else◌, false};
 ghost use Rattle.std.proofs.Common.{rules};
 ghost use Rattle.cm_base.specs.declared.cause.Cause.TheVariants as causes;
-ghost use Rattle.talk.specs.declared.asked.Asked.TheVariants.{Write, Question};
+ghost use Rattle.cm_base.specs.declared.asked.Asked.TheVariants.{Write, Question};
 
 use bytes::Bytes;
+use cm_base::asked::Asked;
 use cm_base::cause::Cause;
 use cm_base::fail::Fail;
 use cm_base::media::MediaType;
@@ -14,7 +15,7 @@ use cm_base::user::Users;
 use desk_model::{Entry, Halt, Machine};
 use http_wire::{Head, Request};
 use std::alloc::Global;
-use talk::{Asked, Served};
+use talk::Served;
 
 /// A sum that stays below 100. A call adds to it; the question asks for it.
 pub struct ShownSums;

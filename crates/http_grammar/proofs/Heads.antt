@@ -7,7 +7,7 @@ use Rattle.std.specs.List.{flat_map}
 use Rattle.httparse.specs.Grammar.{LineEnd, crlf, lf, print_end, Field, IsField, print_field, print_section, ReadsSection, RequestHead, print_request, ReadsRequest, HasNoRequest, MayBecomeRequest}
 use Rattle.httparse.specs.Spans.{RequestExceeds, SectionExceeds}
 use Rattle.httparse.proofs.GrammarLemmas.{print_request-append, ReadsRequest-append}
-use Rattle.http_grammar.specs.Limits.{head_limit}
+use Rattle.http_grammar.specs.Limits.{head_limit, field_room}
 use Rattle.http_grammar.specs.Judged.{is_judged}
 use Rattle.http_grammar.specs.First.{HasHead, HasNoFuture, IsOpen}
 use Rattle.http_grammar.proofs.Judged.{head_is_judged, target_is_not_judged}
@@ -45,14 +45,16 @@ section_length buf fields last x =
     omega (arith, length-append (flat_map print_field fields) (print_end last))
 
 -- 21,846 fields are never exceeded within 65,536 bytes
-pub never_too_many_trailers : (buf : List ℕ) → length buf ≤ 65536 → SectionExceeds 21846 buf → ⊥
+pub never_too_many_trailers : (buf : List ℕ) → length buf ≤ 65536 → SectionExceeds field_room buf → ⊥
 never_too_many_trailers buf short (front, rest, e, fields, reads, more) =
     let n : 3 * length fields ≤ length (front ++ print_end lf) = section_length (front ++ print_end lf) fields lf reads in
     let m : length buf ≡ length front + length rest = ap length e ∙ length-append front rest in
     omega (arith, length-append front (print_end lf))
 
-pub never_too_many : (buf : List ℕ) → length buf ≤ 65536 → RequestExceeds 21846 buf → ⊥
+pub never_too_many : (buf : List ℕ) → length buf ≤ head_limit → RequestExceeds field_room buf → ⊥
+unfolding head_limit
 never_too_many buf short (front, rest, e, h, reads, more) =
+    let within : length buf ≤ 65536 = short in
     let n : 3 * length h.fields ≤ length (front ++ print_end lf) = head_length (front ++ print_end lf) h reads in
     let m : length buf ≡ length front + length rest = ap length e ∙ length-append front rest in
     omega (arith, length-append front (print_end lf))

@@ -16,3 +16,7 @@ chunked_limit = 134217728
 -- the trailers, with their empty line
 unfoldable pub trailer_limit : ℕ
 trailer_limit = 65536
+
+-- room for the fields of any head or trailers within their limits, since a field line has three bytes at least
+abbrev pub field_room : ℕ
+field_room = 21846

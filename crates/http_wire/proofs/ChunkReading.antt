@@ -31,10 +31,6 @@ pub record InChunks (before now body : List ℕ) (form : ℕ) (old mid : SourceT
   pub body_is : body ≡ chunk_data chunks
   pub form_is : form ≡ length (print_chunks chunks)
 
-pub body_limit_is : body_limit ≡ 16777216
-unfolding body_limit
-body_limit_is = refl
-
 pub chunked_limit_is : chunked_limit ≡ 134217728
 unfolding chunked_limit
 chunked_limit_is = refl
@@ -88,7 +84,7 @@ limited_long : (n : ℕ) → chunked_limit ≤ n → limited n unfinished ≡ br
 limited_long n more = cond-true _ _ _ (le-leb _ _ more)
 
 pub fits_is : (held form : ℕ) (line : ChunkLine) (len size : ℕ) → len ≡ length (print_chunk_line line) → size ≡ chunk_size line
-    → (nat_le (held + size) 16777216 && nat_le (form + (len + size + 2)) 134217728) ≡ chunk_fits held form line
+    → (nat_le (held + size) body_limit && nat_le (form + (len + size + 2)) 134217728) ≡ chunk_fits held form line
 unfolding chunk_fits body_limit chunked_limit
 fits_is held form line len size e f = rw (e, f) refl
 
@@ -369,7 +365,7 @@ some_size m k e f = by_order (cases_lt 0 k)
 
 pub long_chunk : (before mid body : List ℕ) (form budget : ℕ) (old middle : SourceTold) (line : PieceEnd) → form + budget ≡ chunked_limit
     → ReadsPiece before mid piece.Line budget old middle (Ok line) → (line.size ≡ 0 → ⊥)
-    → (nat_le (length body + line.size) 16777216 && nat_le (form + (line.len + line.size + 2)) 134217728) ≡ false
+    → (nat_le (length body + line.size) body_limit && nat_le (form + (line.len + line.size + 2)) 134217728) ≡ false
     → ReadsChunk before mid body body form old middle (Err (Bad LongBody))
 long_chunk before mid body form budget old middle line b r some f =
     let l : Line budget (before ++ r.got ++ []) (drop line.len (before ++ r.got) ++ []) r.answer.0.line line.len = line_of budget (before ++ r.got) [] line r.answer.0 in
@@ -385,7 +381,7 @@ long_chunk before mid body form budget old middle line b r some f =
 -- what the line and the data make
 data_turn : (before mid after body body' : List ℕ) (form budget : ℕ) (old middle new : SourceTold) (line : PieceEnd) → form + budget ≡ chunked_limit
     → ReadsPiece before mid piece.Line budget old middle (Ok line) → (line.size ≡ 0 → ⊥)
-    → (nat_le (length body + line.size) 16777216 && nat_le (form + (line.len + line.size + 2)) 134217728) ≡ true
+    → (nat_le (length body + line.size) body_limit && nat_le (form + (line.len + line.size + 2)) 134217728) ≡ true
     → (got2 : List ℕ) → Gave middle new got2
     → (k : Behind before mid budget old middle new line got2) × (0 < chunk_size k.line) × (chunk_fits (length body) form k.line ≡ true)
 data_turn before mid after body body' form budget old middle new line b r some f got2 gave =
@@ -394,7 +390,7 @@ data_turn before mid after body body' form budget old middle new line b r some f
 
 pub chunk_done : (before mid after body body' : List ℕ) (form budget : ℕ) (old middle new : SourceTold) (line : PieceEnd) → form + budget ≡ chunked_limit
     → ReadsPiece before mid piece.Line budget old middle (Ok line) → (line.size ≡ 0 → ⊥)
-    → (nat_le (length body + line.size) 16777216 && nat_le (form + (line.len + line.size + 2)) 134217728) ≡ true
+    → (nat_le (length body + line.size) body_limit && nat_le (form + (line.len + line.size + 2)) 134217728) ≡ true
     → ReadsData mid after body body' line.size middle new (Ok tt) → ReadsChunk before after body body' form old new (Ok (Some (form + (line.len + line.size + 2))))
 chunk_done before mid after body body' form budget old middle new line b r some f q =
     let (k, size, fits) = data_turn before mid after body body' form budget old middle new line b r some f q.got q.gave in
@@ -413,7 +409,7 @@ chunk_done before mid after body body' form budget old middle new line b r some 
 
 pub data_stop : (before mid after body body' : List ℕ) (form budget : ℕ) (old middle new : SourceTold) (line : PieceEnd) (stop : WireStop) → form + budget ≡ chunked_limit
     → ReadsPiece before mid piece.Line budget old middle (Ok line) → (line.size ≡ 0 → ⊥)
-    → (nat_le (length body + line.size) 16777216 && nat_le (form + (line.len + line.size + 2)) 134217728) ≡ true
+    → (nat_le (length body + line.size) body_limit && nat_le (form + (line.len + line.size + 2)) 134217728) ≡ true
     → ReadsData mid after body body' line.size middle new (Err stop) → ReadsChunk before after body body' form old new (Err stop)
 data_stop before mid after body body' form budget old middle new line (Bad Cut) b r some f q =
     let (k, size, fits) = data_turn before mid after body body' form budget old middle new line b r some f q.got q.gave in
@@ -494,18 +490,18 @@ one_more before now after body body' form form' old mid new s r =
 
 -- a longer form
 pub longer_form : (now after body body' : List ℕ) (form form' : ℕ) (mid new : SourceTold) → ReadsChunk now after body body' form mid new (Ok (Some form'))
-    → (form < form') × (form' ≤ 134217728) × (length body' ≤ 16777216)
+    → (form < form') × (form' ≤ 134217728) × (length body' ≤ body_limit)
 longer_form now after body body' form form' mid new r =
     let t = r.answer in
     let c : Chunk = t.chunk in (
       omega (arith, t.form_is, length-append (print_chunk_line c.line) (c.bytes ++ print_end crlf), length-append c.bytes (print_end crlf)),
       omega (arith, t.within, chunked_limit_is),
-      omega (arith, t.short, body_limit_is),
+      omega (arith, t.short),
     )
 
 -- what the end of a turn makes of all the bytes
 ends_body : (before now body : List ℕ) (form : ℕ) (old mid new : SourceTold) (got2 : List ℕ) (front : BodyFront) (s : InChunks before now body form old mid)
-    → length body ≤ 16777216 → form ≤ 134217728 → TurnEnds body form (now ++ got2) front → ChunkedBody (before ++ (s.got ++ got2)) front
+    → length body ≤ body_limit → form ≤ 134217728 → TurnEnds body form (now ++ got2) front → ChunkedBody (before ++ (s.got ++ got2)) front
 ends_body before now body form old mid new got2 front s short within t =
     let P : List ℕ = print_chunks s.chunks in
     let all : before ++ (s.got ++ got2) ≡ P ++ (now ++ got2) = sym (append_assoc before s.got got2) ∙ ap (λ (x : List ℕ). x ++ got2) s.text_is ∙ append_assoc P now got2 in
@@ -519,7 +515,7 @@ ends_body before now body form old mid new got2 front s short within t =
         tail = take (chunked_limit - form) (now ++ got2);
         text_is = ap (take chunked_limit) all ∙ front';
         are_chunks = s.are_chunks;
-        short = omega (arith, ap length s.body_is, body_limit_is);
+        short = omega (arith, ap length s.body_is);
         behind = subst (λ (k : ℕ). Tail (chunk_data s.chunks) k (take (chunked_limit - form) (now ++ got2)) t.inner) s.form_is
             (subst (λ (b : List ℕ). Tail b form (take (chunked_limit - form) (now ++ got2)) t.inner) s.body_is t.tail);
       },
@@ -527,7 +523,7 @@ ends_body before now body form old mid new got2 front s short within t =
     )
 
 pub body_done : (before now after body body' : List ℕ) (form : ℕ) (old mid new : SourceTold) → InChunks before now body form old mid
-    → length body ≤ 16777216 → form ≤ 134217728 → ReadsChunk now after body body' form mid new (Ok None) → ReadsBody Chunked before after body' old new (Ok tt)
+    → length body ≤ body_limit → form ≤ 134217728 → ReadsChunk now after body body' form mid new (Ok None) → ReadsBody Chunked before after body' old new (Ok tt)
 body_done before now after body body' form old mid new s short within r =
     let (n, t, a, e) = r.answer in
     let all : before ++ (s.got ++ r.got) ≡ print_chunks s.chunks ++ (now ++ r.got) =
@@ -545,7 +541,7 @@ body_done before now after body body' form old mid new s short within r =
     }
 
 pub body_stop : (before now after body body' : List ℕ) (form : ℕ) (old mid new : SourceTold) (stop : WireStop) → InChunks before now body form old mid
-    → length body ≤ 16777216 → form ≤ 134217728 → ReadsChunk now after body body' form mid new (Err stop) → ReadsBody Chunked before after body' old new (Err stop)
+    → length body ≤ body_limit → form ≤ 134217728 → ReadsChunk now after body body' form mid new (Err stop) → ReadsBody Chunked before after body' old new (Err stop)
 body_stop before now after body body' form old mid new (Bad Cut) s short within r = record {
   got = s.got ++ r.got;
   gave = Gave-then old mid new s.got r.got s.gave r.gave;

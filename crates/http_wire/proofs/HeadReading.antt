@@ -16,7 +16,6 @@ use Rattle.http_wire.specs.declared.fault.WireStop.TheVariants.{Bad, ReadFault, 
 use Rattle.http_wire.specs.declared.heads.HeadSeen.{HeadSeen}
 use Rattle.http_wire.specs.declared.heads.HeadSeen.TheVariants as seen
 use Rattle.http_wire.specs.declared.heads.Framed.{Framed}
-use Rattle.http_wire.proofs.SeenHeads.{head_limit_is}
 
 -- a fault of the bytes is an answer
 pub bad_answer : (over : Type 0) (bytes : List ℕ) (f : HttpFault) → First bytes (Fault f) × HoldsNone bytes → BadHeadAnswer over bytes f
@@ -28,7 +27,7 @@ bad_answer over bytes BadLength x = x
 bad_answer over bytes Coding x = x
 
 pub looks_of : (bytes : List ℕ) (spans : List HeaderSpan) (s : HeadSeen) → SeesHead bytes spans s → Looks bytes spans s
-looks_of bytes spans seen.Open x = subst (λ (n : ℕ). length bytes < n) head_limit_is x.0
+looks_of bytes spans seen.Open x = x.0
 looks_of bytes spans (seen.Bad f) x = x
 looks_of bytes spans (seen.Whole r framing expects) x = x
 

@@ -29,7 +29,6 @@ use Rattle.http_wire.specs.declared.fault.WireStop.TheVariants.{Bad, ReadFault, 
 use Rattle.http_wire.specs.declared.heads.Framed.{Framed}
 use Rattle.http_wire.specs.declared.incoming.Incoming.{Incoming}
 use Rattle.http_wire.specs.declared.incoming.Incoming.TheVariants as incoming
-use Rattle.http_wire.proofs.ChunkReading.{body_limit_is}
 
 -- ---- bodies of a stated length
 
@@ -99,10 +98,8 @@ head_short h =
     either (has_good_host h.minor (values_named (codes "host") h.fields)) (framing h.minor (values_named (codes "transfer-encoding") h.fields) (values_named (codes "content-length") h.fields)) (Err BadHead)
     (framing_short h.minor (values_named (codes "transfer-encoding") h.fields) (values_named (codes "content-length") h.fields)) tt
 
-pub sized_within : (h : Head) (f : Framing) (n : ℕ) → head_framing h ≡ Ok f → f ≡ Sized n → n ≤ 16777216
-sized_within h f n e s =
-    let x : n ≤ body_limit = subst IsShort (e ∙ ap Ok s) (head_short h) in
-    omega (arith, body_limit_is)
+pub sized_within : (h : Head) (f : Framing) (n : ℕ) → head_framing h ≡ Ok f → f ≡ Sized n → n ≤ body_limit
+sized_within h f n e s = subst IsShort (e ∙ ap Ok s) (head_short h)
 
 -- ---- a head
 

@@ -5,6 +5,7 @@ use Rattle.outside.specs.Outside.{SourceTold, Gave, Rose}
 use Rattle.http_grammar.specs.First.{First, Beginning, Fault}
 use Rattle.http_grammar.specs.declared.fault.HttpFault.{HttpFault}
 use Rattle.http_grammar.specs.declared.fault.HttpFault.TheVariants.{Cut}
+use Rattle.http_grammar.specs.Limits.{head_limit}
 use Rattle.http_wire.specs.Seen.{SeesHead, SeesWhole, HoldsNone}
 use Rattle.http_wire.specs.declared.fault.WireStop.{WireStop}
 use Rattle.http_wire.specs.declared.fault.WireStop.TheVariants.{Bad, ReadFault, Memory}
@@ -14,7 +15,7 @@ use Rattle.http_wire.specs.declared.heads.Framed.{Framed}
 
 -- a look that may be put off below the limit
 abbrev pub Looks : List ℕ → List HeaderSpan → HeadSeen → Type 0
-Looks bytes spans seen.Open = length bytes < 65536
+Looks bytes spans seen.Open = length bytes < head_limit
 Looks bytes spans (seen.Bad f) = SeesHead bytes spans (seen.Bad f)
 Looks bytes spans (seen.Whole r framing expects) = SeesHead bytes spans (seen.Whole r framing expects)
 

@@ -2,6 +2,7 @@
 ghost use Rattle.std.specs.Prelude.{◌≡◌, ◌+◌, ◌≤◌, ◌<◌, ◌++◌, min, length, take, drop, IfOk, OnOk};
 ghost use Rattle.http_wire.specs.Windows.{held};
 ghost use Rattle.http_wire.specs.Bodies.{ReadsExactly, Fills};
+ghost use Rattle.http_grammar.specs.Limits.{body_limit};
 
 use crate::fault::WireStop;
 use crate::reading::read_at;
@@ -9,6 +10,9 @@ use crate::window::Window;
 use http_grammar::HttpFault;
 use outside::Source;
 use std::alloc::AllocError;
+
+/// The most bytes of a body.
+pub const BODY_LIMIT: u64 = 16_777_216;
 
 /// The least room that a read into a body has, where so much is wanted.
 const LEAST_ROOM: usize = 8192;
@@ -30,12 +34,13 @@ fn make_room(body: &mut Vec<u8>, filled: usize, goal: usize) -> Result<(), Alloc
 }
 
 /// Adds exactly so many bytes of the source to the body.
+#[tactic(auto, unfolding(http_grammar::specs::Limits::body_limit))]
 pub fn read_exactly<S: Source>(
     source: &mut S,
     body: &mut Vec<u8>,
     count: usize,
 ) -> Result<(), WireStop>
-    requires { length body.old.items + count ≤ 16777216 }
+    requires { length body.old.items + count ≤ body_limit }
     ensures reads { ReadsExactly body.old.items body.new.items count (S.told source.old) (S.told source.new) result }
     ensures aside { S.aside source.new ≡ S.aside source.old }
 {
@@ -74,7 +79,7 @@ pub fn fill<S: Source>(
     body: &mut Vec<u8>,
     count: usize,
 ) -> Result<(), WireStop>
-    requires { length body.old.items + count ≤ 16777216 }
+    requires { length body.old.items + count ≤ body_limit }
     ensures fills { Fills (held window.old) (held window.new) body.old.items body.new.items count (S.told source.old) (S.told source.new) result }
     ensures aside { S.aside source.new ≡ S.aside source.old }
 {

@@ -2,8 +2,9 @@
 ghost use Rattle.std.specs.Prelude.{◌≡◌, ◌+◌, ◌≤◌, ◌<◌, ◌&&◌, [], length, nat_le};
 ghost use Rattle.http_wire.specs.Windows.{held};
 ghost use Rattle.http_wire.specs.Bodies.{ReadsData, ReadsChunk, ReadsBody};
+ghost use Rattle.http_grammar.specs.Limits.{field_room, body_limit};
 
-use crate::body::fill;
+use crate::body::{BODY_LIMIT, fill};
 use crate::fault::WireStop;
 use crate::piece::{Piece, PieceEnd};
 use crate::pieces::read_piece;
@@ -11,9 +12,6 @@ use crate::window::Window;
 use http_grammar::{Framing, HttpFault};
 use httparse::spans::HeaderSpan;
 use outside::Source;
-
-/// The most bytes of a body.
-const BODY_LIMIT: u64 = 16_777_216;
 
 /// The most bytes of its chunked form.
 const CHUNKED_LIMIT: usize = 134_217_728;
@@ -29,8 +27,8 @@ fn read_data<S: Source>(
     body: &mut Vec<u8>,
     size: usize,
 ) -> Result<(), WireStop>
-    requires room { length spans.old ≡ 21846 }
-    requires short { length body.old.items + size ≤ 16777216 }
+    requires room { length spans.old ≡ field_room }
+    requires short { length body.old.items + size ≤ body_limit }
     ensures reads { ReadsData (held window.old) (held window.new) body.old.items body.new.items size (S.told source.old) (S.told source.new) result }
     ensures aside { S.aside source.new ≡ S.aside source.old }
 {
@@ -51,11 +49,12 @@ fn len_of(body: &Vec<u8>) -> usize
 }
 
 // Whether the chunk that a line announces keeps within both limits.
+#[tactic(auto, unfolding(http_grammar::specs::Limits::body_limit))]
 fn fits(held: usize, form: usize, line: PieceEnd) -> bool
-    requires held { held ≤ 16777216 }
+    requires held { held ≤ body_limit }
     requires form { form ≤ 134217728 }
     requires len { line.len ≤ 134217728 }
-    ensures { result ≡ (nat_le (held + line.size) 16777216 && nat_le (form + (line.len + line.size + 2)) 134217728) }
+    ensures { result ≡ (nat_le (held + line.size) body_limit && nat_le (form + (line.len + line.size + 2)) 134217728) }
 {
     line.size <= BODY_LIMIT - held as u64
         && line.size <= CHUNKED_LIMIT as u64
@@ -70,8 +69,8 @@ fn read_chunk<S: Source>(
     body: &mut Vec<u8>,
     form: usize,
 ) -> Result<Option<usize>, WireStop>
-    requires room { length spans.old ≡ 21846 }
-    requires short { length body.old.items ≤ 16777216 }
+    requires room { length spans.old ≡ field_room }
+    requires short { length body.old.items ≤ body_limit }
     requires within { form ≤ 134217728 }
     ensures reads { ReadsChunk (held window.old) (held window.new) body.old.items body.new.items form (S.told source.old) (S.told source.new) result }
     ensures aside { S.aside source.new ≡ S.aside source.old }
@@ -103,7 +102,7 @@ pub fn read_chunks<S: Source>(
     spans: &mut [HeaderSpan],
     body: &mut Vec<u8>,
 ) -> Result<(), WireStop>
-    requires room { length spans.old ≡ 21846 }
+    requires room { length spans.old ≡ field_room }
     requires empty { body.old.items ≡ [] }
     ensures reads { ReadsBody Framing.Chunked (held window.old) (held window.new) body.new.items (S.told source.old) (S.told source.new) result }
     ensures aside { S.aside source.new ≡ S.aside source.old }

@@ -8,12 +8,10 @@ ghost use Rattle.http_grammar.specs.Request.{Head};
 ghost use Rattle.http_grammar.specs.Fields.{same_word, values_named, is_visible, is_host, has_good_host, is_decimal, length_of_value, sized, by_length, by_coding, framing, head_framing, promises_body, expects_continue};
 ghost use Rattle.http_wire.specs.Found.{Finds, fields_at, value_named, decimal_below, below_half};
 
+use crate::body::BODY_LIMIT;
 use http_grammar::{Framing, HttpFault, same_word};
 use httparse::spans::{HeaderSpan, Span};
 use std::str;
-
-/// The most bytes of a body.
-const BODY_LIMIT: u64 = 16_777_216;
 
 /// What the fields with one name are.
 #[derive(Clone, Copy)]

@@ -13,6 +13,7 @@ use outside::Source;
 use std::alloc::AllocError;
 
 // A look at the bytes, where it is worth it.
+#[tactic(auto, unfolding(http_grammar::specs::Limits::head_limit))]
 fn look(bytes: &[u8], spans: &mut Vec<HeaderSpan>, pace: &mut Pace) -> Result<HeadSeen, AllocError>
     ensures { IfOk result (λ seen. Looks bytes.now spans.new.items seen) }
 {

@@ -1,6 +1,6 @@
 //! What the bytes say of the head at their front.
 ghost use Rattle.std.specs.Prelude.{◌≡◌, ◌≤◌, ◌<◌, ℕ, true, length, IfOk, OnOk};
-ghost use Rattle.http_grammar.specs.Limits.{head_limit};
+ghost use Rattle.http_grammar.specs.Limits.{head_limit, field_room};
 ghost use Rattle.http_grammar.specs.Judged.{is_judged, has_line_feed};
 ghost use Rattle.http_wire.specs.Seen.{SeesPart, SeesHead, WholeHeadAt};
 
@@ -79,7 +79,7 @@ fn judged(bytes: &[u8]) -> bool
 
 /// Makes room for as many fields as a head can have.
 pub fn widen(spans: &mut Vec<HeaderSpan>) -> Result<(), AllocError>
-    ensures { OnOk result (length spans.new.items ≡ 21846) }
+    ensures { OnOk result (length spans.new.items ≡ field_room) }
 {
     spans.resize(ROOM, EMPTY_HEADER_SPAN)
 }
@@ -95,8 +95,8 @@ pub fn narrow(spans: &mut Vec<HeaderSpan>) {
 // What the judged bytes within the limit say, with room for all fields.
 fn examine_wide(part: &[u8], spans: &mut Vec<HeaderSpan>) -> PartSeen
     requires judged { is_judged part.now ≡ true }
-    requires room { length spans.old.items ≡ 21846 }
-    requires short { length part.now ≤ 65536 }
+    requires room { length spans.old.items ≡ field_room }
+    requires short { length part.now ≤ head_limit }
     ensures { SeesPart part.now spans.new.items result }
 {
     match parse_request(part, spans) {
@@ -109,7 +109,7 @@ fn examine_wide(part: &[u8], spans: &mut Vec<HeaderSpan>) -> PartSeen
 // What the judged bytes within the limit say. Where there are more fields than room, it makes room for all.
 fn examine_fields(part: &[u8], spans: &mut Vec<HeaderSpan>) -> Result<PartSeen, AllocError>
     requires judged { is_judged part.now ≡ true }
-    requires short { length part.now ≤ 65536 }
+    requires short { length part.now ≤ head_limit }
     ensures { IfOk result (λ seen. SeesPart part.now spans.new.items seen) }
 {
     match parse_request(part, spans) {
@@ -125,7 +125,7 @@ fn examine_fields(part: &[u8], spans: &mut Vec<HeaderSpan>) -> Result<PartSeen, 
 
 // What the bytes within the limit say.
 fn examine_part(part: &[u8], spans: &mut Vec<HeaderSpan>) -> Result<PartSeen, AllocError>
-    requires { length part.now ≤ 65536 }
+    requires { length part.now ≤ head_limit }
     ensures { IfOk result (λ seen. SeesPart part.now spans.new.items seen) }
 {
     if !judged(part) {

@@ -2,6 +2,7 @@
 ghost use Rattle.std.specs.Prelude.{◌≡◌, ◌≤◌, ◌<◌, length, drop, ⊤};
 ghost use Rattle.http_wire.specs.Windows.{held};
 ghost use Rattle.http_wire.specs.Pieces.{SeesInner, SeesPiece, LooksPiece, PieceAnswer, ReadsPiece};
+ghost use Rattle.http_grammar.specs.Limits.{field_room};
 
 use crate::fault::WireStop;
 use crate::pace::Pace;
@@ -26,7 +27,7 @@ fn examine_line(text: &[u8]) -> PieceSeen
 }
 
 fn examine_trailers(text: &[u8], spans: &mut [HeaderSpan]) -> PieceSeen
-    requires { length spans.old ≡ 21846 }
+    requires { length spans.old ≡ field_room }
     ensures { SeesInner Piece.Trailers text.now result }
 {
     match parse_headers(front(text, TRAILER_LIMIT), spans) {
@@ -60,7 +61,7 @@ fn examine_end(text: &[u8]) -> PieceSeen
 }
 
 fn examine_text(piece: Piece, text: &[u8], spans: &mut [HeaderSpan]) -> PieceSeen
-    requires { length spans.old ≡ 21846 }
+    requires { length spans.old ≡ field_room }
     ensures { SeesInner piece text.now result }
 {
     match piece {
@@ -72,7 +73,7 @@ fn examine_text(piece: Piece, text: &[u8], spans: &mut [HeaderSpan]) -> PieceSee
 
 // What stands at the front of the bytes, of which the piece may have so many.
 fn examine(piece: Piece, bytes: &[u8], budget: usize, spans: &mut [HeaderSpan]) -> PieceSeen
-    requires { length spans.old ≡ 21846 }
+    requires { length spans.old ≡ field_room }
     ensures { SeesPiece piece budget bytes.now result }
 {
     match examine_text(piece, front(bytes, budget), spans) {
@@ -99,7 +100,7 @@ fn look(
     spans: &mut [HeaderSpan],
     pace: &mut Pace,
 ) -> PieceSeen
-    requires { length spans.old ≡ 21846 }
+    requires { length spans.old ≡ field_room }
     ensures { LooksPiece piece budget bytes.now result }
 {
     if !pace.is_worth(bytes, limit_of(piece, budget)) {
@@ -125,7 +126,7 @@ fn at_end(
     budget: usize,
     spans: &mut [HeaderSpan],
 ) -> Result<PieceEnd, WireStop>
-    requires { length spans.old ≡ 21846 }
+    requires { length spans.old ≡ field_room }
     ensures { PieceAnswer ⊤ ⊥ piece budget (held window.old) (held window.new) result }
 {
     match examine(piece, window.as_slice(), budget, spans) {
@@ -143,7 +144,7 @@ fn at_fault(
     budget: usize,
     spans: &mut [HeaderSpan],
 ) -> Result<PieceEnd, WireStop>
-    requires { length spans.old ≡ 21846 }
+    requires { length spans.old ≡ field_room }
     ensures { PieceAnswer ⊥ ⊤ piece budget (held window.old) (held window.new) result }
 {
     match examine(piece, window.as_slice(), budget, spans) {
@@ -169,7 +170,7 @@ pub fn read_piece<S: Source>(
     piece: Piece,
     budget: usize,
 ) -> Result<PieceEnd, WireStop>
-    requires { length spans.old ≡ 21846 }
+    requires { length spans.old ≡ field_room }
     ensures reads { ReadsPiece (held window.old) (held window.new) piece budget (S.told source.old) (S.told source.new) result }
     ensures aside { S.aside source.new ≡ S.aside source.old }
 {

@@ -4,6 +4,7 @@ ghost use Rattle.http_wire.specs.Windows.{held};
 ghost use Rattle.http_wire.specs.Bodies.{ReadsBody};
 ghost use Rattle.http_wire.specs.Answers.{ReadsRequest};
 ghost use Rattle.http_wire.specs.Seen.{SeesWhole, IsRead};
+ghost use Rattle.http_grammar.specs.Limits.{body_limit};
 
 use crate::body::fill;
 use crate::chunks::read_chunks;
@@ -76,7 +77,7 @@ fn read_body<S: Source>(
     framing: Framing,
     body: &mut Vec<u8>,
 ) -> Result<(), WireStop>
-    requires short { (n : ℕ) → framing ≡ Framing.Sized n → n ≤ 16777216 }
+    requires short { (n : ℕ) → framing ≡ Framing.Sized n → n ≤ body_limit }
     requires empty { body.old.items ≡ [] }
     ensures reads { ReadsBody framing (held window.old) (held window.new) body.new.items (S.told source.old) (S.told source.new) result }
     ensures aside { S.aside source.new ≡ S.aside source.old }

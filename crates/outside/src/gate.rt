@@ -2,8 +2,8 @@
 
 /// A place where a test can hold a session for a while. It waits for nobody but in tests.
 pub trait Gate {
-    /// Lets the caller with this number pass, before the call of the repository with this serial, counted from 0.
-    fn pass(&self, caller: u32, serial: u64);
+    /// Lets the session with this number pass, before the call of the repository with this serial, counted from 0.
+    fn pass(&self, session: u32, serial: u64);
 }
 
 /// The gate that is always open.
@@ -11,5 +11,5 @@ pub trait Gate {
 pub struct OpenGate;
 
 impl Gate for OpenGate {
-    fn pass(&self, _caller: u32, _serial: u64) {}
+    fn pass(&self, _session: u32, _serial: u64) {}
 }

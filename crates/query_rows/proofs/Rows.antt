@@ -44,10 +44,10 @@ numbered_document n values = record {
   name = None;
   secondary = [];
   values = values;
-  maker = admin;
-  made = dawn;
-  changer = admin;
-  changed = dawn;
+  created_by = admin;
+  created_at = dawn;
+  modified_by = admin;
+  modified_at = dawn;
   token = n;
   series = Some (number n);
 }

@@ -1,5 +1,5 @@
 -- The content of a document, or one of its renditions (CMIS 1.1, section 2.2.4.11).
-use Rattle.std.specs.Prelude.{ℕ, not, List, filter, find, Option, Some, None, option_map, option_and_then}
+use Rattle.std.specs.Prelude.{ℕ, not, List, find, Option, Some, None, option_map, option_and_then}
 use Rattle.cm_base.specs.declared.number.Oid.{Oid}
 use Rattle.cm_base.specs.declared.object.Object.{Object}
 use Rattle.cm_base.specs.declared.content.Content.{Content}
@@ -12,7 +12,7 @@ use Rattle.call_parts.specs.declared.place.Place.{Place}
 use Rattle.call_parts.specs.declared.readings.ReadContent.{ReadContent}
 use Rattle.call_parts.specs.declared.replies.ContentReply.{ContentReply}
 use Rattle.cm_see.specs.Addressed.{addressed}
-use Rattle.cm_state.specs.Looks.{content_at}
+use Rattle.cm_state.specs.Looks.{content_at, renditions_of}
 use Rattle.cmis_spec.specs.Repository.{Repository, same, is_a}
 use Rattle.cmis_spec.specs.Access.{oid_named}
 
@@ -24,7 +24,7 @@ rendition_reply d = record { kind = d.media; body = d.pieces }
 
 -- the rendition of x that has this number
 abbrev pub rendition_of : Repository → Object → Oid → Option Rendition
-rendition_of r x n = find (λ d. same d.id n) (filter (λ d. same d.of x.id) r.renditions)
+rendition_of r x n = find (λ d. same d.id n) (renditions_of r x.id)
 
 -- the rendition of x that has this stream id; the id of its content is none of them
 abbrev pub rendition_named : Repository → Object → List ℕ → Option Rendition

@@ -18,11 +18,11 @@ impl Read for Broken {
     }
 }
 
-// A clock of a system that stands still, or that refuses.
+// A system whose clock always says the same, or refuses.
 #[derive(Drop)]
-struct Still(Option<u64>);
+struct FixedSystem(Option<u64>);
 
-impl System for Still {
+impl System for FixedSystem {
     fn monotonic(&self) -> io::Result<Duration> {
         self.since_1970()
     }
@@ -159,10 +159,10 @@ fn sink_counts_a_write_that_takes_nothing(rt: HostRuntime) {
 
 #[test]
 fn clock_stops_at_its_last_moment(rt: HostRuntime) {
-    assert_eq!(rt; SystemClock::new(Still(None)).now(), 0);
-    assert_eq!(rt; SystemClock::new(Still(Some(1999))).now(), 1999);
+    assert_eq!(rt; SystemClock::new(FixedSystem(None)).now(), 0);
+    assert_eq!(rt; SystemClock::new(FixedSystem(Some(1999))).now(), 1999);
     assert_eq!(rt;
-        SystemClock::new(Still(Some(LATEST_MS + 1))).now(),
+        SystemClock::new(FixedSystem(Some(LATEST_MS + 1))).now(),
         LATEST_MS
     );
     let mut system = SystemClock::new(&rt);

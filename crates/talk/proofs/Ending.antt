@@ -39,23 +39,23 @@ use Rattle.talk.proofs.SoFar.{SoFar, IsInterim, was_sent, not_sent, told-then, g
 -- what holds of the pass when the session begins, and of the pass at its end
 pub record Fresh {S C : Type 0} (o : Known S C) : Type 0 where
   pub none_made : o.own ≡ []
-  pub none_before : own 0 o.caller (take o.base o.seen) ≡ []
+  pub none_before : own 0 o.session (take o.base o.seen) ≡ []
   pub begun : o.base ≤ length o.seen
 
 own-parts : {C : Type 0} (b n : ℕ) (h : List (Entry C)) → own 0 n h ≡ own 0 n (take b h) ++ own b n h
 own-parts b n h = ap (filter (is_by n)) (sym (take-append-drop b h)) ∙ filter-append (is_by n) (take b h) (drop b h)
 
 -- its entries in what the pass has seen are those of the turns
-pub owns-at : {S C : Type 0} (o l : Known S C) (es : List (Entry C)) → Fresh o → own l.base l.caller l.seen ≡ l.own → GoesOn o l es → own 0 o.caller l.seen ≡ es
+pub owns-at : {S C : Type 0} (o l : Known S C) (es : List (Entry C)) → Fresh o → own l.base l.session l.seen ≡ l.own → GoesOn o l es → own 0 o.session l.seen ≡ es
 owns-at o l es fresh mine on =
     let front : take o.base l.seen ≡ take o.base o.seen = take-prefix o.base o.seen l.seen on.seen fresh.begun in
-    let behind : own o.base o.caller l.seen ≡ es =
-    ap (λ b. own b o.caller l.seen) (sym on.base) ∙ (ap (λ n. own l.base n l.seen) (sym on.caller) ∙ (mine ∙ (on.own ∙ ap (λ xs. xs ++ es) fresh.none_made))) in
-    own-parts o.base o.caller l.seen ∙ (ap (λ xs. own 0 o.caller xs ++ own o.base o.caller l.seen) front ∙ (ap (λ xs. xs ++ own o.base o.caller l.seen) fresh.none_before ∙ behind))
+    let behind : own o.base o.session l.seen ≡ es =
+    ap (λ b. own b o.session l.seen) (sym on.base) ∙ (ap (λ n. own l.base n l.seen) (sym on.session) ∙ (mine ∙ (on.own ∙ ap (λ xs. xs ++ es) fresh.none_made))) in
+    own-parts o.base o.session l.seen ∙ (ap (λ xs. own 0 o.session xs ++ own o.base o.session l.seen) front ∙ (ap (λ xs. xs ++ own o.base o.session l.seen) fresh.none_before ∙ behind))
 
 -- the session, by its turns and its end
 pub talked-by : {S C Q : Type 0} (kind : Kind S C Q) (users : List User) (o l : Known S C) (w after : Option Words) (source0 source : SourceTold) (sink0 sink : SinkTold) (end : End) (input output : List ℕ) (ts : List (Turn C))
-    → Fresh o → own l.base l.caller l.seen ≡ l.own → Gave source0 source input → Took sink0 sink output
+    → Fresh o → own l.base l.session l.seen ≡ l.own → Gave source0 source input → Took sink0 sink output
     → AreRequests kind.wire input (requests ts) → AreTurns kind (setting o users) (length l.seen) l.seen ts → GoesOn o l (entries ts)
     → TakesWords end w (moments kind (setting o users) ts) after
     → Ends kind.wire ts (rest_after input (requests ts)) source.ended output (rose source0.faults source.faults) (rose sink0.faults sink.faults) end
@@ -69,7 +69,7 @@ talked-by kind users o l w after source0 source sink0 sink end input output ts f
   told = told;
   opening = on.opening;
   base = on.base;
-  caller = on.caller;
+  number = on.session;
   seen = on.seen;
   session = record {
     turns = ts;
@@ -89,7 +89,7 @@ rose-by a b c le r = le-leb (min (a + 1) (2 ^ 64 - 1)) c (omega (arith, le, r))
 
 -- with no turn more: the pass is as it was
 pub stays-talked : {S C Q : Type 0} (kind : Kind S C Q) (users : List User) (o : Known S C) (w : Option Words) (source0 source : SourceTold) (sink0 sink sink' : SinkTold) (a b : Standing S C) (answered : Bool) (bytes text : List ℕ) (end : End)
-    → Fresh o → own b.known.base b.known.caller b.known.seen ≡ b.known.own → (s : SoFar kind users o w source0 sink0 a answered bytes source sink) → b ≡ a → Took sink sink' text
+    → Fresh o → own b.known.base b.known.session b.known.seen ≡ b.known.own → (s : SoFar kind users o w source0 sink0 a answered bytes source sink) → b ≡ a → Took sink sink' text
     → (Told w (moments kind (setting o users) s.turns) a.words → TakesWords end w (moments kind (setting o users) s.turns) a.words)
     → Ends kind.wire s.turns bytes source.ended ((sent kind.wire s.turns ++ s.begun) ++ text) (rose source0.faults source.faults) (rose sink0.faults sink'.faults) end
     → Talked kind users o w source0 sink0 b.known b.words source sink' end
@@ -101,7 +101,7 @@ stays-talked kind users o w source0 source sink0 sink sink' a b answered bytes t
 
 -- with one turn more
 pub turn-talked : {S C Q : Type 0} (kind : Kind S C Q) (users : List User) (o : Known S C) (w : Option Words) (source0 source : SourceTold) (sink0 sink sink' : SinkTold) (a b : Standing S C) (answered : Bool) (bytes : List ℕ) (r : Request) (n : ℕ) (text part : List ℕ) (end : End)
-    → GrammarLaws → Fresh o → own b.known.base b.known.caller b.known.seen ≡ b.known.own → (s : SoFar kind users o w source0 sink0 a answered bytes source sink)
+    → GrammarLaws → Fresh o → own b.known.base b.known.session b.known.seen ≡ b.known.own → (s : SoFar kind users o w source0 sink0 a answered bytes source sink)
     → First bytes (Whole r n) → NoneDue answered bytes → (t : Turned kind users r.head (is_last kind.wire a.count r.head) (ask_of kind users r) a.known a.words text b.known b.words) → Took sink sink' part
     → (Told w (moments kind (setting o users) (new_turn r n t ∷ s.turns)) b.words → TakesWords end w (moments kind (setting o users) (new_turn r n t ∷ s.turns)) b.words)
     → Ends kind.wire (new_turn r n t ∷ s.turns) (drop n bytes) source.ended (sent kind.wire s.turns ++ (interim_of kind.wire r.head ++ part)) (rose source0.faults source.faults) (rose sink0.faults sink'.faults) end
@@ -134,7 +134,7 @@ pub front-of : (old new : SinkTold) (text : List ℕ) → Lost old new text → 
 front-of old new text (front, rose_so) = (front.0, (front.1, sym front.2), front.3, rose_so)
 
 pub starves-talked : {S C Q : Type 0} (kind : Kind S C Q) (users : List User) (o : Known S C) (w : Option Words) (source0 source : SourceTold) (sink0 sink sink' : SinkTold) (a b : Standing S C) (answered : Bool) (bytes : List ℕ)
-    → Fresh o → own b.known.base b.known.caller b.known.seen ≡ b.known.own → (s : SoFar kind users o w source0 sink0 a answered bytes source sink)
+    → Fresh o → own b.known.base b.known.session b.known.seen ≡ b.known.own → (s : SoFar kind users o w source0 sink0 a answered bytes source sink)
     → Stays a.known b.known a.words b.words → SentOrLost sink sink' kind.wire.runtime_text → Talked kind users o w source0 sink0 b.known b.words source sink' Starved
 starves-talked kind users o w source0 source sink0 sink sink' a b answered bytes fresh mine s stays out = by_out out
   where
@@ -161,7 +161,7 @@ starves-talked kind users o w source0 source sink0 sink sink' a b answered bytes
 
 -- a session that wanted memory before its first step
 pub starved-at-once : {S C Q : Type 0} (kind : Kind S C Q) (users : List User) (o : Known S C) (w : Option Words) (source0 source : SourceTold) (sink0 sink : SinkTold)
-    → Fresh o → own o.base o.caller o.seen ≡ o.own → SentOrLost sink0 sink kind.wire.runtime_text → source ≡ source0 → Talked kind users o w source0 sink0 o w source sink Starved
+    → Fresh o → own o.base o.session o.seen ≡ o.own → SentOrLost sink0 sink kind.wire.runtime_text → source ≡ source0 → Talked kind users o w source0 sink0 o w source sink Starved
 starved-at-once kind users o w source0 source sink0 sink fresh mine out still =
     let a : Standing _ _ = record { known = o; words = w; count = 0 } in
     subst (λ s. Talked kind users o w source0 sink0 o w s sink Starved) (sym still)
@@ -169,7 +169,7 @@ starved-at-once kind users o w source0 source sink0 sink fresh mine out still =
 
 -- a session that ends after a reply
 ended-reply : {S C Q : Type 0} (kind : Kind S C Q) (users : List User) (o : Known S C) (w : Option Words) (source0 source : SourceTold) (sink0 sink sink' : SinkTold) (a b : Standing S C) (answered : Bool) (bytes : List ℕ) (after : BufferTold)
-    → GrammarLaws → Fresh o → own b.known.base b.known.caller b.known.seen ≡ b.known.own → SoFar kind users o w source0 sink0 a answered bytes source sink
+    → GrammarLaws → Fresh o → own b.known.base b.known.session b.known.seen ≡ b.known.own → SoFar kind users o w source0 sink0 a answered bytes source sink
     → SendsReply kind users answered bytes a sink b sink' after (Some Ended) → Talked kind users o w source0 sink0 b.known b.words source sink' Ended
 ended-reply kind users o w source0 source sink0 sink sink' a b answered bytes after law fresh mine s i =
     turn-talked kind users o w source0 source sink0 sink sink' a b answered bytes i.request i.size i.answers.1 i.answers.1 Ended law fresh mine s i.first i.none_due i.answers.2 i.answers.3
@@ -177,7 +177,7 @@ ended-reply kind users o w source0 source sink0 sink sink' a b answered bytes af
 
 -- and one whose input ends at a border
 ended-border : {S C Q : Type 0} (kind : Kind S C Q) (users : List User) (o : Known S C) (w : Option Words) (source0 source : SourceTold) (sink0 sink sink' : SinkTold) (a b : Standing S C) (answered : Bool) (bytes : List ℕ)
-    → GrammarLaws → Fresh o → own b.known.base b.known.caller b.known.seen ≡ b.known.own → SoFar kind users o w source0 sink0 a answered bytes source sink
+    → GrammarLaws → Fresh o → own b.known.base b.known.session b.known.seen ≡ b.known.own → SoFar kind users o w source0 sink0 a answered bytes source sink
     → bytes ≡ [] → source.ended ≡ true → b ≡ a → sink' ≡ sink → Talked kind users o w source0 sink0 b.known b.words source sink' Ended
 ended-border kind users o w source0 source sink0 sink sink' a b answered bytes law fresh mine s none over same still =
     let mine' = rw same at mine in
@@ -199,7 +199,7 @@ has-fault answered over bytes source Coding is bad = (at_front bad.0, bad.1)
 has-fault answered over bytes source Cut is bad = (cut refl bad.0 (sym is ∙ bad.2), bad.1)
 
 ended-bad : {S C Q : Type 0} (kind : Kind S C Q) (users : List User) (o : Known S C) (w : Option Words) (source0 source : SourceTold) (sink0 sink sink' : SinkTold) (a b : Standing S C) (answered : Bool) (bytes : List ℕ) (fault : HttpFault)
-    → Fresh o → own b.known.base b.known.caller b.known.seen ≡ b.known.own → SoFar kind users o w source0 sink0 a answered bytes source sink
+    → Fresh o → own b.known.base b.known.session b.known.seen ≡ b.known.own → SoFar kind users o w source0 sink0 a answered bytes source sink
     → BadAnswer answered bytes source fault → b ≡ a → Took sink sink' (fault_text kind.wire fault) → Talked kind users o w source0 sink0 b.known b.words source sink' (Bad fault)
 ended-bad kind users o w source0 source sink0 sink sink' a b answered bytes fault fresh mine s bad same took =
     let has = has-fault answered source.ended bytes source fault refl bad in
@@ -213,7 +213,7 @@ ended-bad kind users o w source0 source sink0 sink sink' a b answered bytes faul
 
 -- a read that failed
 ended-read : {S C Q : Type 0} (kind : Kind S C Q) (users : List User) (o : Known S C) (w : Option Words) (source0 mid source : SourceTold) (sink0 sink sink' : SinkTold) (a b : Standing S C) (answered : Bool) (bytes : List ℕ)
-    → Fresh o → own b.known.base b.known.caller b.known.seen ≡ b.known.own → SoFar kind users o w source0 sink0 a answered bytes source sink
+    → Fresh o → own b.known.base b.known.session b.known.seen ≡ b.known.own → SoFar kind users o w source0 sink0 a answered bytes source sink
     → source0.faults ≤ mid.faults → (bytes ≡ []) ⊎ IsPending bytes → NoneDue answered bytes → Rose mid.faults source.faults → b ≡ a → sink' ≡ sink → Talked kind users o w source0 sink0 b.known b.words source sink' ReadFault
 ended-read kind users o w source0 mid source sink0 sink sink' a b answered bytes fresh mine s le pending none_due failed same still =
     let mine' = rw same at mine in
@@ -230,7 +230,7 @@ ended-read kind users o w source0 mid source sink0 sink sink' a b answered bytes
 
 -- a write that failed: of an interim reply, of a reply, and of a fault's text
 lost-interim : {S C Q : Type 0} (kind : Kind S C Q) (users : List User) (o : Known S C) (w : Option Words) (source0 source : SourceTold) (sink0 sink sink' : SinkTold) (a b : Standing S C) (answered : Bool) (bytes : List ℕ)
-    → Fresh o → own b.known.base b.known.caller b.known.seen ≡ b.known.own → SoFar kind users o w source0 sink0 a answered bytes source sink
+    → Fresh o → own b.known.base b.known.session b.known.seen ≡ b.known.own → SoFar kind users o w source0 sink0 a answered bytes source sink
     → ExpectsInterim answered bytes → b ≡ a → Lost sink sink' kind.wire.interim_text → Talked kind users o w source0 sink0 b.known b.words source sink' WriteFault
 lost-interim kind users o w source0 source sink0 sink sink' a b answered bytes fresh mine s e same lost =
     let f = front-of sink sink' kind.wire.interim_text lost in
@@ -243,7 +243,7 @@ pub prefix-behind : {A : Type 0} (xs f g : List A) → IsPrefix f g → IsPrefix
 prefix-behind xs f g p = (p.0, append_assoc xs f p.0 ∙ ap (λ ys. xs ++ ys) p.1)
 
 lost-reply : {S C Q : Type 0} (kind : Kind S C Q) (users : List User) (o : Known S C) (w : Option Words) (source0 source : SourceTold) (sink0 sink sink' : SinkTold) (a b : Standing S C) (answered : Bool) (bytes : List ℕ) (after : BufferTold)
-    → GrammarLaws → Fresh o → own b.known.base b.known.caller b.known.seen ≡ b.known.own → SoFar kind users o w source0 sink0 a answered bytes source sink
+    → GrammarLaws → Fresh o → own b.known.base b.known.session b.known.seen ≡ b.known.own → SoFar kind users o w source0 sink0 a answered bytes source sink
     → SendsReply kind users answered bytes a sink b sink' after (Some WriteFault) → Talked kind users o w source0 sink0 b.known b.words source sink' WriteFault
 lost-reply kind users o w source0 source sink0 sink sink' a b answered bytes after law fresh mine s i =
     let text = i.answers.0 in
@@ -252,7 +252,7 @@ lost-reply kind users o w source0 source sink0 sink sink' a b answered bytes aft
     (of_turn (new_turn i.request i.size i.answers.1) s.turns (interim_of kind.wire i.request.head ++ f.0) refl (prefix-behind (interim_of kind.wire i.request.head) f.0 text f.1) refl, rose-by sink0.faults sink.faults sink'.faults s.took.later f.3)
 
 lost-fault : {S C Q : Type 0} (kind : Kind S C Q) (users : List User) (o : Known S C) (w : Option Words) (source0 source : SourceTold) (sink0 sink sink' : SinkTold) (a b : Standing S C) (answered : Bool) (bytes : List ℕ) (fault : HttpFault)
-    → Fresh o → own b.known.base b.known.caller b.known.seen ≡ b.known.own → SoFar kind users o w source0 sink0 a answered bytes source sink
+    → Fresh o → own b.known.base b.known.session b.known.seen ≡ b.known.own → SoFar kind users o w source0 sink0 a answered bytes source sink
     → First bytes (Fault fault) → NoneDue answered bytes → b ≡ a → Lost sink sink' (fault_text kind.wire fault) → Talked kind users o w source0 sink0 b.known b.words source sink' WriteFault
 lost-fault kind users o w source0 source sink0 sink sink' a b answered bytes fault fresh mine s first none_due same lost =
     let f = front-of sink sink' (fault_text kind.wire fault) lost in
@@ -263,7 +263,7 @@ lost-fault kind users o w source0 source sink0 sink sink' a b answered bytes fau
 
 -- the session, by its last step
 pub talked-at : {S C Q : Type 0} (kind : Kind S C Q) (users : List User) (o : Known S C) (w : Option Words) (source0 source source' : SourceTold) (sink0 sink sink' : SinkTold) (a b : Standing S C) (before after : BufferTold) (end : End)
-    → GrammarLaws → Fresh o → own b.known.base b.known.caller b.known.seen ≡ b.known.own → SoFar kind users o w source0 sink0 a before.answered before.bytes source sink
+    → GrammarLaws → Fresh o → own b.known.base b.known.session b.known.seen ≡ b.known.own → SoFar kind users o w source0 sink0 a before.answered before.bytes source sink
     → Steps kind users before source a sink after source' b sink' (Some end) → Talked kind users o w source0 sink0 b.known b.words source' sink' end
 talked-at kind users o w source0 source source' sink0 sink sink' a b before after end law fresh mine s step = by_end end step.does
   where

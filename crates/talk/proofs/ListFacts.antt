@@ -1,11 +1,11 @@
--- Lists that go on, and the entries of one caller.
+-- Lists that go on, and the entries of one session.
 use Rattle.std.proofs.Common.{◌≡◌, ℕ, suc, ◌≤◌, List, [], ◌∷◌, ◌++◌, length, take, map, refl, ap, sym, ◌∙◌, arith, append_assoc, length-append, eq-eqb}
 use Rattle.std.specs.List.{filter}
 use Rattle.std.proofs.lemmas.List.{take-append-le}
 use Rattle.std.proofs.Math.Seq.{take-append_seam}
 use mathlib.Core.List.{IsPrefix}
 use Rattle.desk_model.specs.declared.entry.Entry.{Entry}
-use Rattle.desk_model.specs.Histories.{is_by, CallersBelow}
+use Rattle.desk_model.specs.Histories.{is_by, SessionsBelow}
 
 pub prefix-le : {A : Type 0} (f g : List A) → IsPrefix f g → length f ≤ length g
 prefix-le f g p = omega (arith, ap length p.1, length-append f p.0)
@@ -40,7 +40,7 @@ pub length_map : {A B : Type 0} (f : A → B) (xs : List A) → length (map f xs
 length_map f [] = refl
 length_map f (x ∷ xs) = ap suc (length_map f xs)
 
--- where all callers are below 1, all entries are those of caller 0
-pub below-one : {C : Type 0} (es : List (Entry C)) → CallersBelow 1 es → filter (is_by 0) es ≡ es
+-- where all sessions are below 1, all entries are those of session 0
+pub below-one : {C : Type 0} (es : List (Entry C)) → SessionsBelow 1 es → filter (is_by 0) es ≡ es
 below-one [] b = refl
-below-one (e ∷ es) b = rw (eq-eqb e.caller 0 (omega (arith, b.0)), below-one es b.1) refl
+below-one (e ∷ es) b = rw (eq-eqb e.session 0 (omega (arith, b.0)), below-one es b.1) refl

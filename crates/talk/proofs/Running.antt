@@ -7,7 +7,7 @@ use Rattle.outside.specs.Outside.{SourceTold, SinkTold, Gave}
 use Rattle.cm_base.specs.declared.number.Moment.{Moment}
 use Rattle.cm_base.specs.declared.user.User.{User}
 use Rattle.desk_model.specs.declared.entry.Entry.{Entry}
-use Rattle.desk_model.specs.Histories.{own, CallersBelow}
+use Rattle.desk_model.specs.Histories.{own, SessionsBelow}
 use Rattle.desk_model.specs.Desks.{Known}
 use Rattle.desk_model.specs.Single.{Single, IsOf}
 use Rattle.talk.specs.declared.end.End.{End}
@@ -94,18 +94,18 @@ on-lost kind opening users words after h g input output left o source source' ti
     lost-front kind opening users words v.0 (length h) h g input m.0 source'.ended output o times read_failed write_failed stop front law s' mine v.1
     (subst (λ left. Alone kind opening users words left o stop g) m.2 a)
 
-same-alone : {S C : Type 0} (opening : S) (users : List User) (k : Known S C) → k.opening ≡ opening → k.caller ≡ 0 → k.seen ≡ [] → setting k users ≡ alone_at opening users
+same-alone : {S C : Type 0} (opening : S) (users : List User) (k : Known S C) → k.opening ≡ opening → k.session ≡ 0 → k.seen ≡ [] → setting k users ≡ alone_at opening users
 same-alone opening users k o c s = λ i. record { opening = o i; users = users; number = c i; before = length (s i) }
 
-all-own : {C : Type 0} (b c : ℕ) (h : List (Entry C)) → b ≡ 0 → c ≡ 1 → CallersBelow c (drop b h) → own 0 0 h ≡ h
+all-own : {C : Type 0} (b c : ℕ) (h : List (Entry C)) → b ≡ 0 → c ≡ 1 → SessionsBelow c (drop b h) → own 0 0 h ≡ h
 all-own b c h is one below = below-one h (rw (is, one) at below)
 
-pub run-alone : {S C Q : Type 0} (kind : Kind S C Q) (opening : S) (users : List User) (k l : Known S C) (words after : Option Words) (source source' : SourceTold) (sink sink' : SinkTold) (callers : ℕ) (end : End)
+pub run-alone : {S C Q : Type 0} (kind : Kind S C Q) (opening : S) (users : List User) (k l : Known S C) (words after : Option Words) (source source' : SourceTold) (sink sink' : SinkTold) (sessions : ℕ) (end : End)
     → FrontLaws → GrammarLaws → (now : Option Words) → Talked kind users k now source sink l after source' sink' end → now ≡ words
-    → k.opening ≡ opening → k.base ≡ 0 → k.caller ≡ 0 → k.seen ≡ [] → callers ≡ 1 → CallersBelow callers (drop l.base l.seen)
+    → k.opening ≡ opening → k.base ≡ 0 → k.session ≡ 0 → k.seen ≡ [] → sessions ≡ 1 → SessionsBelow sessions (drop l.base l.seen)
     → (source'.ended ≡ true → IsAtEnd source'.left)
     → RunAlone kind opening users words source sink source' sink' end l.seen after
-run-alone {S} {C} {Q} kind opening users k l words after source source' sink sink' callers end front law now talked at o b c none one below empty = record {
+run-alone {S} {C} {Q} kind opening users k l words after source source' sink sink' sessions end front law now talked at o b c none one below empty = record {
   input = t.input;
   output = t.output;
   times = t.times;
@@ -123,7 +123,7 @@ run-alone {S} {C} {Q} kind opening users k l words after source source' sink sin
     t = subst (λ w. Talked kind users k w source sink l after source' sink' end) at talked
 
     mine : own 0 0 l.seen ≡ l.seen
-    mine = all-own l.base callers l.seen (t.base ∙ b) one below
+    mine = all-own l.base sessions l.seen (t.base ∙ b) one below
 
     session : Session kind (alone_at opening users) (length l.seen) l.seen t.input source'.ended t.output t.times (rose source.faults source'.faults) (rose sink.faults sink'.faults) end
     session = subst (λ at. Session kind at (length l.seen) l.seen t.input source'.ended t.output t.times (rose source.faults source'.faults) (rose sink.faults sink'.faults) end) (same-alone opening users k o c none) t.session
@@ -135,13 +135,13 @@ run-alone {S} {C} {Q} kind opening users k l words after source source' sink sin
 own-at : {C : Type 0} (b n : ℕ) (h : List (Entry C)) → b ≡ 0 → n ≡ 0 → own b n h ≡ own 0 0 h
 own-at b n h e f = λ i. own (e i) (f i) h
 
-pub whole-seen : {S C A X : Type 0} (next : S → Entry C → Result (S × A) X) (d : Single S C) (p : Known S C) → IsOf next d p → d.made ≡ 1 → p.base ≡ 0 → p.caller ≡ 0 → p.seen ≡ d.journal
-whole-seen next d p of one base caller =
+pub whole-seen : {S C A X : Type 0} (next : S → Entry C → Result (S × A) X) (d : Single S C) (p : Known S C) → IsOf next d p → d.made ≡ 1 → p.base ≡ 0 → p.session ≡ 0 → p.seen ≡ d.journal
+whole-seen next d p of one base session =
     sym (all-own p.base d.made p.seen base one of.below)
-    ∙ (sym (own-at p.base p.caller p.seen base caller)
+    ∙ (sym (own-at p.base p.session p.seen base session)
     ∙ (of.sound.mine
     ∙ (sym of.all
-    ∙ (own-at p.base p.caller d.journal base caller
+    ∙ (own-at p.base p.session d.journal base session
     ∙ all-own d.base d.made d.journal (sym of.base ∙ base) one of.few))))
 
 -- the journal and the words by other names

@@ -10,8 +10,8 @@ use Rattle.http_grammar.specs.Request.{Head}
 use Rattle.http_grammar.specs.Fields.{expects_continue}
 use Rattle.http_grammar.specs.declared.fault.HttpFault.TheVariants.{Cut}
 use Rattle.http_grammar.specs.First.{IsPending}
-use Rattle.talk.specs.declared.asked.Asked.{Asked}
-use Rattle.talk.specs.declared.asked.Asked.TheVariants.{Write, Question}
+use Rattle.cm_base.specs.declared.asked.Asked.{Asked}
+use Rattle.cm_base.specs.declared.asked.Asked.TheVariants.{Write, Question}
 use Rattle.talk.specs.declared.end.End.TheVariants.{Bad}
 use Rattle.talk.specs.Wire.{Wire}
 use Rattle.talk.specs.Served.{Kind}
@@ -65,7 +65,7 @@ abbrev at : Setting ℕ
 at = alone_at 1 []
 
 abbrev entry : Entry ℕ
-entry = record { caller = 0; serial = 0; user = []; moment = moment_of 5; call = 40 }
+entry = record { session = 0; serial = 0; user = []; moment = moment_of 5; call = 40 }
 
 -- three turns with a refused write in the middle: one entry, three replies, and two words are gone
 pub three_turns : after_requests sums at words (request [] ∷ request (70 ∷ []) ∷ request (40 ∷ []) ∷ [])

@@ -60,13 +60,13 @@ told-then (Some a) v w [] ys p q = subst (λ v. Told v ys w) p q
 told-then (Some a) v w (x ∷ xs) ys p q = (p.0, told-then (Some (rest_words a)) v w xs ys p.1 q)
 
 pub goes-same : {S C : Type 0} (k : Known S C) → GoesOn k k []
-goes-same k = record { opening = refl; base = refl; caller = refl; seen = ([], append-nil k.seen); own = sym (append-nil k.own) }
+goes-same k = record { opening = refl; base = refl; session = refl; seen = ([], append-nil k.seen); own = sym (append-nil k.own) }
 
 pub goes-then : {S C : Type 0} (o k l : Known S C) (xs ys : List (Entry C)) → GoesOn o k xs → GoesOn k l ys → GoesOn o l (xs ++ ys)
 goes-then o k l xs ys p q = record {
   opening = q.opening ∙ p.opening;
   base = q.base ∙ p.base;
-  caller = q.caller ∙ p.caller;
+  session = q.session ∙ p.session;
   seen = prefix-trans o.seen k.seen l.seen p.seen q.seen;
   own = q.own ∙ (ap (λ zs. zs ++ ys) p.own ∙ append_assoc o.own xs ys);
 }
@@ -178,8 +178,8 @@ does-to kind at at' k k' p p' q g g' head last last' ask w moment text e f h i j
     (subst (λ g. Does kind at k p q g head last' ask w moment text) i
     (subst (λ last. Does kind at k p q g head last ask w moment text) j d))))
 
-same-setting : {S C : Type 0} (o k : Known S C) (users : List User) → k.opening ≡ o.opening → k.caller ≡ o.caller
-    → record { opening = k.opening; users = users; number = k.caller; before = length o.seen } ≡ setting o users
+same-setting : {S C : Type 0} (o k : Known S C) (users : List User) → k.opening ≡ o.opening → k.session ≡ o.session
+    → record { opening = k.opening; users = users; number = k.session; before = length o.seen } ≡ setting o users
 same-setting o k users e f = λ i. record { opening = e i; users = users; number = f i; before = length o.seen }
 
 -- the turn of a request
@@ -199,7 +199,7 @@ turns-more kind users o a b ts r n text none are last on count t =
         within = omega arith;
         does = does-to kind _ (setting o users) (length a.known.own) (length (entries ts)) (length a.known.seen) (last_place (length o.seen) ts) (length b.known.seen) b.known.seen (take (length b.known.seen) b.known.seen)
             r.head (is_last kind.wire a.count r.head) (is_last kind.wire (length ts) r.head) (ask_of kind users r) t.wrote t.moment text
-            (same-setting o a.known users on.opening on.caller) own (sym last) (sym (take-self b.known.seen)) (ap (λ c. is_last kind.wire c r.head) count)
+            (same-setting o a.known users on.opening on.session) own (sym last) (sym (take-self b.known.seen)) (ap (λ c. is_last kind.wire c r.head) count)
             (does-before kind (setting a.known users) (length o.seen) (length a.known.own) (length a.known.seen) (length b.known.seen) b.known.seen r.head (is_last kind.wire a.count r.head) (ask_of kind users r) t.wrote t.moment text t.does);
       },
     )

@@ -16,7 +16,7 @@ use Rattle.desk_model.specs.Histories.{History, replay, shown_by, state_of}
 use Rattle.desk_model.specs.Desks.{Known, entry_of, with_seen, Wrote, Looked}
 use Rattle.desk_model.proofs.Replays.{replay-more}
 use Rattle.http_grammar.specs.Request.{Head, Request}
-use Rattle.talk.specs.declared.asked.Asked.TheVariants.{Write, Question}
+use Rattle.cm_base.specs.declared.asked.Asked.TheVariants.{Write, Question}
 use Rattle.talk.specs.Served.{Kind, Ask, faulty, writes, reads, ask_of}
 use Rattle.talk.specs.Session.{plain_shown, number_at, ahead, refused, with_number, reading_text}
 use Rattle.talk.specs.Told.{Told}
@@ -42,7 +42,7 @@ same-none None w e = tt
 same-none (Some a) w e = e
 
 saw-on : {S C : Type 0} (k : Known S C) (g : List (Entry C)) → IsPrefix k.seen g → GoesOn k (with_seen k g) []
-saw-on k g pre = record { opening = refl; base = refl; caller = refl; seen = pre; own = sym (append-nil k.own) }
+saw-on k g pre = record { opening = refl; base = refl; session = refl; seen = pre; own = sym (append-nil k.own) }
 
 pub accepted-turn : {S C Q : Type 0} (kind : Kind S C Q) (users : List User) (head : Head) (last : Bool) (k l : Known S C) (least : ℕ) (user : List ℕ) (moment : Moment) (call : C) (a : Shown) (v w : Option Words)
     → ((s t : S) (e : Entry C) (a : Shown) → kind.next s e ≡ Ok (t, a) → a.number ≡ Some (kind.number t))
@@ -59,7 +59,7 @@ accepted-turn kind users head last k l least user moment call a v w law h told =
       wrote = Some e;
       moment = moment;
       does = (longer, record { earlier = g; prefix = refl; entry_is = refl; not_ahead = h.3; shown = a; accepted = h.4; text_is = ap (λ a. kind.wire.reply_text a last) (numbered a _ number) });
-      on = record { opening = refl; base = refl; caller = refl; seen = prefix-more k.seen g (e ∷ []) h.1; own = refl };
+      on = record { opening = refl; base = refl; session = refl; seen = prefix-more k.seen g (e ∷ []) h.1; own = refl };
       told = told;
     })
 
@@ -162,7 +162,7 @@ stays-late k l u v w moment on h e = record { on = on; told = inr (moment, told-
 
 -- the pass is as it was, after a word of the clock
 pub same-on : {S C : Type 0} (k l : Known S C) → l ≡ k → GoesOn k l []
-same-on k l e = rw e (record { opening = refl; base = refl; caller = refl; seen = ([], append-nil k.seen); own = sym (append-nil k.own) })
+same-on k l e = rw e (record { opening = refl; base = refl; session = refl; seen = ([], append-nil k.seen); own = sym (append-nil k.own) })
 
 -- no word is gone
 pub stays-same : {S C : Type 0} (k l : Known S C) (u w : Option Words) → GoesOn k l [] → w ≡ u → Stays k l u w

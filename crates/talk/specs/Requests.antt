@@ -1,5 +1,5 @@
 -- The requests of a session, with the last one first: how they stand at the front of the bytes, and what stands behind them.
-use Rattle.std.specs.Prelude.{◌≡◌, ℕ, ◌==◌, Bool, true, false, ◌||◌, List, [], ◌∷◌, ◌++◌, None, length, drop, if◌then◌else◌}
+use Rattle.std.specs.Prelude.{◌≡◌, ℕ, ◌-◌, ◌==◌, Bool, true, false, ◌||◌, List, [], ◌∷◌, ◌++◌, None, length, drop, if◌then◌else◌}
 use Rattle.cm_base.specs.declared.cause.Cause.TheVariants as causes
 use Rattle.http_grammar.specs.declared.fault.HttpFault.{HttpFault}
 use Rattle.http_grammar.specs.declared.fault.HttpFault.TheVariants.{BadHead, LongHead, LongBody, BadLength, Coding, Cut}
@@ -18,9 +18,13 @@ abbrev pub rest_after : List ℕ → List Arrived → List ℕ
 rest_after input [] = input
 rest_after input (r ∷ rs) = drop r.size (rest_after input rs)
 
+-- the most requests of a session
+abbrev pub most_requests : ℕ
+most_requests = 1000
+
 -- the reply to this head is the last of its session, after so many others: the 1000th reply, the reply to HTTP/1.0, or to `Connection: close` (RFC 9112, section 9.6)
 abbrev pub is_last : Wire → ℕ → Head → Bool
-is_last w count head = (count == 999) || w.closes head
+is_last w count head = (count == most_requests - 1) || w.closes head
 
 -- no reply has closed the session
 abbrev pub IsOpen : Wire → List Arrived → Type 0

@@ -5,8 +5,8 @@ use Rattle.cm_base.specs.declared.shown.Shown.{Shown}
 use Rattle.cm_base.specs.declared.user.User.{User}
 use Rattle.http_grammar.specs.Request.{Request}
 use Rattle.desk_model.specs.declared.entry.Entry.{Entry}
-use Rattle.talk.specs.declared.asked.Asked.{Asked}
-use Rattle.talk.specs.declared.asked.Asked.TheVariants.{Write, Question}
+use Rattle.cm_base.specs.declared.asked.Asked.{Asked}
+use Rattle.cm_base.specs.declared.asked.Asked.TheVariants.{Write, Question}
 use Rattle.http_grammar.specs.Request.{Head}
 use Rattle.http_reply.specs.Replies.{reply_text, interim_text, runtime_text, cause_shown}
 use Rattle.talk.specs.Wire.{Wire}

@@ -63,7 +63,7 @@ number_at kind at g = kind.number (replay kind.next at.opening g)
 
 -- the entry that the session makes as its k-th, counted from 0
 abbrev pub entry_by : {S C : Type 0} → Setting S → ℕ → List ℕ → Moment → C → Entry C
-entry_by at k user moment call = record { caller = at.number; serial = k; user = user; moment = moment; call = call }
+entry_by at k user moment call = record { session = at.number; serial = k; user = user; moment = moment; call = call }
 
 -- An accepted write: the prefix g ends with its entry; before the entry the number asked for isn't ahead, and the machine accepts the entry.
 -- The reply is what the machine shows of the entry there, with the number after it.

@@ -35,6 +35,6 @@ pub record Talked {S C Q : Type 0} (kind : Kind S C Q) (users : List User) (k : 
   pub told : TakesWords end words times after
   pub opening : l.opening ≡ k.opening
   pub base : l.base ≡ k.base
-  pub caller : l.caller ≡ k.caller
+  pub number : l.session ≡ k.session
   pub seen : IsPrefix k.seen l.seen
   pub session : Session kind (setting k users) (length l.seen) l.seen input source'.ended output times (rose source.faults source'.faults) (rose sink.faults sink'.faults) end

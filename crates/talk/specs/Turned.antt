@@ -34,7 +34,7 @@ IsRefusal (Refuses cause n) = Unit {0}
 pub record GoesOn {S C : Type 0} (k l : Known S C) (made : List (Entry C)) : Type 0 where
   pub opening : l.opening ≡ k.opening
   pub base : l.base ≡ k.base
-  pub caller : l.caller ≡ k.caller
+  pub session : l.session ≡ k.session
   pub seen : IsPrefix k.seen l.seen
   pub own : l.own ≡ k.own ++ made
 
@@ -45,7 +45,7 @@ pub record Stays {S C : Type 0} (k l : Known S C) (words after : Option Words) :
 
 -- the setting of a session whose pass knows k
 abbrev pub setting : {S C : Type 0} → Known S C → List User → Setting S
-setting k users = record { opening = k.opening; users = users; number = k.caller; before = length k.seen }
+setting k users = record { opening = k.opening; users = users; number = k.session; before = length k.seen }
 
 -- a turn that asks this does what it should at what the pass has then seen, and has taken a word of the clock if it is a write
 pub record Turned {S C Q : Type 0} (kind : Kind S C Q) (users : List User) (head : Head) (last : Bool) (ask : Ask C Q) (k : Known S C) (words : Option Words) (text : List ℕ) (l : Known S C) (after : Option Words) : Type 0 where

@@ -8,7 +8,7 @@ ghost use Rattle.cm_base.specs.declared.user.User.{User};
 ghost use Rattle.desk_model.specs.declared.entry.Entry.{Entry};
 ghost use Rattle.desk_model.specs.Histories.{own};
 ghost use Rattle.http_grammar.specs.Request.{Request};
-ghost use Rattle.talk.specs.declared.asked.Asked.{Asked};
+ghost use Rattle.cm_base.specs.declared.asked.Asked.{Asked};
 ghost use Rattle.talk.specs.declared.end.End.{End};
 ghost use Rattle.talk.specs.Wire.{Wire};
 ghost use Rattle.talk.specs.Session.{Setting, Session};

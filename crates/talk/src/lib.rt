@@ -3,7 +3,6 @@
 #![tactic(auto)]
 
 mod alone;
-mod asked;
 mod end;
 mod laws;
 mod link;
@@ -14,7 +13,6 @@ mod step;
 mod turn;
 
 pub use alone::{AloneEnd, run_alone};
-pub use asked::Asked;
 pub use end::End;
 pub use laws::{alone_is_one, session_alone, session_stands};
 pub use reply::reply_to;

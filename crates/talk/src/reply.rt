@@ -7,9 +7,9 @@ ghost use Rattle.talk.specs.Served.{Kind, wire_of, ask_of, writes, reads};
 ghost use Rattle.talk.specs.Session.{plain_shown, is_head_cause};
 ghost use Rattle.talk.specs.Turned.{Turned, Stays};
 
-use crate::asked::Asked;
 use crate::served::Served;
 use crate::turn::{read_turn, shown_of, write_turn};
+use cm_base::asked::Asked;
 use cm_base::cause::Cause;
 use cm_base::fail::Fail;
 use cm_base::shown::Shown;
@@ -133,12 +133,12 @@ where
     match D::Kind::user_of(alloc, head, users) {
         Ok(user) => match D::Kind::call_of(alloc, request) {
             Ok(Asked::Write(call)) => {
-                gate.pass(desk.caller(pass), *calls);
+                gate.pass(desk.session(pass), *calls);
                 *calls = (*calls).saturating_add(1);
                 write_reply_of(alloc, leave, desk, pass, &user, least, call)
             }
             Ok(Asked::Question(question)) => {
-                gate.pass(desk.caller(pass), *calls);
+                gate.pass(desk.session(pass), *calls);
                 *calls = (*calls).saturating_add(1);
                 read_reply_of(alloc, leave, desk, pass, &user, least, &question)
             }

@@ -5,10 +5,10 @@ ghost use Rattle.cm_base.specs.declared.cause.Cause.{Cause};
 ghost use Rattle.cm_base.specs.declared.shown.Shown.{Shown};
 ghost use Rattle.cm_base.specs.declared.user.User.{User};
 ghost use Rattle.desk_model.specs.declared.entry.Entry.{Entry};
-ghost use Rattle.talk.specs.declared.asked.Asked.{Asked};
+ghost use Rattle.cm_base.specs.declared.asked.Asked.{Asked};
 ghost use Rattle.cm_base.specs.Judged.{Meets};
 
-use crate::asked::Asked;
+use cm_base::asked::Asked;
 use cm_base::cause::Cause;
 use cm_base::fail::Fail;
 use cm_base::shown::Shown;

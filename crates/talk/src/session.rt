@@ -33,7 +33,8 @@ where
     D::Kind: Served,
     requires is_of { D.is_of desk.old pass.old }
     requires none_made { (D.known pass.old).own ≡ [] }
-    requires none_before { own 0 (D.known pass.old).caller (take (D.known pass.old).base (D.known pass.old).seen) ≡ [] }
+    requires none_before { own 0 (D.known pass.old).session
+        (take (D.known pass.old).base (D.known pass.old).seen) ≡ [] }
     ensures is_of { D.is_of desk.new pass.new }
     ensures aside { D.aside desk.new ≡ D.aside desk.old }
     ensures place { D.place pass.new ≡ D.place pass.old }

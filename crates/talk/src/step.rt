@@ -2,7 +2,7 @@
 ghost use Rattle.std.specs.Prelude.{◌≡◌, ◌<◌};
 ghost use Rattle.http_reply.specs.Replies.{interim_text};
 ghost use Rattle.talk.specs.Served.{wire_of};
-ghost use Rattle.talk.specs.Requests.{is_last};
+ghost use Rattle.talk.specs.Requests.{is_last, most_requests};
 ghost use Rattle.talk.specs.Steps.{AnswersRequest, SendsContinue, Steps};
 
 use crate::end::End;
@@ -41,7 +41,7 @@ fn answer<D: Desk, L: Link, G: Gate>(
 where
     D::Kind: Served,
     requires is_of { D.is_of desk.old pass.old }
-    requires few { count.old < 1000 }
+    requires few { count.old < most_requests }
     ensures is_of { D.is_of desk.new pass.new }
     ensures aside { D.aside desk.new ≡ D.aside desk.old }
     ensures place { D.place pass.new ≡ D.place pass.old }
@@ -93,7 +93,7 @@ pub fn step<D: Desk, L: Link, G: Gate>(
 where
     D::Kind: Served,
     requires is_of { D.is_of desk.old pass.old }
-    requires few { count.old < 1000 }
+    requires few { count.old < most_requests }
     ensures is_of { D.is_of desk.new pass.new }
     ensures aside { D.aside desk.new ≡ D.aside desk.old }
     ensures place { D.place pass.new ≡ D.place pass.old }

@@ -56,19 +56,19 @@ series_there r x name o e = subst (λ o. IfSome o (λ s. is_some (series_at r s.
 
 pub object_is : (r : Repository) (u : List ℕ) (m : Moment) (call : UpdateProperties) (x kept new : Object) (values : List Slot)
     → kept ≡ record x { name = name_kept x.name (name_after r x call.properties); secondary = secondary_updated call x; values = values }
-    → new ≡ record kept { changer = u; changed = m; token = r.step } → values ≡ values_updated r call x → new ≡ updated_object r u m call x
+    → new ≡ record kept { modified_by = u; modified_at = m; token = r.step } → values ≡ values_updated r call x → new ≡ updated_object r u m call x
 object_is r u m call x kept new values e f v =
-    f ∙ (ap (λ (k : Object). record k { changer = u; changed = m; token = r.step }) e
-    ∙ ap (λ (vs : List Slot). record x { name = name_kept x.name (name_after r x call.properties); secondary = secondary_updated call x; values = vs; changer = u; changed = m; token = r.step }) v)
+    f ∙ (ap (λ (k : Object). record k { modified_by = u; modified_at = m; token = r.step }) e
+    ∙ ap (λ (vs : List Slot). record x { name = name_kept x.name (name_after r x call.properties); secondary = secondary_updated call x; values = vs; modified_by = u; modified_at = m; token = r.step }) v)
 
 -- ---- the repository with it
 
 pub put_is : (r : Repository) (call : UpdateProperties) (x new : Object) (series : Option Series) → IsWellFormed r → object_at r x.id ≡ Some x → new.id ≡ x.id
     → series ≡ series_renamed r x (name_after r x call.properties)
-    → noted (edited (with_maybe r series) new.id (λ _. new)) changes.Updated new.id new.changed [] ≡ placed r call x new
+    → noted (edited (with_maybe r series) new.id (λ _. new)) changes.Updated new.id new.modified_at [] ≡ placed r call x new
 put_is r call x new series w there e f =
-    (λ i. noted (edited (with_maybe r (f i)) (e i) (λ _. new)) changes.Updated (e i) new.changed [])
-    ∙ ap (λ q. noted (edited q x.id (λ _. new)) changes.Updated x.id new.changed []) (named_is r x (name_after r x call.properties) w there)
+    (λ i. noted (edited (with_maybe r (f i)) (e i) (λ _. new)) changes.Updated (e i) new.modified_at [])
+    ∙ ap (λ q. noted (edited q x.id (λ _. new)) changes.Updated x.id new.modified_at []) (named_is r x (name_after r x call.properties) w there)
 
 -- an object in place of the one that has its number is found
 put_there : (xs : List Object) (y v : Object) → v.id ≡ y.id → find (λ z. same z.id y.id) xs ≡ Some y → find (λ z. same z.id y.id) (map (λ z. if same z.id y.id then v else z) xs) ≡ Some v

@@ -56,6 +56,15 @@ gives_name call = is_some (given_of call.properties (codes "cmis:name"))
 
 -- ---- the refusal
 
+-- the caller may change the object, as its token, if one is given, says that he knows it
+abbrev pub judge_allowed : Repository → List ℕ → UpdateProperties → Object → Judged (Unit {0})
+judge_allowed r u call x = do
+  refuse causes.Denied (lacks r u levels.Write x)
+  judge_token x call.token
+  refuse causes.RootFixed (same x.id root && gives_name call)
+  judge_changeable r x
+  refuse causes.TypeKind (has_other_secondary r.types (secondary_named call))
+
 -- another child has the name in a folder of the object; a working copy is filed nowhere
 abbrev pub takes_name : Repository → Object → List ℕ → Bool
 takes_name r x name = not (is_working_copy r x) && is_taken_anywhere r (entry_of x) name
@@ -65,15 +74,6 @@ abbrev pub judge_new_name : Repository → UpdateProperties → Object → Judge
 judge_new_name r call x = do
   refuse causes.BadName (not (is_name (name_after r x call.properties)))
   refuse causes.NameTaken (takes_name r x (name_after r x call.properties))
-
--- the caller may change the object, as its token, if one is given, says that he knows it
-abbrev pub judge_allowed : Repository → List ℕ → UpdateProperties → Object → Judged (Unit {0})
-judge_allowed r u call x = do
-  refuse causes.Denied (lacks r u levels.Write x)
-  judge_token x call.token
-  refuse causes.RootFixed (same x.id root && gives_name call)
-  judge_changeable r x
-  refuse causes.TypeKind (has_other_secondary r.types (secondary_named call))
 
 -- the retention of the object, if it is under one at the moment, is neither taken away nor shortened (section 2.1.16.1)
 abbrev pub judge_update : Repository → List ℕ → Moment → UpdateProperties → Object → Judged (Unit {0})
@@ -108,8 +108,8 @@ updated_object r u m call x = record x {
   name = name_kept x.name (name_after r x call.properties);
   secondary = secondary_updated call x;
   values = values_updated r call x;
-  changer = u;
-  changed = m;
+  modified_by = u;
+  modified_at = m;
   token = r.step;
 }
 
@@ -125,7 +125,7 @@ renamed r name false (Some n) = series_edited r n (under_name name)
 -- a new object in place of the old one, after the series of the old one under its name, with its event
 abbrev pub placed : Repository → UpdateProperties → Object → Object → Repository
 placed r call x new =
-    noted (edited (renamed r (name_after r x call.properties) (is_working_copy r x) x.series) x.id (λ _. new)) changes.Updated x.id new.changed []
+    noted (edited (renamed r (name_after r x call.properties) (is_working_copy r x) x.series) x.id (λ _. new)) changes.Updated x.id new.modified_at []
 
 abbrev pub changed_in : Repository → List ℕ → Moment → UpdateProperties → Object → Repository
 changed_in r u m call x = placed r call x (updated_object r u m call x)

@@ -84,12 +84,12 @@ fn changed_by(
     object: Object,
 ) -> Result<Object, AllocError>
     ensures { IfOk result (λ x. x
-        ≡ record object { changer = user.now; changed = moment; token = state.now.step }) }
+        ≡ record object { modified_by = user.now; modified_at = moment; token = state.now.step }) }
 {
-    let changer = user.copied(alloc)?;
+    let modified_by = user.copied(alloc)?;
     Ok(Object {
-        changer,
-        changed: moment,
+        modified_by,
+        modified_at: moment,
         token: state.step(),
         ..object
     })

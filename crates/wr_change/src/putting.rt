@@ -74,10 +74,10 @@ pub(crate) fn put_in(
     requires series { IfSome series (λ s. is_some (series_at state.now s.id) ≡ true) }
     ensures { IfOk result (λ d. d ≡
         noted (edited (with_maybe state.now series) object.id (λ _. object))
-        Updated object.id object.changed []) }
+        Updated object.id object.modified_at []) }
 {
     let number = object.id;
-    let moment = object.changed;
+    let moment = object.modified_at;
     let begun = Draft::of(alloc, state)?;
     let named = with_maybe(alloc, begun, series)?;
     let put = named.edited(alloc, object)?;

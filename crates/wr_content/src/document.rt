@@ -77,11 +77,11 @@ pub(crate) fn changed_by(
     requires room { state.now.step + 1 < 2 ^ 64 }
     ensures { IfOk result (λ y. y ≡ changed_by state.now user.now moment x.now) }
 {
-    let changer = user.copied(alloc)?;
+    let modified_by = user.copied(alloc)?;
     let old = x.copied(alloc)?;
     Ok(Object {
-        changer,
-        changed: moment,
+        modified_by,
+        modified_at: moment,
         token: state.step() + 1,
         ..old
     })
@@ -102,7 +102,7 @@ pub(crate) fn filled(
     ensures { IfOk result (λ s. s ≡ filled state.now x content cost) }
 {
     let number = x.id;
-    let moment = x.changed;
+    let moment = x.modified_at;
     let begun = Draft::of(alloc, state)?;
     let put = begun.edited(alloc, x)?;
     let full = put.with_content(alloc, content)?;
@@ -131,7 +131,7 @@ pub(crate) fn cleared(
     ensures { IfOk result (λ s. s ≡ cleared state.now x cost) }
 {
     let number = x.id;
-    let moment = x.changed;
+    let moment = x.modified_at;
     let begun = Draft::of(alloc, state)?;
     let put = begun.edited(alloc, x)?;
     let empty = put.without_content(alloc, number)?;

@@ -21,12 +21,12 @@ use Rattle.wr_rules.specs.Rules.{judge_storage, unknown_type, unread_cause, has_
 use Rattle.wr_rules.proofs.Found.{addressed_there}
 use Rattle.wr_rules.proofs.Room.{room_of}
 use Rattle.wr_rules.specs.Wanted.{wanted_in}
-use Rattle.wr_object.specs.CreateDocument.{folder_at, may_not_make, is_no_folder, is_name_taken}
-use Rattle.wr_object.specs.DocumentParts.{number_of}
+use Rattle.wr_object.specs.CreateDocument.{folder_at, may_not_make, is_no_folder, is_name_taken, number_of}
+use Rattle.wr_object.proofs.CreatedDocument.{bind_ok, folder_is}
 use Rattle.wr_create.specs.Making.{judge_type, judge_request, new_object, made_by, after_making}
 use Rattle.wr_create.specs.CreateItem.{judge_place, refusal_create_item, after_create_item}
 use Rattle.wr_create.proofs.Made.{IsMaking, base_is, is_made}
-use Rattle.wr_create.proofs.Lines.{bind_ok, folder_is, type_ok, request_ok}
+use Rattle.wr_create.proofs.Lines.{type_ok, request_ok}
 
 -- what a refusal that is none tells
 pub record Passes (r : Repository) (u : List ℕ) (cost : ℕ) (call : CreateItem) : Type 0 where

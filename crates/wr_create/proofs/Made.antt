@@ -27,10 +27,11 @@ use Rattle.cmis_laws.proofs.Steps.{HasRoom}
 use Rattle.wr_rules.specs.Rules.{distinct, type_id_in, secondary_in, has_other_secondary, has_other_policy, policies_in, new_aces}
 use Rattle.wr_rules.proofs.Known.{below_secondary}
 use Rattle.wr_rules.specs.Wanted.{Wanted, wanted_in}
-use Rattle.wr_object.specs.DocumentParts.{filed_at}
+use Rattle.wr_object.specs.CreateFolder.{object_of}
+use Rattle.wr_object.specs.CreateDocument.{filed_at}
 use Rattle.wr_object.proofs.CreateFolder.{IsGood, new_permit, distinct_all, good_all, named_all}
 use Rattle.wr_create.specs.declared.making.NewObject.{NewObject}
-use Rattle.wr_create.specs.Making.{object_of, new_object, new_of, made_by, after_making}
+use Rattle.wr_create.specs.Making.{new_object, new_of, made_by, after_making}
 
 -- ---- the room
 

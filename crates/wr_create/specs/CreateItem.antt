@@ -14,8 +14,7 @@ use Rattle.cm_see.specs.Addressed.{addressed}
 use Rattle.cmis_spec.specs.Repository.{Repository}
 use Rattle.wr_rules.specs.Rules.{judge_storage, unknown_type, bars_child, unread_cause, has_other_policy}
 use Rattle.wr_rules.specs.Wanted.{Wanted, wanted_in}
-use Rattle.wr_object.specs.CreateDocument.{folder_at, may_not_make, is_no_folder, is_name_taken}
-use Rattle.wr_object.specs.DocumentParts.{number_of}
+use Rattle.wr_object.specs.CreateDocument.{folder_at, may_not_make, is_no_folder, is_name_taken, number_of}
 use Rattle.wr_create.specs.declared.making.NewObject.{NewObject}
 use Rattle.wr_create.specs.Making.{judge_type, is_uncontrollable, judge_request, cost_of_making, made_by, after_making, reply_of_making}
 

@@ -3,7 +3,6 @@ use Rattle.std.specs.Prelude.{ℕ, ◌+◌, nat_lt, Bool, true, ◌&&◌, ◌||�
 use Rattle.cm_base.specs.declared.number.Oid.{Oid}
 use Rattle.cm_base.specs.declared.number.Moment.{Moment}
 use Rattle.cm_base.specs.declared.object.Object.{Object}
-use Rattle.cm_base.specs.declared.value.Slot.{Slot}
 use Rattle.cm_base.specs.declared.log.ChangeKind.TheVariants as changes
 use Rattle.cm_base.specs.declared.cause.Cause.TheVariants as causes
 use Rattle.cm_base.specs.Judged.{Judged, ◌>>◌, refuse}
@@ -21,12 +20,12 @@ use Rattle.call_parts.specs.Weight.{bounded}
 use Rattle.create_parts.specs.declared.writes.ObjectRequest.{ObjectRequest}
 use Rattle.cm_see.specs.Addressed.{addressed}
 use Rattle.cm_see.specs.Shown.{shown_object}
-use Rattle.cmis_spec.specs.Repository.{Repository, new_number}
-use Rattle.cmis_spec.specs.Values.{kept_beside}
+use Rattle.cmis_spec.specs.Repository.{Repository}
 use Rattle.cmis_spec.specs.Changes.{stepped, noted, with_object}
 use Rattle.wr_rules.specs.Rules.{has_other_secondary, policies_in, has_unknown_permission, has_entries, new_aces, defaults_cost}
 use Rattle.wr_rules.specs.Wanted.{Wanted, wanted_in}
-use Rattle.wr_object.specs.DocumentParts.{filed_at}
+use Rattle.wr_object.specs.CreateFolder.{object_of}
+use Rattle.wr_object.specs.CreateDocument.{filed_at}
 use Rattle.wr_create.specs.declared.making.NewObject.{NewObject}
 
 -- ---- lines of the refusals
@@ -64,22 +63,6 @@ cost_of_making r weight given =
 
 -- ---- what is made
 
--- of what is wanted and the values that are kept
-abbrev pub object_of : Repository → List ℕ → Moment → Wanted → List Slot → Object
-object_of r u m wanted values = record {
-  id = new_number r;
-  kind = wanted.kind;
-  name = Some wanted.name;
-  secondary = wanted.secondary;
-  values = kept_beside values;
-  maker = u;
-  made = m;
-  changer = u;
-  changed = m;
-  token = r.step + 1;
-  series = None;
-}
-
 -- the object that the given properties say, by this caller at this moment
 abbrev pub new_object : Repository → List ℕ → Moment → List Given → Object
 new_object r u m given = object_of r u m (wanted_in r.types given) (kept_values calls.Create (wanted_in r.types given).defs [] given)
@@ -99,7 +82,7 @@ made_by r u m request given folder = new_of r u request (new_object r u m given)
 -- one step further at this cost, with the object in its folder, and the event of what was made
 abbrev pub after_making : Repository → ℕ → NewObject → Repository
 after_making r cost new =
-    noted (filed_at (with_object (stepped r cost) new.object new.aces new.policies) new.folder new.object.id) changes.Created new.object.id new.object.made []
+    noted (filed_at (with_object (stepped r cost) new.object new.aces new.policies) new.folder new.object.id) changes.Created new.object.id new.object.created_at []
 
 -- ---- the reply
 

@@ -7,10 +7,9 @@ ghost use Rattle.cmis_spec.specs.Well.{IsWellFormed};
 ghost use Rattle.wr_rules.specs.Wanted.{wanted_in};
 ghost use Rattle.wr_create.specs.CreatePolicy.{cost_create_policy, judge_policy, refusal_of_policy, refusal_create_policy, after_create_policy, acknowledgement_create_policy};
 
-use crate::making::{made_with_reply, new_object, with_request};
+use crate::making::{made_with_reply, with_request};
 use crate::rules::{
     cost_of_making, is_anonymous, is_uncontrollable, judge_addressed, judge_request, judge_type,
-    wanted_of,
 };
 use call_parts::replies::ObjectReply;
 use cm_base::cause::Cause;
@@ -23,6 +22,8 @@ use cm_types::definition::{BaseType, TypeDef};
 use create_parts::weight::weight_of_create_policy;
 use create_parts::writes::CreatePolicy;
 use std::alloc::Global;
+use wr_object::asked::wanted_of;
+use wr_object::making::new_object;
 use wr_rules::kinds::judge_types;
 use wr_rules::policies::{has_other_policy, judge_read};
 use wr_rules::storage::judge_storage;

@@ -3,27 +3,23 @@ ghost use Rattle.std.specs.Prelude.{◌≡◌, ◌+◌, ◌<◌, ◌^◌, IfOk};
 ghost use Rattle.cmis_spec.specs.Repository.{new_number};
 ghost use Rattle.cmis_spec.specs.Changes.{stepped, with_object};
 ghost use Rattle.cmis_spec.specs.Well.{Apart, ComesBefore, IsWellFormed};
-ghost use Rattle.wr_object.specs.DocumentParts.{filed_at};
-ghost use Rattle.wr_create.specs.Making.{object_of, new_of, after_making, reply_of_making};
+ghost use Rattle.wr_object.specs.CreateDocument.{filed_at};
+ghost use Rattle.wr_create.specs.Making.{new_of, after_making, reply_of_making};
 
 use call_parts::replies::ObjectReply;
 use cm_base::access::Aces;
-use cm_base::copies::Copies;
 use cm_base::items::Items;
 use cm_base::log::ChangeKind;
-use cm_base::number::{Moment, Oid, Oids};
+use cm_base::number::{Oid, Oids};
 use cm_base::object::Object;
 use cm_base::text::Text;
-use cm_base::value::Values;
 use cm_draft::draft::Draft;
 use cm_state::state::State;
 use create_parts::writes::ObjectRequest;
 use std::alloc::{AllocError, Global};
-use wr_rules::beside::kept_beside;
 use wr_rules::entries::new_aces;
 use wr_rules::made::with_reply;
 use wr_rules::policies::policies_in;
-use wr_rules::wanted::Wanted;
 
 /// A new object with its access list, its policies and the folder in which it is to stand, if there is one.
 #[derive(Drop)]
@@ -32,33 +28,6 @@ pub struct NewObject {
     pub aces: Aces,
     pub policies: Oids,
     pub folder: Option<Oid>,
-}
-
-/// The object that is made of what is wanted, with these values.
-pub fn new_object(
-    alloc: Global,
-    state: &State,
-    user: &Text,
-    moment: Moment,
-    wanted: Wanted<'_>,
-    values: Values,
-) -> Result<Object, AllocError>
-    requires room { state.now.step + 1 < 2 ^ 64 }
-    ensures { IfOk result (λ x. x ≡ object_of state.now user.now moment wanted.entry values) }
-{
-    Ok(Object {
-        id: Oid(state.next_number()),
-        kind: wanted.kind,
-        name: Some(wanted.name),
-        secondary: wanted.secondary,
-        values: kept_beside(values),
-        maker: user.copied(alloc)?,
-        made: moment,
-        changer: user.copied(alloc)?,
-        changed: moment,
-        token: state.step() + 1,
-        series: None,
-    })
 }
 
 /// The object with the access list and the policies that the call asks for.
@@ -137,7 +106,7 @@ fn made_in(alloc: Global, state: &State, new: NewObject, cost: u64) -> Result<Dr
     ensures { IfOk result (λ d. d ≡ after_making state.now cost new) }
 {
     let number = new.object.id;
-    let moment = new.object.made;
+    let moment = new.object.created_at;
     let folder = new.folder;
     let policies = new.policies;
     let made = entered(

@@ -24,7 +24,7 @@ use std::alloc::{AllocError, Global};
 use wr_object::asked::{bars_changes, has_unknown, judge_values};
 use wr_rules::costs::with_defaults;
 use wr_rules::kinds::has_other_secondary;
-use wr_rules::wanted::{Wanted, wanted_by};
+use wr_rules::wanted::Wanted;
 
 /// Whether what is addressed, if anything is, is read. Takes no memory.
 pub fn judge_addressed(state: &State, user: &Text, place: &Option<Place>) -> Result<(), Cause>
@@ -128,17 +128,6 @@ pub fn judge_request(
         return Err(Fail::Refused(Cause::BadName));
     }
     Ok(values)
-}
-
-/// What the given properties say of a new object.
-pub fn wanted_of<'a>(
-    alloc: Global,
-    state: &'a State,
-    given: &Givens,
-) -> Result<Wanted<'a>, AllocError>
-    ensures { IfOk result (λ w. w ≡ wanted_in state.now.types given.now) }
-{
-    wanted_by(alloc, state.types(), given.as_slice())
 }
 
 /// The cost of a call of this weight that gives these properties. Takes no memory.

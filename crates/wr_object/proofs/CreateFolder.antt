@@ -32,9 +32,10 @@ use Rattle.wr_rules.specs.Rules.{judge_storage, distinct, name_in, type_id_in, s
 use Rattle.cmis_laws.proofs.Kept.{kept_new}
 use Rattle.cmis_laws.proofs.Once.{owns_new}
 use Rattle.cmis_laws.proofs.Passed.{refused_not, then_ok, refuse_ok, find_ok, first_none, not_false, or_left, or_right}
+use Rattle.wr_rules.specs.Wanted.{wanted_in}
 use Rattle.wr_rules.proofs.Known.{below_secondary}
 use Rattle.wr_rules.proofs.Found.{addressed_there, read_there, named_there}
-use Rattle.wr_object.specs.CreateFolder.{folder_props, is_uncontrollable, refusal_create_folder, new_folder, after_create_folder_in, after_create_folder}
+use Rattle.wr_object.specs.CreateFolder.{folder_props, judge_kinds, judge_place, refusal_create_folder, folder_made, after_create_folder_in, after_create_folder}
 
 -- ---- what a refusal that is none tells
 
@@ -54,22 +55,23 @@ pub record Passes (r : Repository) (u : List ℕ) (cost : ℕ) (call : CreateFol
 
 pub passes : (r : Repository) (u : List ℕ) (m : Moment) (cost : ℕ) (call : CreateFolder) → refusal_create_folder r u m cost call ≡ Ok tt → Passes r u cost call
 passes r u m cost call h =
+    let wanted = wanted_in r.types call.properties in
     let s = then_ok (judge_storage r cost) _ h in
     let s' = refuse_ok (causes.Storage r.step 1 most_steps) (nat_lt most_steps (r.step + 1)) _ s.0 in
     let a = find_ok causes.NotFound (addressed r u call.place) _ s.1 in
     let p = then_ok (first_cause (unread_cause r u) call.policies) _ a.2 in
-    let b = find_ok causes.TypeNotFound (type_in r.types (type_id_in call.properties)) _ p.1 in
-    let t = then_ok (first_cause (unknown_type r.types) (secondary_in call.properties)) _ b.2 in
-    let c = refuse_ok causes.Denied (lacks r u levels.Write a.0) _ t.1 in
-    let d = refuse_ok causes.WrongKind (not (is_a r bases.Folder a.0) || has_other_policy r u call.policies) _ c.1 in
-    let e = refuse_ok causes.TypeKind (not (same_base bases.Folder b.0.base) || has_other_secondary r.types (secondary_in call.properties)) _ d.1 in
-    let f = refuse_ok causes.NotCreatable (not b.0.creatable) _ e.1 in
-    let g = refuse_ok causes.ChildType (bars_child r a.0 b.0.id) _ f.1 in
-    let i = refuse_ok causes.Deep (nat_le most_levels (depth_of r a.0.id)) _ g.1 in
-    let j = refuse_ok causes.NotControllable (is_uncontrollable b.0 call) _ i.1 in
-    let k = then_ok (judge_properties calls.Create (folder_props r.types call) [] call.properties) _ j.1 in
+    let b = find_ok causes.TypeNotFound (type_in r.types wanted.kind) _ p.1 in
+    let t = then_ok (first_cause (unknown_type r.types) wanted.secondary) _ b.2 in
+    let c = then_ok (judge_kinds r u call.policies wanted.secondary a.0 b.0) _ t.1 in
+    let d = refuse_ok causes.Denied (lacks r u levels.Write a.0) _ c.0 in
+    let e = refuse_ok causes.WrongKind (not (is_a r bases.Folder a.0) || has_other_policy r u call.policies) _ d.1 in
+    let f = refuse_ok causes.TypeKind (not (same_base bases.Folder b.0.base) || has_other_secondary r.types wanted.secondary) _ e.1 in
+    let g = then_ok (judge_place r call a.0 b.0) _ c.1 in
+    let i = refuse_ok causes.ChildType (bars_child r a.0 b.0.id) _ g.0 in
+    let j = refuse_ok causes.Deep (nat_le most_levels (depth_of r a.0.id)) _ i.1 in
+    let k = then_ok (judge_properties calls.Create wanted.defs [] call.properties) _ g.1 in
     let l = refuse_ok causes.Permission (has_unknown_permission call.remove || has_unknown_permission call.add) _ k.1 in
-    let n = refuse_ok causes.BadName (not (is_name (name_in call.properties))) _ l.1 in
+    let n = refuse_ok causes.BadName (not (is_name wanted.name)) _ l.1 in
     record {
       steps = s'.0;
       bytes = refused_not (causes.Storage r.cost cost most_cost) (nat_lt most_cost (r.cost + cost)) s'.1;
@@ -77,12 +79,12 @@ passes r u m cost call h =
       at = a.1;
       def = b.0;
       kind = b.1;
-      known = first_none (unknown_type r.types) (secondary_in call.properties) t.0;
-      kinds = d.0;
-      base = e.0;
-      depth = i.0;
+      known = first_none (unknown_type r.types) wanted.secondary t.0;
+      kinds = e.0;
+      base = f.0;
+      depth = j.0;
       properties = k.0;
-      free = refused_not causes.NameTaken (is_taken r a.0.id (new_number r) (name_in call.properties)) n.1;
+      free = refused_not causes.NameTaken (is_taken r a.0.id (new_number r) wanted.name) n.1;
     }
 
 -- ---- the access list permits something in each entry
@@ -172,7 +174,7 @@ pub keeps_create_folder : (r : Repository) (u : List ℕ) (m : Moment) (cost : �
     → Apart ComesBefore (new_aces u call.remove call.add) → IsWellFormed (after_create_folder r u m cost call)
 keeps_create_folder r u m cost call w h ordered =
     let p = passes r u m cost call h in
-    let x = new_folder r u m call in
+    let x = folder_made r u m call in
     let there : object_at r p.parent.id ≡ Some p.parent = addressed_there r u call.place p.parent w.numbers p.at in
     let typed : IsTyped r.types x = (ap is_some p.kind, below_secondary r.types (secondary_in call.properties) (or_right (not (same_base bases.Folder p.def.base)) (has_other_secondary r.types (secondary_in call.properties)) p.base)) in
     let policies_ok = distinct_all (IsGood r u) call.policies (good_all r u call.policies (or_right (not (is_a r bases.Folder p.parent)) (has_other_policy r u call.policies) p.kinds)) in

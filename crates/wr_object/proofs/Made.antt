@@ -15,8 +15,7 @@ use Rattle.cmis_spec.specs.Well.{HasNumbers, IsWellFormed}
 use Rattle.cmis_laws.proofs.Lists.{find_last, same_refl}
 use Rattle.cmis_laws.proofs.Entries.{is_other}
 use Rattle.wr_rules.specs.Rules.{policies_in, new_aces}
-use Rattle.wr_object.specs.CreateFolder.{refusal_create_folder, new_folder, after_create_folder}
-use Rattle.wr_object.specs.Parts.{parent_of}
+use Rattle.wr_object.specs.CreateFolder.{refusal_create_folder, folder_made, parent_of, after_create_folder}
 use Rattle.wr_object.proofs.CreateFolder.{passes}
 
 -- one more number, step and cost stay numbers of 64 bits
@@ -33,18 +32,18 @@ room_of r u m cost call w h =
 
 -- the change that is made is the repository after the call
 pub made_is : (r : Repository) (u : List ℕ) (m : Moment) (cost : ℕ) (call : CreateFolder) (x : Object) (aces : List Ace) (policies : List Oid) (parent : Oid)
-    → x ≡ new_folder r u m call → aces ≡ new_aces u call.remove call.add → policies ≡ policies_in r u call.policies → parent ≡ parent_of r u call
+    → x ≡ folder_made r u m call → aces ≡ new_aces u call.remove call.add → policies ≡ policies_in r u call.policies → parent ≡ parent_of r u call
     → noted (stepped (with_pair (with_object r x aces policies) parent x.id) cost) changes.Created x.id m [] ≡ after_create_folder r u m cost call
 made_is r u m cost call x aces policies parent e f g h =
     λ i. noted (stepped (with_pair (with_object r (e i) (f i) (g i)) (h i) (e i).id) cost) changes.Created (e i).id m []
 
 -- the new folder is found under its number
-pub new_is_there : (r : Repository) (u : List ℕ) (m : Moment) (cost : ℕ) (call : CreateFolder) → HasNumbers r → object_at (after_create_folder r u m cost call) (new_number r) ≡ Some (new_folder r u m call)
+pub new_is_there : (r : Repository) (u : List ℕ) (m : Moment) (cost : ℕ) (call : CreateFolder) → HasNumbers r → object_at (after_create_folder r u m cost call) (new_number r) ≡ Some (folder_made r u m call)
 new_is_there r u m cost call w =
-    find_last (λ x. same x.id (new_number r)) r.objects (new_folder r u m call)
+    find_last (λ x. same x.id (new_number r)) r.objects (folder_made r u m call)
     (All-weaker (λ x. x.id.0 < r.next) (λ x. same x.id (new_number r) ≡ false) (λ x lt. is_other x.id (new_number r) lt) r.objects w.1)
     (same_refl (new_number r))
 
 pub made_is_found : (r : Repository) (u : List ℕ) (m : Moment) (cost : ℕ) (call : CreateFolder) (made : Repository) (n : ℕ) → HasNumbers r → made ≡ after_create_folder r u m cost call → n ≡ r.next
-    → object_at made (record { 0 = n }) ≡ Some (new_folder r u m call)
+    → object_at made (record { 0 = n }) ≡ Some (folder_made r u m call)
 made_is_found r u m cost call made n w e f = (λ i. object_at (e i) (record { 0 = f i })) ∙ new_is_there r u m cost call w

@@ -3,11 +3,11 @@ use Rattle.std.specs.Prelude.{ℕ, ◌+◌, nat_lt, Bool, true, false, ◌&&◌,
 use Rattle.cm_base.specs.declared.number.Oid.{Oid}
 use Rattle.cm_base.specs.declared.number.Moment.{Moment}
 use Rattle.cm_base.specs.declared.object.Object.{Object}
-use Rattle.cm_base.specs.declared.content.Content.{Content}
 use Rattle.cm_base.specs.declared.series.Series.{Series}
 use Rattle.cm_base.specs.declared.series.Label.{Label}
 use Rattle.cm_base.specs.declared.series.VersioningState.{VersioningState}
 use Rattle.cm_base.specs.declared.series.VersioningState.TheVariants as states
+use Rattle.cm_base.specs.declared.access.Ace.{Ace}
 use Rattle.cm_base.specs.declared.access.Level.TheVariants as levels
 use Rattle.cm_base.specs.declared.log.ChangeKind.TheVariants as changes
 use Rattle.cm_base.specs.declared.cause.Cause.TheVariants as causes
@@ -32,8 +32,11 @@ use Rattle.cmis_spec.specs.Access.{lacks}
 use Rattle.cmis_spec.specs.Values.{kept_beside}
 use Rattle.cmis_spec.specs.Changes.{stepped, noted, with_pair}
 use Rattle.cmis_spec.specs.Documents.{with_document, with_policies, with_contents}
-use Rattle.wr_rules.specs.Rules.{judge_storage, name_in, type_id_in, secondary_in, unknown_type, has_other_secondary, bars_child, unread_cause, has_other_policy, policies_in, has_unknown_permission, has_entries, new_aces, defaults_cost}
+use Rattle.wr_rules.specs.Rules.{judge_storage, type_id_in, secondary_in, unknown_type, has_other_secondary, bars_child, unread_cause, has_other_policy, policies_in, has_unknown_permission, has_entries, new_aces, defaults_cost}
 use Rattle.wr_rules.specs.Documents.{judge_content, content_of_stream}
+use Rattle.wr_rules.specs.Wanted.{Wanted, wanted_in}
+use Rattle.wr_object.specs.declared.new_document.Allowed.{Allowed}
+use Rattle.wr_object.specs.declared.new_document.NewDocument.{NewDocument}
 
 -- ---- words of the call
 
@@ -83,26 +86,63 @@ cost_create_document r call =
 
 -- ---- the refusal
 
-abbrev pub refusal_create_document : Repository → List ℕ → ℕ → CreateDocument → Judged (Unit {0})
-refusal_create_document r u cost call = do
-  judge_storage r cost
-  folder ← folder_of r u call
-  first_cause (unread_cause r u) call.policies
-  kind ← find_or causes.TypeNotFound (type_in r.types (type_id_in call.properties))
-  first_cause (unknown_type r.types) (secondary_in call.properties)
+-- the caller may write where the document is to stand, and a document of the type may be made
+abbrev pub judge_kinds : Repository → List ℕ → List (List ℕ) → List (List ℕ) → Option Object → TypeDef → Judged (Unit {0})
+judge_kinds r u policies secondary folder kind = do
   refuse causes.Denied (may_not_make r u folder)
-  refuse causes.WrongKind (is_no_folder r folder || has_other_policy r u call.policies)
-  refuse causes.TypeKind (not (same_base bases.Document kind.base) || has_other_secondary r.types (secondary_in call.properties))
+  refuse causes.WrongKind (is_no_folder r folder || has_other_policy r u policies)
+  refuse causes.TypeKind (not (same_base bases.Document kind.base) || has_other_secondary r.types secondary)
   refuse causes.NotCreatable (not kind.creatable)
+
+-- the folder takes it, and its type lets what is asked be done to it
+abbrev pub judge_place : Repository → CreateDocument → Option Object → TypeDef → Judged (Unit {0})
+judge_place r call folder kind = do
   refuse causes.NotFileable (is_some folder && not kind.fileable)
   refuse causes.VersionState (has_other_state kind call)
   refuse causes.ChildType (unwrap_or (option_map (λ f. bars_child r f kind.id) folder) false)
   refuse causes.NotControllable (is_uncontrollable kind call)
-  judge_properties calls.Create (document_props r.types call) [] call.properties
+
+-- its access list, its content and its name
+abbrev pub judge_name : Repository → CreateDocument → Option Object → TypeDef → List ℕ → Judged (Unit {0})
+judge_name r call folder kind name = do
   refuse causes.Permission (has_unknown_permission call.remove || has_unknown_permission call.add)
   judge_content kind call.stream None
-  refuse causes.BadName (not (is_name (name_in call.properties)))
-  refuse causes.NameTaken (is_name_taken r folder (name_in call.properties))
+  refuse causes.BadName (not (is_name name))
+  refuse causes.NameTaken (is_name_taken r folder name)
+
+-- once its folder and its types are found
+abbrev pub judge_found : Repository → List ℕ → CreateDocument → Wanted → Option Object → TypeDef → Judged (Unit {0})
+judge_found r u call wanted folder kind = do
+  judge_kinds r u call.policies wanted.secondary folder kind
+  judge_place r call folder kind
+  judge_properties calls.Create wanted.defs [] call.properties
+  judge_name r call folder kind wanted.name
+
+-- of what the properties say
+abbrev pub refusal_of_document : Repository → List ℕ → ℕ → CreateDocument → Wanted → Judged (Unit {0})
+refusal_of_document r u cost call wanted = do
+  judge_storage r cost
+  folder ← folder_of r u call
+  first_cause (unread_cause r u) call.policies
+  kind ← find_or causes.TypeNotFound (type_in r.types wanted.kind)
+  first_cause (unknown_type r.types) wanted.secondary
+  judge_found r u call wanted folder kind
+
+abbrev pub refusal_create_document : Repository → List ℕ → ℕ → CreateDocument → Judged (Unit {0})
+refusal_create_document r u cost call = refusal_of_document r u cost call (wanted_in r.types call.properties)
+
+-- ---- what is found
+
+abbrev pub number_of : Option Object → Option Oid
+number_of folder = option_map (λ f. f.id) folder
+
+-- the folder in which it is to stand, the state in which it is made, and its values; where no type is found the call is refused
+abbrev pub allowed_in : Repository → List ℕ → CreateDocument → Wanted → Allowed
+allowed_in r u call wanted = record {
+  folder = number_of (option_and_then (addressed r u) call.place);
+  state = unwrap_or (option_map (λ kind. state_of kind call) (type_in r.types wanted.kind)) states.None;
+  values = kept_values calls.Create wanted.defs [] call.properties;
+}
 
 -- ---- the repository after it
 
@@ -111,17 +151,17 @@ abbrev pub own_name : VersioningState → List ℕ → Option (List ℕ)
 own_name states.CheckedOut name = Some name
 own_name _ name = None
 
-abbrev pub new_document : Repository → List ℕ → Moment → CreateDocument → VersioningState → Object
-new_document r u m call state = record {
+abbrev pub new_document : Repository → List ℕ → Moment → Wanted → Allowed → Object
+new_document r u m wanted allowed = record {
   id = new_number r;
-  kind = type_id_in call.properties;
-  name = own_name state (name_in call.properties);
-  secondary = secondary_in call.properties;
-  values = kept_beside (kept_values calls.Create (document_props r.types call) [] call.properties);
-  maker = u;
-  made = m;
-  changer = u;
-  changed = m;
+  kind = wanted.kind;
+  name = own_name allowed.state wanted.name;
+  secondary = wanted.secondary;
+  values = kept_beside allowed.values;
+  created_by = u;
+  created_at = m;
+  modified_by = u;
+  modified_at = m;
   token = r.step + 1;
   series = Some (new_number r);
 }
@@ -136,35 +176,43 @@ abbrev pub new_series : Oid → List ℕ → List ℕ → VersioningState → Se
 new_series n u name states.CheckedOut = record { id = n; name = name; versions = []; working = Some (record { copy = n; owner = u }) }
 new_series n u name state = record { id = n; name = name; versions = record { object = n; label = first_label state } ∷ []; working = None }
 
-abbrev pub new_content : Repository → CreateDocument → Option Content
-new_content r call = option_map (content_of_stream (new_number r) (name_in call.properties) (r.step + 1)) call.stream
+-- the document with its series, its content as of this step, and the folder in which it is filed
+abbrev pub new_parts : Repository → List ℕ → Moment → CreateDocument → Wanted → Allowed → NewDocument
+new_parts r u m call wanted allowed = record {
+  object = new_document r u m wanted allowed;
+  series = new_series (new_number r) u wanted.name allowed.state;
+  content = option_map (content_of_stream (new_number r) wanted.name (r.step + 1)) call.stream;
+  folder = allowed.folder;
+}
 
-abbrev pub filed_in : Repository → Option Object → Oid → Repository
-filed_in r None n = r
-filed_in r (Some folder) n = with_pair r folder.id n
+abbrev pub parts_made : Repository → List ℕ → Moment → CreateDocument → NewDocument
+parts_made r u m call =
+    let wanted = wanted_in r.types call.properties in
+    new_parts r u m call wanted (allowed_in r u call wanted)
 
-abbrev pub after_create_document_in : Repository → List ℕ → Moment → ℕ → CreateDocument → VersioningState → Option Object → Repository
-after_create_document_in r u m cost call state folder =
-    let n = new_number r in
-    let made = with_document r (new_document r u m call state) (new_series n u (name_in call.properties) state) (new_aces u call.remove call.add) in
-    noted (stepped (filed_in (with_contents (with_policies made n (policies_in r u call.policies)) (new_content r call)) folder n) cost) changes.Created n m []
+-- filed in the folder with this number, if there is one
+abbrev pub filed_at : Repository → Option Oid → Oid → Repository
+filed_at r None n = r
+filed_at r (Some folder) n = with_pair r folder n
+
+-- the document with its series, its access list and its policies, its content, and its place
+abbrev pub with_parts : Repository → NewDocument → List Ace → List Oid → Repository
+with_parts r new aces policies =
+    filed_at (with_contents (with_policies (with_document r new.object new.series aces) new.object.id policies) new.content) new.folder new.object.id
+
+-- and one step further, with its event
+abbrev pub made_of_parts : Repository → NewDocument → List Ace → List Oid → ℕ → Moment → Repository
+made_of_parts r new aces policies cost m = noted (stepped (with_parts r new aces policies) cost) changes.Created new.object.id m []
 
 abbrev pub after_create_document : Repository → List ℕ → Moment → ℕ → CreateDocument → Repository
 after_create_document r u m cost call =
-    unwrap_or (option_map (λ kind. after_create_document_in r u m cost call (state_of kind call) (option_and_then (addressed r u) call.place)) (type_in r.types (type_id_in call.properties))) r
+    made_of_parts r (parts_made r u m call) (new_aces u call.remove call.add) (policies_in r u call.policies) cost m
 
 -- ---- the reply
-
--- the state that the document is made in; where no type is found the call is refused, and none stands for it
-abbrev pub state_made : Repository → CreateDocument → VersioningState
-state_made r call = unwrap_or (option_map (λ kind. state_of kind call) (type_in r.types (type_id_in call.properties))) states.None
-
-abbrev pub document_made : Repository → List ℕ → Moment → CreateDocument → Object
-document_made r u m call = new_document r u m call (state_made r call)
 
 -- the new document as the caller sees it after the step
 abbrev pub acknowledgement_create_document : Repository → List ℕ → Moment → ℕ → CreateDocument → ObjectReply
 acknowledgement_create_document r u m cost call = record {
-  object = shown_object (after_create_document r u m cost call) u filters.All call.succinct (document_made r u m call);
+  object = shown_object (after_create_document r u m cost call) u filters.All call.succinct (parts_made r u m call).object;
   created = true;
 }

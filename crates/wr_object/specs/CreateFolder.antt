@@ -3,6 +3,7 @@ use Rattle.std.specs.Prelude.{ℕ, ◌+◌, nat_le, nat_lt, Bool, true, ◌&&◌
 use Rattle.cm_base.specs.declared.number.Oid.{Oid}
 use Rattle.cm_base.specs.declared.number.Moment.{Moment}
 use Rattle.cm_base.specs.declared.object.Object.{Object}
+use Rattle.cm_base.specs.declared.value.Slot.{Slot}
 use Rattle.cm_base.specs.declared.access.Level.TheVariants as levels
 use Rattle.cm_base.specs.declared.log.ChangeKind.TheVariants as changes
 use Rattle.cm_base.specs.declared.cause.Cause.TheVariants as causes
@@ -24,7 +25,8 @@ use Rattle.cmis_spec.specs.Repository.{Repository, root, most_levels, new_number
 use Rattle.cmis_spec.specs.Access.{lacks}
 use Rattle.cmis_spec.specs.Values.{kept_beside}
 use Rattle.cmis_spec.specs.Changes.{stepped, noted, with_object, with_pair}
-use Rattle.wr_rules.specs.Rules.{judge_storage, name_in, type_id_in, secondary_in, unknown_type, has_other_secondary, bars_child, unread_cause, has_other_policy, policies_in, has_unknown_permission, has_entries, new_aces, defaults_cost}
+use Rattle.wr_rules.specs.Rules.{judge_storage, type_id_in, secondary_in, unknown_type, has_other_secondary, bars_child, unread_cause, has_other_policy, policies_in, has_unknown_permission, has_entries, new_aces, defaults_cost}
+use Rattle.wr_rules.specs.Wanted.{Wanted, wanted_in}
 
 -- ---- words of the call
 
@@ -46,58 +48,91 @@ cost_create_folder r call =
 
 -- ---- the refusal
 
-abbrev pub refusal_create_folder : Repository → List ℕ → Moment → ℕ → CreateFolder → Judged (Unit {0})
-refusal_create_folder r u m cost call = do
-  judge_storage r cost
-  parent ← find_or causes.NotFound (addressed r u call.place)
-  first_cause (unread_cause r u) call.policies
-  kind ← find_or causes.TypeNotFound (type_in r.types (type_id_in call.properties))
-  first_cause (unknown_type r.types) (secondary_in call.properties)
+-- the caller may write where the folder is to stand, and a folder of the type may be made
+abbrev pub judge_kinds : Repository → List ℕ → List (List ℕ) → List (List ℕ) → Object → TypeDef → Judged (Unit {0})
+judge_kinds r u policies secondary parent kind = do
   refuse causes.Denied (lacks r u levels.Write parent)
-  refuse causes.WrongKind (not (is_a r bases.Folder parent) || has_other_policy r u call.policies)
-  refuse causes.TypeKind (not (same_base bases.Folder kind.base) || has_other_secondary r.types (secondary_in call.properties))
+  refuse causes.WrongKind (not (is_a r bases.Folder parent) || has_other_policy r u policies)
+  refuse causes.TypeKind (not (same_base bases.Folder kind.base) || has_other_secondary r.types secondary)
   refuse causes.NotCreatable (not kind.creatable)
+
+-- the parent takes it, and its type lets what is asked be applied to it
+abbrev pub judge_place : Repository → CreateFolder → Object → TypeDef → Judged (Unit {0})
+judge_place r call parent kind = do
   refuse causes.ChildType (bars_child r parent kind.id)
   refuse causes.Deep (nat_le most_levels (depth_of r parent.id))
   refuse causes.NotControllable (is_uncontrollable kind call)
-  judge_properties calls.Create (folder_props r.types call) [] call.properties
+
+-- its access list and its name
+abbrev pub judge_name : Repository → CreateFolder → Oid → List ℕ → Judged (Unit {0})
+judge_name r call parent name = do
   refuse causes.Permission (has_unknown_permission call.remove || has_unknown_permission call.add)
-  refuse causes.BadName (not (is_name (name_in call.properties)))
-  refuse causes.NameTaken (is_taken r parent.id (new_number r) (name_in call.properties))
+  refuse causes.BadName (not (is_name name))
+  refuse causes.NameTaken (is_taken r parent (new_number r) name)
+
+-- once its parent and its types are found
+abbrev pub judge_found : Repository → List ℕ → CreateFolder → Wanted → Object → TypeDef → Judged (Unit {0})
+judge_found r u call wanted parent kind = do
+  judge_kinds r u call.policies wanted.secondary parent kind
+  judge_place r call parent kind
+  judge_properties calls.Create wanted.defs [] call.properties
+  judge_name r call parent.id wanted.name
+
+-- of what the properties say
+abbrev pub refusal_of_folder : Repository → List ℕ → ℕ → CreateFolder → Wanted → Judged (Unit {0})
+refusal_of_folder r u cost call wanted = do
+  judge_storage r cost
+  parent ← find_or causes.NotFound (addressed r u call.place)
+  first_cause (unread_cause r u) call.policies
+  kind ← find_or causes.TypeNotFound (type_in r.types wanted.kind)
+  first_cause (unknown_type r.types) wanted.secondary
+  judge_found r u call wanted parent kind
+
+abbrev pub refusal_create_folder : Repository → List ℕ → Moment → ℕ → CreateFolder → Judged (Unit {0})
+refusal_create_folder r u m cost call = refusal_of_folder r u cost call (wanted_in r.types call.properties)
 
 -- ---- the repository after it
 
-abbrev pub new_folder : Repository → List ℕ → Moment → CreateFolder → Object
-new_folder r u m call = record {
+-- an object in no series, of what is wanted and the values that are kept
+abbrev pub object_of : Repository → List ℕ → Moment → Wanted → List Slot → Object
+object_of r u m wanted values = record {
   id = new_number r;
-  kind = type_id_in call.properties;
-  name = Some (name_in call.properties);
-  secondary = secondary_in call.properties;
-  values = kept_beside (kept_values calls.Create (folder_props r.types call) [] call.properties);
-  maker = u;
-  made = m;
-  changer = u;
-  changed = m;
+  kind = wanted.kind;
+  name = Some wanted.name;
+  secondary = wanted.secondary;
+  values = kept_beside values;
+  created_by = u;
+  created_at = m;
+  modified_by = u;
+  modified_at = m;
   token = r.step + 1;
   series = None;
 }
+
+abbrev pub folder_made : Repository → List ℕ → Moment → CreateFolder → Object
+folder_made r u m call =
+    let wanted = wanted_in r.types call.properties in
+    object_of r u m wanted (kept_values calls.Create wanted.defs [] call.properties)
 
 -- the folder in its parent, one step further, with its event
 abbrev pub after_create_folder_in : Repository → List ℕ → Moment → ℕ → CreateFolder → Oid → Repository
 after_create_folder_in r u m cost call parent =
     noted (stepped (with_pair
-    (with_object r (new_folder r u m call) (new_aces u call.remove call.add) (policies_in r u call.policies))
+    (with_object r (folder_made r u m call) (new_aces u call.remove call.add) (policies_in r u call.policies))
     parent (new_number r)) cost) changes.Created (new_number r) m []
 
+-- the number of the folder in which it is to stand
+abbrev pub parent_of : Repository → List ℕ → CreateFolder → Oid
+parent_of r u call = unwrap_or (option_map (λ f. f.id) (addressed r u call.place)) root
+
 abbrev pub after_create_folder : Repository → List ℕ → Moment → ℕ → CreateFolder → Repository
-after_create_folder r u m cost call =
-    after_create_folder_in r u m cost call (unwrap_or (option_map (λ f. f.id) (addressed r u call.place)) root)
+after_create_folder r u m cost call = after_create_folder_in r u m cost call (parent_of r u call)
 
 -- ---- the reply
 
 -- the new folder as the caller sees it after the step
 abbrev pub acknowledgement_create_folder : Repository → List ℕ → Moment → ℕ → CreateFolder → ObjectReply
 acknowledgement_create_folder r u m cost call = record {
-  object = shown_object (after_create_folder r u m cost call) u filters.All call.succinct (new_folder r u m call);
+  object = shown_object (after_create_folder r u m cost call) u filters.All call.succinct (folder_made r u m call);
   created = true;
 }

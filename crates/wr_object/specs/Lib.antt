@@ -1,4 +1,2 @@
 pub mod CreateDocument
 pub mod CreateFolder
-pub mod DocumentParts
-pub mod Parts

@@ -1,10 +1,11 @@
-//! What a call that makes an object asks for: values, policies and access control entries.
-ghost use Rattle.std.specs.Prelude.{◌≡◌, ◌<◌, ◌&&◌, ◌||◌, not, [], nat_lt, length, map};
+//! What a call that makes an object asks for: properties, values, policies and access control entries.
+ghost use Rattle.std.specs.Prelude.{◌≡◌, ◌<◌, ◌&&◌, ◌||◌, not, [], nat_lt, length, map, IfOk};
 ghost use Rattle.cm_map.specs.Parts.{pointee};
 ghost use Rattle.cm_base.specs.Judged.{Leaves};
 ghost use Rattle.cm_types.specs.declared.given.PropertyCall.TheVariants as calls;
 ghost use Rattle.cm_types.specs.Properties.{judge_properties, kept_values};
 ghost use Rattle.wr_rules.specs.Rules.{has_unknown_permission, has_entries};
+ghost use Rattle.wr_rules.specs.Wanted.{wanted_in};
 
 use call_parts::writes::AceRequest;
 use cm_base::fail::Fail;
@@ -12,11 +13,24 @@ use cm_base::items::Items;
 use cm_base::text::Text;
 use cm_base::value::Values;
 use cm_rules::check::check_new;
+use cm_state::state::State;
 use cm_types::definition::TypeDef;
 use cm_types::given::Givens;
 use cm_types::property::PropDef;
-use std::alloc::Global;
+use std::alloc::{AllocError, Global};
 use wr_rules::entries::{has_entries, has_unknown_permission};
+use wr_rules::wanted::{Wanted, wanted_by};
+
+/// What the given properties say of a new object.
+pub fn wanted_of<'a>(
+    alloc: Global,
+    state: &'a State,
+    given: &Givens,
+) -> Result<Wanted<'a>, AllocError>
+    ensures { IfOk result (λ w. w ≡ wanted_in state.now.types given.now) }
+{
+    wanted_by(alloc, state.types(), given.as_slice())
+}
 
 /// The values of the new object, or the first fault of the given properties.
 pub fn judge_values(alloc: Global, defs: &[&PropDef], given: &Givens) -> Result<Values, Fail>

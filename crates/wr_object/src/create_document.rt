@@ -5,12 +5,11 @@ ghost use Rattle.cm_base.specs.Judged.{Leaves, Writes};
 ghost use Rattle.cm_types.specs.declared.given.PropertyCall.TheVariants as calls;
 ghost use Rattle.cm_types.specs.Properties.{kept_values};
 ghost use Rattle.cmis_spec.specs.Well.{IsWellFormed};
-ghost use Rattle.wr_object.specs.CreateDocument.{cost_create_document, refusal_create_document, after_create_document, acknowledgement_create_document};
+ghost use Rattle.wr_object.specs.CreateDocument.{cost_create_document, judge_found, refusal_of_document, refusal_create_document, number_of, allowed_in, new_document, new_parts, parts_made, after_create_document, acknowledgement_create_document};
 ghost use Rattle.wr_rules.specs.Wanted.{wanted_in};
-ghost use Rattle.wr_object.specs.DocumentParts.{judge_found, refusal_in_parts, number_of, allowed_in, object_of, parts_of, parts_made};
 
-use crate::asked::judge_values;
-use crate::document_rules::{folder_of, judge_kinds, judge_name, judge_place, state_of};
+use crate::asked::{judge_values, wanted_of};
+use crate::document_rules::{folder_of, judge_kinds, judge_name, judge_place, number_of, state_of};
 use crate::making_document::{document_in, new_content, new_series, own_name};
 use crate::new_document::{Allowed, NewDocument};
 use call_parts::replies::ObjectReply;
@@ -33,7 +32,7 @@ use wr_rules::kinds::judge_types;
 use wr_rules::made::with_reply;
 use wr_rules::policies::{judge_read, policies_in};
 use wr_rules::storage::judge_storage;
-use wr_rules::wanted::{Wanted, wanted_by};
+use wr_rules::wanted::Wanted;
 
 fn cost_of(state: &State, call: &CreateDocument, wanted: &Wanted<'_>) -> u64
     requires wanted { wanted.now ≡ wanted_in state.now.types call.now.properties }
@@ -76,18 +75,9 @@ fn judge_found(
     Ok(values)
 }
 
-fn number_of(folder: Option<&Object>) -> Option<Oid>
-    ensures { result ≡ number_of (option_copied folder.entry) }
-{
-    match folder {
-        Some(folder) => Some(folder.id),
-        None => None,
-    }
-}
-
 // What is found where the call is not refused, or the cause of the refusal.
 #[tactic(auto, using(cm_types::proofs::Exits::fails_then, cm_types::proofs::Exits::fails_bind))]
-fn judge_parts(
+fn judge(
     alloc: Global,
     state: &State,
     user: &Text,
@@ -96,7 +86,7 @@ fn judge_parts(
     wanted: &Wanted<'_>,
 ) -> Result<Allowed, Fail>
     ensures { Leaves result
-        (refusal_in_parts state.now user.now cost call.now wanted.now)
+        (refusal_of_document state.now user.now cost call.now wanted.now)
         (allowed_in state.now user.now call.now wanted.now) }
 {
     judge_storage(state, cost)?;
@@ -112,22 +102,6 @@ fn judge_parts(
     })
 }
 
-fn judge(
-    alloc: Global,
-    state: &State,
-    user: &Text,
-    cost: u64,
-    call: &CreateDocument,
-    wanted: &Wanted<'_>,
-) -> Result<Allowed, Fail>
-    requires wanted { wanted.now ≡ wanted_in state.now.types call.now.properties }
-    ensures { Leaves result
-        (refusal_create_document state.now user.now cost call.now)
-        (allowed_in state.now user.now call.now wanted.now) }
-{
-    judge_parts(alloc, state, user, cost, call, wanted)
-}
-
 fn new_document(
     alloc: Global,
     state: &State,
@@ -137,7 +111,7 @@ fn new_document(
     allowed: Allowed,
 ) -> Result<Object, AllocError>
     requires room { state.now.step + 1 < 2 ^ 64 }
-    ensures { IfOk result (λ x. x ≡ object_of state.now user.now moment wanted.entry allowed) }
+    ensures { IfOk result (λ x. x ≡ new_document state.now user.now moment wanted.entry allowed) }
 {
     let number = Oid(state.next_number());
     Ok(Object {
@@ -146,10 +120,10 @@ fn new_document(
         name: own_name(allowed.state, wanted.name),
         secondary: wanted.secondary,
         values: kept_beside(allowed.values),
-        maker: user.copied(alloc)?,
-        made: moment,
-        changer: user.copied(alloc)?,
-        changed: moment,
+        created_by: user.copied(alloc)?,
+        created_at: moment,
+        modified_by: user.copied(alloc)?,
+        modified_at: moment,
         token: state.step() + 1,
         series: Some(number),
     })
@@ -166,7 +140,7 @@ fn new_parts(
     allowed: Allowed,
 ) -> Result<NewDocument, AllocError>
     requires room { state.now.step + 1 < 2 ^ 64 }
-    ensures { IfOk result (λ n. n ≡ parts_of state.now user.now moment call.now wanted.entry allowed) }
+    ensures { IfOk result (λ n. n ≡ new_parts state.now user.now moment call.now wanted.entry allowed) }
 {
     let folder = allowed.folder;
     let number = Oid(state.next_number());
@@ -219,7 +193,7 @@ pub fn create_document(
     ensures well { IfOk result (λ x. IsWellFormed x.0) }
 {
     let _step = state.step();
-    let wanted = wanted_by(alloc, state.types(), call.properties.as_slice())?;
+    let wanted = wanted_of(alloc, state, &call.properties)?;
     let cost = cost_of(state, call, &wanted);
     let allowed = judge(alloc, state, user, cost, call, &wanted)?;
     let new = new_parts(alloc, state, user, moment, call, wanted, allowed)?;

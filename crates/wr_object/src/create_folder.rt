@@ -1,24 +1,20 @@
 //! createFolder (CMIS 1.1, section 2.2.4.3).
-ghost use Rattle.std.specs.Prelude.{◌≡◌, ◌+◌, ◌<◌, ◌^◌, [], Some, None, Ok, IfOk};
+ghost use Rattle.std.specs.Prelude.{◌≡◌, [], Ok, IfOk};
 ghost use Rattle.cm_base.specs.Judged.{Leaves, Writes};
 ghost use Rattle.cm_types.specs.declared.given.PropertyCall.TheVariants as calls;
 ghost use Rattle.cm_types.specs.Properties.{kept_values};
 ghost use Rattle.cm_see.specs.Addressed.{addressed};
-ghost use Rattle.cmis_spec.specs.Repository.{new_number};
-ghost use Rattle.cmis_spec.specs.Values.{kept_beside};
 ghost use Rattle.cmis_spec.specs.Well.{IsWellFormed};
-ghost use Rattle.wr_object.specs.CreateFolder.{cost_create_folder, refusal_create_folder, new_folder, after_create_folder, acknowledgement_create_folder};
-ghost use Rattle.wr_object.specs.Parts.{judge_found, refusal_in_parts, parent_of};
+ghost use Rattle.wr_object.specs.CreateFolder.{cost_create_folder, judge_found, refusal_of_folder, refusal_create_folder, folder_made, parent_of, after_create_folder, acknowledgement_create_folder};
 ghost use Rattle.wr_rules.specs.Wanted.{wanted_in};
 
-use crate::asked::judge_values;
+use crate::asked::{judge_values, wanted_of};
 use crate::folder_rules::{judge_kinds, judge_name, judge_place};
-use crate::making::made_in;
+use crate::making::{made_in, new_object};
 use call_parts::replies::ObjectReply;
 use call_parts::weight::weight_of_create_folder;
 use call_parts::writes::CreateFolder;
 use cm_base::cause::Cause;
-use cm_base::copies::Copies;
 use cm_base::fail::Fail;
 use cm_base::number::{Moment, Oid};
 use cm_base::object::Object;
@@ -28,14 +24,13 @@ use cm_see::address::addressed;
 use cm_state::state::State;
 use cm_types::definition::TypeDef;
 use std::alloc::{AllocError, Global};
-use wr_rules::beside::kept_beside;
 use wr_rules::costs::with_defaults;
 use wr_rules::entries::new_aces;
 use wr_rules::kinds::judge_types;
 use wr_rules::made::with_reply;
 use wr_rules::policies::{judge_read, policies_in};
 use wr_rules::storage::judge_storage;
-use wr_rules::wanted::{Wanted, wanted_by};
+use wr_rules::wanted::Wanted;
 
 fn cost_of(state: &State, call: &CreateFolder, wanted: &Wanted<'_>) -> u64
     requires wanted { wanted.now ≡ wanted_in state.now.types call.now.properties }
@@ -80,7 +75,7 @@ fn judge_found(
 
 // The number of the parent and the values of the folder, or the cause of the refusal.
 #[tactic(auto, using(cm_types::proofs::Exits::fails_then, cm_types::proofs::Exits::fails_bind))]
-fn judge_parts(
+fn judge(
     alloc: Global,
     state: &State,
     user: &Text,
@@ -89,7 +84,7 @@ fn judge_parts(
     wanted: &Wanted<'_>,
 ) -> Result<(Oid, Values), Fail>
     ensures { Writes result
-        (refusal_in_parts state.now user.now cost call.now wanted.now)
+        (refusal_of_folder state.now user.now cost call.now wanted.now)
         (parent_of state.now user.now call.now)
         (kept_values calls.Create wanted.now.defs [] call.now.properties) }
 {
@@ -100,63 +95,6 @@ fn judge_parts(
     judge_types(state.types(), wanted.secondary.as_slice())?;
     let values = judge_found(alloc, state, user, call, wanted, parent, kind)?;
     Ok((parent.id, values))
-}
-
-fn judge(
-    alloc: Global,
-    state: &State,
-    user: &Text,
-    moment: Moment,
-    cost: u64,
-    call: &CreateFolder,
-    wanted: &Wanted<'_>,
-) -> Result<(Oid, Values), Fail>
-    requires { wanted.now ≡ wanted_in state.now.types call.now.properties }
-    ensures { Writes result
-        (refusal_create_folder state.now user.now moment cost call.now)
-        (parent_of state.now user.now call.now)
-        (kept_values calls.Create wanted.now.defs [] call.now.properties) }
-{
-    let _ = moment;
-    judge_parts(alloc, state, user, cost, call, wanted)
-}
-
-fn new_folder(
-    alloc: Global,
-    state: &State,
-    user: &Text,
-    moment: Moment,
-    wanted: Wanted<'_>,
-    values: Values,
-) -> Result<Object, AllocError>
-    requires room { state.now.step + 1 < 2 ^ 64 }
-    ensures { IfOk result (λ x. x ≡ record {
-      id = new_number state.now;
-      kind = wanted.entry.kind;
-      name = Some wanted.entry.name;
-      secondary = wanted.entry.secondary;
-      values = kept_beside values;
-      maker = user.now;
-      made = moment;
-      changer = user.now;
-      changed = moment;
-      token = state.now.step + 1;
-      series = None;
-    }) }
-{
-    Ok(Object {
-        id: Oid(state.next_number()),
-        kind: wanted.kind,
-        name: Some(wanted.name),
-        secondary: wanted.secondary,
-        values: kept_beside(values),
-        maker: user.copied(alloc)?,
-        made: moment,
-        changer: user.copied(alloc)?,
-        changed: moment,
-        token: state.step() + 1,
-        series: None,
-    })
 }
 
 fn with_folder(
@@ -170,7 +108,7 @@ fn with_folder(
     parent: Oid,
 ) -> Result<State, AllocError>
     requires allowed { refusal_create_folder state.now user.now moment cost call.now ≡ Ok tt }
-    requires object { object ≡ new_folder state.now user.now moment call.now }
+    requires object { object ≡ folder_made state.now user.now moment call.now }
     requires parent { parent ≡ parent_of state.now user.now call.now }
     ensures { IfOk result (λ s. s ≡ after_create_folder state.now user.now moment cost call.now) }
 {
@@ -199,10 +137,10 @@ pub fn create_folder(
     ensures well { IfOk result (λ x. IsWellFormed x.0) }
 {
     let _step = state.step();
-    let wanted = wanted_by(alloc, state.types(), call.properties.as_slice())?;
+    let wanted = wanted_of(alloc, state, &call.properties)?;
     let cost = cost_of(state, call, &wanted);
-    let (parent, values) = judge(alloc, state, user, moment, cost, call, &wanted)?;
-    let object = new_folder(alloc, state, user, moment, wanted, values)?;
+    let (parent, values) = judge(alloc, state, user, cost, call, &wanted)?;
+    let object = new_object(alloc, state, user, moment, wanted, values)?;
     let made = with_folder(alloc, state, user, moment, cost, call, object, parent)?;
     let number = Oid(state.next_number());
     let (next, reply) = with_reply(alloc, made, user, call.succinct, number)?;

@@ -7,8 +7,7 @@ ghost use Rattle.cm_types.specs.declared.definition.BaseType.TheVariants as base
 ghost use Rattle.cm_types.specs.Types.{same_base};
 ghost use Rattle.cm_see.specs.Addressed.{addressed};
 ghost use Rattle.wr_rules.specs.Rules.{has_other_policy, has_other_secondary, bars_child};
-ghost use Rattle.wr_object.specs.CreateDocument.{folder_at, state_of, is_unversioned, has_other_state, is_uncontrollable, may_not_make, is_no_folder, is_name_taken};
-ghost use Rattle.wr_object.specs.DocumentParts.{judge_kinds, judge_place, judge_name};
+ghost use Rattle.wr_object.specs.CreateDocument.{folder_at, state_of, is_unversioned, has_other_state, is_uncontrollable, may_not_make, is_no_folder, is_name_taken, judge_kinds, judge_place, judge_name, number_of};
 
 use crate::asked::{bars_changes, has_unknown};
 use call_parts::place::Place;
@@ -49,6 +48,16 @@ pub fn folder_of<'a>(
     }
 }
 
+/// The number of the folder, if there is one.
+pub fn number_of(folder: Option<&Object>) -> Option<Oid>
+    ensures { result ≡ number_of (option_copied folder.entry) }
+{
+    match folder {
+        Some(folder) => Some(folder.id),
+        None => None,
+    }
+}
+
 /// Whether the caller may make no document there. Takes no memory.
 pub fn may_not_make(state: &State, user: &Text, folder: Option<&Object>) -> bool
     ensures { result ≡ may_not_make state.now user.now (option_copied folder.entry) }
@@ -69,7 +78,13 @@ pub fn is_no_folder(state: &State, folder: Option<&Object>) -> bool
     }
 }
 
-fn is_wrong_place(state: &State, user: &Text, folder: Option<&Object>, policies: &[Text]) -> bool
+/// Whether what is addressed is no folder, or one of the policies is none. Takes no memory.
+pub fn is_wrong_place(
+    state: &State,
+    user: &Text,
+    folder: Option<&Object>,
+    policies: &[Text],
+) -> bool
     ensures { result ≡ (is_no_folder state.now (option_copied folder.entry)
         || has_other_policy state.now user.now policies.now) }
 {
@@ -168,13 +183,15 @@ fn has_other_state(kind: &TypeDef, call: &CreateDocument) -> bool
     if kind.versionable { plain } else { !plain }
 }
 
-fn bars_filing(folder: Option<&Object>, kind: &TypeDef) -> bool
+/// Whether a folder is addressed and objects of the type are filed nowhere.
+pub fn bars_filing(folder: Option<&Object>, kind: &TypeDef) -> bool
     ensures { result ≡ (is_some (option_copied folder.entry) && not kind.now.fileable) }
 {
     folder.is_some() && !kind.fileable
 }
 
-fn bars_kind(state: &State, folder: Option<&Object>, kind: &Text) -> bool
+/// Whether the folder takes no objects of the type. Takes no memory.
+pub fn bars_kind(state: &State, folder: Option<&Object>, kind: &Text) -> bool
     ensures { result ≡
         unwrap_or (option_map (λ f. bars_child state.now f kind.now) (option_copied folder.entry)) false }
 {

@@ -5,8 +5,7 @@ ghost use Rattle.cm_types.specs.declared.definition.BaseType.TheVariants as base
 ghost use Rattle.cm_types.specs.Types.{same_base};
 ghost use Rattle.cmis_spec.specs.Repository.{is_a, most_levels, depth_of};
 ghost use Rattle.wr_rules.specs.Rules.{has_other_policy, has_other_secondary};
-ghost use Rattle.wr_object.specs.CreateFolder.{is_uncontrollable};
-ghost use Rattle.wr_object.specs.Parts.{judge_kinds, judge_place, judge_name};
+ghost use Rattle.wr_object.specs.CreateFolder.{is_uncontrollable, judge_kinds, judge_place, judge_name};
 
 use crate::asked::{bars_changes, has_unknown};
 use call_parts::writes::CreateFolder;

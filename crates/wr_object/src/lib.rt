@@ -8,6 +8,6 @@ pub mod create_document;
 pub mod create_folder;
 pub mod document_rules;
 mod folder_rules;
-mod making;
+pub mod making;
 pub mod making_document;
 pub mod new_document;

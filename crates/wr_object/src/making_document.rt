@@ -5,8 +5,7 @@ ghost use Rattle.cmis_spec.specs.Repository.{new_number};
 ghost use Rattle.cmis_spec.specs.Changes.{stepped, noted};
 ghost use Rattle.cmis_spec.specs.Documents.{with_document, with_policies, with_contents};
 ghost use Rattle.wr_rules.specs.Documents.{content_of_stream};
-ghost use Rattle.wr_object.specs.CreateDocument.{own_name, first_label, new_series};
-ghost use Rattle.wr_object.specs.DocumentParts.{filed_at, with_parts, made_of_parts};
+ghost use Rattle.wr_object.specs.CreateDocument.{own_name, first_label, new_series, filed_at, with_parts, made_of_parts};
 
 use crate::new_document::NewDocument;
 use call_parts::stream::GivenStream;

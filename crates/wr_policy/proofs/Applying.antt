@@ -23,7 +23,8 @@ use Rattle.cmis_laws.proofs.Steps.{HasRoom, step_keeps, note_keeps}
 use Rattle.wr_rules.specs.Rules.{judge_storage}
 use Rattle.wr_rules.proofs.Found.{addressed_there, read_there, named_there}
 use Rattle.wr_rules.proofs.Room.{room_of, fits_of}
-use Rattle.wr_policy.specs.Applied.{is_applied, number_or_root}
+use Rattle.cm_state.specs.Looks.{is_applied}
+use Rattle.wr_policy.specs.Applied.{number_or_root}
 use Rattle.wr_policy.specs.ApplyPolicy.{refusal_apply_policy, applied_to, after_apply_policy_of, after_apply_policy}
 
 -- ---- what a refusal that is none tells

@@ -19,7 +19,8 @@ use Rattle.cmis_laws.proofs.Steps.{HasRoom, step_keeps, note_keeps}
 use Rattle.cm_base.specs.declared.cause.Cause.TheVariants as causes
 use Rattle.wr_rules.specs.Rules.{judge_storage}
 use Rattle.wr_rules.proofs.Room.{room_of, fits_of}
-use Rattle.wr_policy.specs.Applied.{is_pair, is_applied, without_policy, number_or_root}
+use Rattle.cm_state.specs.Looks.{is_applied}
+use Rattle.wr_policy.specs.Applied.{is_pair, without_policy, number_or_root}
 use Rattle.wr_policy.specs.RemovePolicy.{refusal_remove_policy, taken_off, after_remove_policy_of, after_remove_policy}
 
 pub has_room : (r : Repository) (u : List ℕ) (cost : ℕ) (call : RemovePolicy) → refusal_remove_policy r u cost call ≡ Ok tt → HasRoom r cost

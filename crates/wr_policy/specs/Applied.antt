@@ -1,6 +1,5 @@
 -- What the calls on applied policies share: the pairs of a policy and an object, and their changes (CMIS 1.1, sections 2.1.9 and 2.2.9).
 use Rattle.std.specs.Prelude.{Bool, ◌&&◌, not, filter, Option, unwrap_or, option_map}
-use Rattle.std.specs.List.{list_any}
 use Rattle.cm_base.specs.declared.number.Oid.{Oid}
 use Rattle.cm_base.specs.declared.object.Object.{Object}
 use Rattle.cm_base.specs.declared.filing.Applied.{Applied}
@@ -9,9 +8,6 @@ use Rattle.cmis_spec.specs.Repository.{Repository, same, root}
 -- the pair of this policy and this object
 abbrev pub is_pair : Oid → Oid → Applied → Bool
 is_pair policy object a = same a.policy policy && same a.object object
-
-abbrev pub is_applied : Repository → Oid → Oid → Bool
-is_applied r policy object = list_any (is_pair policy object) r.applied
 
 -- the policy no longer on the object
 abbrev pub without_policy : Repository → Oid → Oid → Repository

@@ -19,7 +19,8 @@ use Rattle.cmis_spec.specs.Access.{lacks, read_named}
 use Rattle.cmis_spec.specs.Changes.{stepped, noted}
 use Rattle.cmis_spec.specs.Documents.{with_policies}
 use Rattle.wr_rules.specs.Rules.{judge_storage}
-use Rattle.wr_policy.specs.Applied.{is_applied, number_or_root}
+use Rattle.cm_state.specs.Looks.{is_applied}
+use Rattle.wr_policy.specs.Applied.{number_or_root}
 
 abbrev pub cost_apply_policy : ApplyPolicy → ℕ
 cost_apply_policy call = weight_of_apply_policy call

@@ -15,7 +15,8 @@ use Rattle.cmis_spec.specs.Repository.{Repository, is_a}
 use Rattle.cmis_spec.specs.Access.{lacks, read_named}
 use Rattle.cmis_spec.specs.Changes.{stepped, noted}
 use Rattle.wr_rules.specs.Rules.{judge_storage}
-use Rattle.wr_policy.specs.Applied.{is_applied, without_policy, number_or_root}
+use Rattle.cm_state.specs.Looks.{is_applied}
+use Rattle.wr_policy.specs.Applied.{without_policy, number_or_root}
 
 abbrev pub cost_remove_policy : RemovePolicy → ℕ
 cost_remove_policy call = weight_of_remove_policy call

@@ -2,7 +2,8 @@
 ghost use Rattle.std.specs.Prelude.{◌≡◌, ◌+◌, ◌<◌, ◌^◌, [], IfOk};
 ghost use Rattle.cm_base.specs.declared.log.ChangeKind.TheVariants.{Updated};
 ghost use Rattle.cmis_spec.specs.Changes.{stepped, noted};
-ghost use Rattle.wr_policy.specs.Applied.{is_applied, without_policy};
+ghost use Rattle.cm_state.specs.Looks.{is_applied};
+ghost use Rattle.wr_policy.specs.Applied.{without_policy};
 
 use cm_base::items::Items;
 use cm_base::log::ChangeKind;

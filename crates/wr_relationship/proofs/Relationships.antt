@@ -23,8 +23,9 @@ use Rattle.wr_rules.proofs.Found.{read_there}
 use Rattle.wr_rules.proofs.Room.{room_of}
 use Rattle.wr_rules.specs.Wanted.{wanted_in}
 use Rattle.wr_object.specs.CreateDocument.{may_not_make}
+use Rattle.wr_object.proofs.CreatedDocument.{bind_ok, ok_eq}
 use Rattle.wr_create.specs.Making.{judge_addressed, judge_type, judge_request, new_object, after_making}
-use Rattle.wr_create.proofs.Lines.{bind_ok, ok_eq, type_ok, request_ok}
+use Rattle.wr_create.proofs.Lines.{type_ok, request_ok}
 use Rattle.wr_create.proofs.Made.{IsMaking, base_is, is_made}
 use Rattle.wr_relationship.specs.CreateRelationship.{first_given, end_at, is_relationship, judge_ends, judge_link, judge_relationship, refusal_of_relationship, relationship_of}
 use Rattle.wr_relationship.proofs.KeptEnds.{one_end, ends_kept}

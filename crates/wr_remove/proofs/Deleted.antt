@@ -25,7 +25,8 @@ use Rattle.cmis_laws.proofs.Passed.{refused_not, then_ok, refuse_ok, find_ok}
 use Rattle.cmis_laws.proofs.Steps.{HasRoom, step_keeps}
 use Rattle.wr_rules.specs.Rules.{judge_storage}
 use Rattle.wr_rules.proofs.Found.{addressed_there}
-use Rattle.wr_remove.specs.Delete.{is_checked_out_version, is_filled_at, is_filled, is_applied, judge_removal, refusal_delete, doomed, after_delete_of, after_delete}
+use Rattle.cm_state.specs.Looks.{is_policy_used}
+use Rattle.wr_remove.specs.Delete.{is_checked_out_version, is_filled_at, is_filled, judge_removal, refusal_delete, doomed, after_delete_of, after_delete}
 use Rattle.wr_rules.proofs.Room.{room_of, fits_of}
 use Rattle.wr_remove.proofs.Free.{one_free, series_free}
 
@@ -41,11 +42,11 @@ module _ (r : Repository) (w : IsWellFormed r) (x : Object) (there : object_at r
   turned a b h = differ a b (λ e. both_ways (same b a) h (subst (λ n. same n a ≡ true) e (same_refl a)))
 
   -- x alone, where it is not the root, empty, and nowhere applied
-  alone_free : same x.id root ≡ false → is_filled r x ≡ false → is_applied r x ≡ false → IsFree r w (x.id ∷ [])
+  alone_free : same x.id root ≡ false → is_filled r x ≡ false → is_policy_used r x.id ≡ false → IsFree r w (x.id ∷ [])
   alone_free other empty unapplied =
       one_free r w x.id (turned root x.id other) (folders_other (is_a r bases.Folder x) refl empty) (all_from_any (λ a. same a.policy x.id) r.applied unapplied)
 
-  doomed_free : (call : Delete) → same x.id root ≡ false → is_filled r x ≡ false → is_applied r x ≡ false → IsFree r w (doomed r call x)
+  doomed_free : (call : Delete) → same x.id root ≡ false → is_filled r x ≡ false → is_policy_used r x.id ≡ false → IsFree r w (doomed r call x)
   doomed_free call other empty unapplied = by (call.all_versions && not (is_working_copy r x)) (alone_free other empty unapplied)
     where
       whole : (o : Option Oid) → IsFree r w (x.id ∷ []) → IsFree r w (unwrap_or (option_map members (option_and_then (series_at r) o)) (x.id ∷ []))
@@ -69,7 +70,7 @@ keeps_delete r u m cost call w h =
     let c = refuse_ok causes.RootFixed (same a.0.id root) _ k.0 in
     let d = refuse_ok causes.CheckedOut (is_checked_out_version r a.0) _ c.1 in
     let e = refuse_ok causes.NotEmpty (is_filled r a.0) _ d.1 in
-    let f = refused_not causes.PolicyInUse (is_applied r a.0) e.1 in
+    let f = refused_not causes.PolicyInUse (is_policy_used r a.0.id) e.1 in
     let there : object_at r a.0.id ≡ Some a.0 = addressed_there r u call.place a.0 w.numbers a.1 in
     let room : HasRoom r cost = room_of r cost s.0 in
     let ns : List Oid = doomed r call a.0 in

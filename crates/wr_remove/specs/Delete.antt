@@ -11,6 +11,7 @@ use Rattle.cm_types.specs.declared.definition.BaseType.TheVariants as bases
 use Rattle.call_parts.specs.declared.versions.Delete.{Delete}
 use Rattle.call_parts.specs.Versions.{weight_of_delete}
 use Rattle.cm_see.specs.Addressed.{addressed}
+use Rattle.cm_state.specs.Looks.{is_policy_used}
 use Rattle.cmis_spec.specs.Repository.{Repository, same, root, object_at, is_a, series_of}
 use Rattle.cmis_spec.specs.Access.{lacks}
 use Rattle.cmis_spec.specs.Well.{members}
@@ -35,16 +36,13 @@ is_filled_at r n = list_any (λ p. same p.folder n) r.filed
 abbrev pub is_filled : Repository → Object → Bool
 is_filled r x = is_a r bases.Folder x && is_filled_at r x.id
 
-abbrev pub is_applied : Repository → Object → Bool
-is_applied r x = list_any (λ a. same a.policy x.id) r.applied
-
 -- what may go
 abbrev pub judge_removal : Repository → Object → Judged (Unit {0})
 judge_removal r x = do
   refuse causes.RootFixed (same x.id root)
   refuse causes.CheckedOut (is_checked_out_version r x)
   refuse causes.NotEmpty (is_filled r x)
-  refuse causes.PolicyInUse (is_applied r x)
+  refuse causes.PolicyInUse (is_policy_used r x.id)
 
 -- the whole series of a document, or x alone; a working copy goes alone
 abbrev pub doomed : Repository → Delete → Object → List Oid

@@ -7,7 +7,8 @@ ghost use Rattle.cmis_spec.specs.Retention.{judge_kept};
 ghost use Rattle.cmis_spec.specs.Well.{IsWellFormed, members};
 ghost use Rattle.cm_see.specs.Addressed.{addressed};
 ghost use Rattle.wr_rules.specs.Found.{FindsWith};
-ghost use Rattle.wr_remove.specs.Delete.{cost_delete, is_checked_out_version, is_filled_at, is_filled, is_applied, judge_removal, refusal_delete, doomed, after_delete};
+ghost use Rattle.cm_state.specs.Looks.{is_policy_used};
+ghost use Rattle.wr_remove.specs.Delete.{cost_delete, is_checked_out_version, is_filled_at, is_filled, judge_removal, refusal_delete, doomed, after_delete};
 
 use crate::members::{members, only};
 use crate::without::without;
@@ -55,7 +56,7 @@ fn is_filled(state: &State, x: &Object) -> bool
 
 // Whether the policy is applied to an object.
 fn is_applied(state: &State, x: &Object) -> bool
-    ensures { result ≡ is_applied state.now x.now }
+    ensures { result ≡ is_policy_used state.now x.now.id }
 {
     state.is_policy_used(x.id)
 }

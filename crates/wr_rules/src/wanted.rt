@@ -28,7 +28,12 @@ impl<'a> Model for Wanted<'a> {
 
     ghost Value = { Said };
 
-    ghost view = { λ s. record { name = s.name; kind = s.kind; secondary = s.secondary; defs = map pointee s.defs.items } };
+    ghost view = { λ s. record {
+      name = s.name;
+      kind = s.kind;
+      secondary = s.secondary;
+      defs = map pointee s.defs.items;
+    } };
 }
 
 /// What the given properties say.

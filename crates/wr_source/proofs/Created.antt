@@ -1,9 +1,6 @@
 -- createDocumentFromSource keeps what is well formed.
-use Rattle.std.specs.Prelude.{◌≡◌, ℕ, ◌+◌, ◌≤◌, Bool, true, false, not, ◌&&◌, ◌||◌, if◌then◌else◌, List, [], ◌∷◌, length, Option, Some, None, IfSome, Ok, Err, is_some, option_map, option_and_then, unwrap_or}
-use Rattle.std.specs.List.{list_any}
+use Rattle.std.specs.Prelude.{◌≡◌, ℕ, ◌+◌, true, false, not, ◌&&◌, ◌||◌, List, [], Option, Some, None, IfSome, Ok, is_some, option_map, option_and_then, unwrap_or}
 use Rattle.std.proofs.Common.{refl, sym, ap, subst, ◌∙◌, arith}
-use Rattle.std.proofs.lemmas.Bool.{both_ways, ltb-false}
-use Rattle.std.proofs.lemmas.List.Elements.{All-nil, All-cons}
 use Rattle.cm_base.specs.declared.number.Oid.{Oid}
 use Rattle.cm_base.specs.declared.number.Moment.{Moment}
 use Rattle.cm_base.specs.declared.object.Object.{Object}
@@ -13,61 +10,41 @@ use Rattle.cm_base.specs.declared.series.VersioningState.{VersioningState}
 use Rattle.cm_base.specs.declared.series.VersioningState.TheVariants as states
 use Rattle.cm_base.specs.declared.log.ChangeKind.TheVariants as changes
 use Rattle.cm_base.specs.declared.cause.Cause.TheVariants as causes
-use Rattle.cm_base.specs.Judged.{Judged, ◌>>=◌, find_or, first_cause}
+use Rattle.cm_base.specs.Judged.{first_cause}
 use Rattle.cm_base.specs.Names.{is_name}
 use Rattle.cm_types.specs.declared.definition.TypeDef.{TypeDef}
 use Rattle.cm_types.specs.declared.definition.BaseType.TheVariants as bases
 use Rattle.cm_types.specs.declared.given.PropertyCall.TheVariants as calls
 use Rattle.cm_types.specs.Types.{type_in, same_base, props_of}
 use Rattle.cm_types.specs.Properties.{judge_properties}
-use Rattle.call_parts.specs.declared.place.Place.{Place}
-use Rattle.call_parts.specs.declared.stream.GivenStream.{GivenStream}
 use Rattle.call_parts.specs.declared.versions.CreateDocument.{CreateDocument}
 use Rattle.source_parts.specs.declared.writes.CreateDocumentFromSource.{CreateDocumentFromSource}
 use Rattle.cm_see.specs.Addressed.{addressed}
-use Rattle.cmis_spec.specs.Repository.{Repository, same, longest_stream, root_folder, object_at, is_a, is_taken, new_number}
+use Rattle.cmis_spec.specs.Repository.{Repository, same, root_folder, object_at, is_a, is_taken, new_number}
 use Rattle.cmis_spec.specs.Access.{read_named, object_named}
 use Rattle.cmis_spec.specs.Changes.{stepped, noted}
 use Rattle.cmis_spec.specs.Documents.{with_document, with_policies, with_contents}
-use Rattle.cmis_spec.specs.Well.{Apart, ComesBefore, IsTyped, IsKept, IsBaseAt, HasNumbers, IsAlone, OwnsValues, members, IsLabel, IsWellFormed}
-use Rattle.cmis_laws.proofs.Lists.{same_refl, found_holds}
-use Rattle.cmis_laws.proofs.Begun.{HasLabelsOf}
+use Rattle.cmis_spec.specs.Well.{Apart, ComesBefore, IsTyped, IsKept, OwnsValues, IsWellFormed}
+use Rattle.cmis_laws.proofs.Lists.{found_holds}
 use Rattle.cmis_laws.proofs.Kept.{owns_kept}
 use Rattle.cmis_laws.proofs.Once.{props_differ, values_differ}
-use Rattle.cmis_laws.proofs.MadeDocument.{IsMadeDocument, filed_at, made_document_keeps}
-use Rattle.cmis_laws.proofs.Passed.{err_ok, refused_not, then_ok, refuse_ok, find_ok, not_false, or_left, or_right}
+use Rattle.cmis_laws.proofs.MadeDocument.{IsMadeDocument, filed_at as filed_first, made_document_keeps}
+use Rattle.cmis_laws.proofs.Passed.{refused_not, then_ok, refuse_ok, find_ok, not_false, or_left, or_right}
 use Rattle.cmis_laws.proofs.Steps.{HasRoom}
 use Rattle.wr_rules.specs.Rules.{judge_storage, distinct, unknown_type, has_other_secondary, unread_cause, has_other_policy, policies_in, has_unknown_permission, new_aces}
 use Rattle.wr_rules.specs.Documents.{judge_content, is_too_long, content_of_stream}
-use Rattle.wr_rules.proofs.Found.{addressed_there, read_there, named_there}
+use Rattle.wr_rules.proofs.Found.{read_there, named_there}
 use Rattle.wr_rules.proofs.Known.{below_secondary}
 use Rattle.wr_rules.proofs.Room.{room_of}
 use Rattle.wr_object.specs.declared.new_document.Allowed.{Allowed}
-use Rattle.wr_object.specs.CreateDocument.{folder_at, folder_of, state_of, is_unversioned, has_other_state, may_not_make, is_no_folder, is_name_taken, own_name, new_series}
-use Rattle.wr_object.specs.DocumentParts.{number_of, made_of_parts}
-use Rattle.wr_object.proofs.CreatedDocument.{series_id}
+use Rattle.wr_object.specs.CreateDocument.{folder_of, state_of, is_unversioned, has_other_state, may_not_make, is_no_folder, is_name_taken, new_series, number_of, filed_at, made_of_parts}
+use Rattle.wr_object.proofs.CreatedDocument.{bind_ok, folder_is, series_id, series_name, one_member, alone_in, named_so, labelled_so, plain_state, and_second, content_so, below_so, free_so}
 use Rattle.wr_object.proofs.CreateFolder.{IsGood, new_permit, distinct_all, good_all, named_all}
 use Rattle.wr_source.specs.Templates.{Template, template_of}
 use Rattle.wr_source.specs.CreateDocumentFromSource.{refusal_create_document_from_source, allowed_in, new_document, new_parts, parts_made, after_create_document_from_source}
 use Rattle.wr_source.proofs.Sourced.{kept_sourced}
 
 -- ---- what a refusal that is none tells
-
-bind_ok : {A : Type 0} (j : Judged A) (f : A → Judged (Unit {0})) → j >>= f ≡ Ok tt → (x : A) × (j ≡ Ok x) × (f x ≡ Ok tt)
-bind_ok (Ok x) f h = (x, refl, h)
-bind_ok (Err c) f h = absurd (err_ok {A = Unit {0}} c tt h)
-
-ok_eq : {A : Type 0} (x y : A) → ◌≡◌ {A = Judged A} (Ok x) (Ok y) → x ≡ y
-ok_eq x y h = ap (λ j. elim j [ Ok z ↦ z | Err c ↦ x ]) h
-
--- the folder is the one that is addressed
-folder_is : (r : Repository) (u : List ℕ) (place : Option Place) (f : Option Object) → folder_at r u place ≡ Ok f → f ≡ option_and_then (addressed r u) place
-folder_is r u None f h = sym (ok_eq None f h)
-folder_is r u (Some place) f h = by (addressed r u place) h
-  where
-    by : (o : Option Object) → find_or causes.NotFound (option_map Some o) ≡ Ok f → f ≡ o
-    by None h = absurd (err_ok causes.NotFound f h)
-    by (Some g) h = sym (ok_eq (Some g) f h)
 
 pub record Passes (r : Repository) (u : List ℕ) (cost : ℕ) (call : CreateDocumentFromSource) : Type 0 where
   pub room : HasRoom r cost
@@ -122,66 +99,6 @@ passes r u cost call h =
       long = refused_not causes.StreamLong (unwrap_or (option_map is_too_long t.stream) false) o''.1;
       free = refused_not causes.NameTaken (is_name_taken r a.0 t.name) q.1;
     }
-
--- ---- the series
-
-module _ (n : Oid) (u name : List ℕ) where
-  series_name : (state : VersioningState) → (new_series n u name state).name ≡ name
-  series_name states.CheckedOut = refl
-  series_name states.Major = refl
-  series_name states.Minor = refl
-  series_name states.None = refl
-
-  one_member : (state : VersioningState) → members (new_series n u name state) ≡ n ∷ []
-  one_member states.CheckedOut = refl
-  one_member states.Major = refl
-  one_member states.Minor = refl
-  one_member states.None = refl
-
-  alone_in : (state : VersioningState) → is_unversioned state ≡ true → IsAlone (new_series n u name state) n
-  alone_in states.None h = (refl, refl)
-  alone_in states.CheckedOut h = absurd (both_ways false refl h)
-  alone_in states.Major h = absurd (both_ways false refl h)
-  alone_in states.Minor h = absurd (both_ways false refl h)
-
-  named_so : (state : VersioningState) → is_some (own_name state name) ≡ not (list_any (λ v. same v.object n) (new_series n u name state).versions)
-  named_so states.CheckedOut = refl
-  named_so states.Major = rw (same_refl n) refl
-  named_so states.Minor = rw (same_refl n) refl
-  named_so states.None = rw (same_refl n) refl
-
-  labelled_so : (step : ℕ) (state : VersioningState) → HasLabelsOf (step + 1) (new_series n u name state)
-  labelled_so step states.CheckedOut = All-nil (λ v. IfSome v.label (IsLabel (step + 1)))
-  labelled_so step states.Major = All-cons (λ v. IfSome v.label (IsLabel (step + 1))) (record { object = n; label = Some (record { major = 1; minor = 0 }) }) [] (omega arith, omega arith) (All-nil (λ v. IfSome v.label (IsLabel (step + 1))))
-  labelled_so step states.Minor = All-cons (λ v. IfSome v.label (IsLabel (step + 1))) (record { object = n; label = Some (record { major = 0; minor = 1 }) }) [] (omega arith, omega arith) (All-nil (λ v. IfSome v.label (IsLabel (step + 1))))
-  labelled_so step states.None = All-cons (λ v. IfSome v.label (IsLabel (step + 1))) (record { object = n; label = None }) [] tt (All-nil (λ v. IfSome v.label (IsLabel (step + 1))))
-
--- what isn't versionable has no version state
-plain_state : (versionable unversioned : Bool) → (if versionable then unversioned else not unversioned) ≡ false → not versionable ≡ true → unversioned ≡ true
-plain_state true b h k = absurd (both_ways false refl k)
-plain_state false b h k = not_false b h
-
-and_second : (a b : Bool) → a && b ≡ true → b ≡ true
-and_second true b h = h
-and_second false b h = absurd (both_ways false refl h)
-
--- ---- its content
-
-content_so : (n : Oid) (name : List ℕ) (step : ℕ) (o : Option GivenStream) → unwrap_or (option_map is_too_long o) false ≡ false
-    → IfSome (option_map (content_of_stream n name step) o) (λ c. (c.of ≡ n) × (c.step ≤ step) × (length c.stream.pieces ≤ longest_stream))
-content_so n name step None h = tt
-content_so n name step (Some s) h = (refl, omega arith, ltb-false longest_stream (length s.pieces) h)
-
--- ---- its folder
-
-below_so : (r : Repository) (u : List ℕ) (place : Option Place) (f : Option Object) → HasNumbers r → f ≡ option_and_then (addressed r u) place → is_no_folder r f ≡ false → IfSome (number_of f) (IsBaseAt r bases.Folder)
-below_so r u None f w at h = subst (λ g. IfSome (number_of g) (IsBaseAt r bases.Folder)) (sym at) tt
-below_so r u (Some place) None w at h = tt
-below_so r u (Some place) (Some f) w at h = (f, addressed_there r u place f w (sym at), not_false (is_a r bases.Folder f) h)
-
-free_so : (r : Repository) (n : Oid) (name : List ℕ) (f : Option Object) → unwrap_or (option_map (λ g. is_taken r g.id n name) f) false ≡ false → IfSome (number_of f) (λ g. is_taken r g n name ≡ false)
-free_so r n name None h = tt
-free_so r n name (Some f) h = h
 
 -- ---- all
 
@@ -256,8 +173,8 @@ module _ (r : Repository) (u : List ℕ) (m : Moment) (cost : ℕ) (call : Creat
   made q = with_policies (with_document q y s (new_aces u doc.remove doc.add)) n (policies_in r u doc.policies)
 
   -- the step may be taken first
-  turned : (o : Option Content) (f : Option Oid) → noted (filed_at (with_contents (made (stepped r cost)) o) f n) changes.Created n m []
-      ≡ noted (stepped (Rattle.wr_object.specs.DocumentParts.filed_at (with_contents (made r) o) f n) cost) changes.Created n m []
+  turned : (o : Option Content) (f : Option Oid) → noted (filed_first (with_contents (made (stepped r cost)) o) f n) changes.Created n m []
+      ≡ noted (stepped (filed_at (with_contents (made r) o) f n) cost) changes.Created n m []
   turned None None = refl
   turned None (Some f) = refl
   turned (Some c) None = refl

@@ -25,10 +25,9 @@ use Rattle.cmis_spec.specs.Access.{read_named}
 use Rattle.cmis_spec.specs.Values.{kept_beside}
 use Rattle.wr_rules.specs.Rules.{judge_storage, unknown_type, has_other_secondary, unread_cause, has_other_policy, policies_in, has_unknown_permission, new_aces}
 use Rattle.wr_rules.specs.Documents.{judge_content, content_of_stream}
-use Rattle.wr_object.specs.CreateDocument.{folder_of, state_of, may_not_make, is_no_folder, is_name_taken, own_name, new_series}
+use Rattle.wr_object.specs.CreateDocument.{folder_of, state_of, may_not_make, is_no_folder, is_name_taken, judge_place, own_name, new_series, number_of, made_of_parts}
 use Rattle.wr_object.specs.declared.new_document.Allowed.{Allowed}
 use Rattle.wr_object.specs.declared.new_document.NewDocument.{NewDocument}
-use Rattle.wr_object.specs.DocumentParts.{judge_place, number_of, made_of_parts}
 use Rattle.wr_source.specs.Templates.{Template, taken_cost, template_of}
 
 -- ---- the cost
@@ -113,10 +112,10 @@ new_document r u m t allowed = record {
   name = own_name allowed.state t.name;
   secondary = t.secondary;
   values = kept_beside allowed.values;
-  maker = u;
-  made = m;
-  changer = u;
-  changed = m;
+  created_by = u;
+  created_at = m;
+  modified_by = u;
+  modified_at = m;
   token = r.step + 1;
   series = Some (new_number r);
 }

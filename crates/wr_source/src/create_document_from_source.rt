@@ -8,7 +8,7 @@ ghost use Rattle.cm_types.specs.Properties.{judge_properties, kept_values};
 ghost use Rattle.cm_see.specs.Addressed.{addressed};
 ghost use Rattle.cmis_spec.specs.Access.{read_named};
 ghost use Rattle.cmis_spec.specs.Well.{IsWellFormed};
-ghost use Rattle.wr_object.specs.DocumentParts.{number_of};
+ghost use Rattle.wr_object.specs.CreateDocument.{number_of};
 ghost use Rattle.wr_source.specs.Templates.{template_of};
 ghost use Rattle.wr_source.specs.CreateDocumentFromSource.{cost_of_source, cost_create_document_from_source, judge_template, judge_found, refusal_of_source, refusal_create_document_from_source, allowed_in, new_document, new_parts, parts_made, after_create_document_from_source, acknowledgement_create_document_from_source};
 
@@ -33,7 +33,7 @@ use cm_types::property::PropDef;
 use source_parts::weight::weight_of_create_document_from_source;
 use source_parts::writes::CreateDocumentFromSource;
 use std::alloc::{AllocError, Global};
-use wr_object::document_rules::{folder_of, judge_place, state_of};
+use wr_object::document_rules::{folder_of, judge_place, number_of, state_of};
 use wr_object::making_document::{document_in, new_content, new_series, own_name};
 use wr_object::new_document::{Allowed, NewDocument};
 use wr_rules::beside::kept_beside;
@@ -55,15 +55,6 @@ fn judge_values(
         (kept_values calls.Create (map pointee defs.now) copied.now given.now) }
 {
     check_new(alloc, defs, copied, given)
-}
-
-fn number_of(folder: Option<&Object>) -> Option<Oid>
-    ensures { result ≡ number_of (option_copied folder.entry) }
-{
-    match folder {
-        Some(folder) => Some(folder.id),
-        None => None,
-    }
 }
 
 // All lines of the refusal but those that find something.
@@ -183,10 +174,10 @@ fn new_document(
         name: own_name(allowed.state, t.name),
         secondary: t.secondary,
         values: kept_beside(allowed.values),
-        maker: user.copied(alloc)?,
-        made: moment,
-        changer: user.copied(alloc)?,
-        changed: moment,
+        created_by: user.copied(alloc)?,
+        created_at: moment,
+        modified_by: user.copied(alloc)?,
+        modified_at: moment,
         token: state.step() + 1,
         series: Some(number),
     })

@@ -42,7 +42,7 @@ use Rattle.wr_rules.proofs.Found.{addressed_there}
 use Rattle.wr_rules.proofs.Known.{below_secondary}
 use Rattle.wr_rules.proofs.Room.{room_of}
 use Rattle.wr_rules.proofs.Changed.{kept_changed, owns_changed}
-use Rattle.wr_version.specs.CheckIn.{props_after, refusal_check_in, new_version, new_label, given_content, after_check_in_of, after_check_in}
+use Rattle.wr_version.specs.CheckIn.{props_after, judge_copy, refusal_check_in, new_version, new_label, given_content, after_check_in_of, after_check_in}
 use Rattle.wr_version.proofs.CheckOut.{IsIn, series_is}
 use Rattle.wr_version.proofs.Commented.{slice_holds, has_comment}
 
@@ -65,11 +65,11 @@ passes r u cost call h =
     let a = find_ok causes.NotFound (addressed r u call.place) _ s.1 in
     let b = find_ok causes.TypeNotFound (type_of r a.0) _ a.2 in
     let t = then_ok (first_cause (unknown_type r.types) (secondary_in call.properties)) _ b.2 in
-    let c = refuse_ok causes.Denied (lacks r u levels.Write a.0) _ t.1 in
-    let d = refuse_ok causes.WrongKind (not (is_a r bases.Document a.0)) _ c.1 in
-    let e = refuse_ok causes.NotWorking (not (is_working_copy r a.0)) _ d.1 in
-    let f = refuse_ok causes.TypeKind (has_other_secondary r.types (secondary_in call.properties)) _ e.1 in
-    let g = then_ok (judge_properties calls.CheckIn (props_after r call a.0) (form_slots r a.0) call.properties) _ f.1 in
+    let c = then_ok (judge_copy r u call a.0) _ t.1 in
+    let d = refuse_ok causes.Denied (lacks r u levels.Write a.0) _ c.0 in
+    let e = refuse_ok causes.WrongKind (not (is_a r bases.Document a.0)) _ d.1 in
+    let f = refuse_ok causes.NotWorking (not (is_working_copy r a.0)) _ e.1 in
+    let g = then_ok (judge_properties calls.CheckIn (props_after r call a.0) (form_slots r a.0) call.properties) _ c.1 in
     let i = then_ok (judge_content b.0 call.stream (content_at r a.0.id)) _ g.1 in
     let j = refuse_ok causes.StreamNot _ _ i.0 in
     let k = refuse_ok causes.ContentRequired _ _ j.1 in
@@ -78,9 +78,9 @@ passes r u cost call h =
       room = room_of r cost s.0;
       x = a.0;
       at = a.1;
-      document = not_false (is_a r bases.Document a.0) d.0;
-      working = not_false (is_working_copy r a.0) e.0;
-      secondary = f.0;
+      document = not_false (is_a r bases.Document a.0) e.0;
+      working = not_false (is_working_copy r a.0) f.0;
+      secondary = refused_not causes.TypeKind (has_other_secondary r.types (secondary_in call.properties)) f.1;
       properties = g.0;
       long = refused_not causes.StreamLong (unwrap_or (option_map is_too_long call.stream) false) k.1;
       free = refused_not causes.NameTaken (is_taken_anywhere r (entry_of a.0) (name_after r a.0 call.properties)) l.1;

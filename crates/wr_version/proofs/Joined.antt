@@ -22,8 +22,7 @@ use Rattle.cmis_laws.proofs.Begun.{HasLabelsOf}
 use Rattle.cmis_laws.proofs.Passed.{and_then_some}
 use Rattle.wr_rules.specs.Documents.{name_after, secondary_after}
 use Rattle.wr_rules.proofs.Found.{addressed_there}
-use Rattle.wr_version.specs.CheckIn.{refusal_check_in, new_version, new_label, given_content, after_check_in_of, after_check_in, version_made}
-use Rattle.wr_version.specs.CheckInParts.{values_after}
+use Rattle.wr_version.specs.CheckIn.{refusal_check_in, values_after, new_version, new_label, given_content, after_check_in_of, after_check_in, version_made}
 use Rattle.wr_version.proofs.CheckIn.{passes, last_labelled}
 use Rattle.wr_version.proofs.CheckOut.{IsIn, series_is}
 use Rattle.wr_version.proofs.Copied.{same_objects}
@@ -52,14 +51,14 @@ labels_fit r x s w h room =
 
 pub version_is : (r : Repository) (u : List ℕ) (m : Moment) (call : CheckIn) (x kept version : Object) (values : List Slot)
     → kept ≡ record x { name = None; secondary = secondary_after x call.properties; values = with_comment (kept_beside values) call.comment }
-    → version ≡ record kept { changer = u; changed = m; token = r.step + 1 } → values ≡ values_after r call x → version ≡ new_version r u m call x
+    → version ≡ record kept { modified_by = u; modified_at = m; token = r.step + 1 } → values ≡ values_after r call x → version ≡ new_version r u m call x
 version_is r u m call x kept version values e f v =
-    f ∙ (ap (λ (k : Object). record k { changer = u; changed = m; token = r.step + 1 }) e
-    ∙ ap (λ (vs : List Slot). record x { name = None; secondary = secondary_after x call.properties; values = with_comment (kept_beside vs) call.comment; changer = u; changed = m; token = r.step + 1 }) v)
+    f ∙ (ap (λ (k : Object). record k { modified_by = u; modified_at = m; token = r.step + 1 }) e
+    ∙ ap (λ (vs : List Slot). record x { name = None; secondary = secondary_after x call.properties; values = with_comment (kept_beside vs) call.comment; modified_by = u; modified_at = m; token = r.step + 1 }) v)
 
 -- the moment is that at which it was changed
-pub as_changed : (r : Repository) (u : List ℕ) (m : Moment) (call : CheckIn) (x version : Object) → version ≡ new_version r u m call x → version ≡ new_version r u version.changed call x
-as_changed r u m call x version e = e ∙ ap (λ t. new_version r u t call x) (sym (ap (λ v. v.changed) e))
+pub as_changed : (r : Repository) (u : List ℕ) (m : Moment) (call : CheckIn) (x version : Object) → version ≡ new_version r u m call x → version ≡ new_version r u version.modified_at call x
+as_changed r u m call x version e = e ∙ ap (λ t. new_version r u t call x) (sym (ap (λ v. v.modified_at) e))
 
 -- ---- the repository after the call
 
@@ -70,13 +69,13 @@ version_edits r x s label name numbers there = ap (λ ss. record (edited r x.id 
 pub joined_is : (r : Repository) (u : List ℕ) (m : Moment) (cost : ℕ) (call : CheckIn) (x version : Object) (series : Series) (o : Option Content)
     → IsWellFormed r → (i : IsIn r x) → addressed r u call.place ≡ Some x → version ≡ new_version r u m call x
     → series ≡ checked_in x.id (next_label call.major (last_label i.series)) (name_after r x call.properties) i.series → o ≡ given_content r call x
-    → noted (stepped (with_contents (edited_series (edited r version.id (λ _. version)) series) o) cost) changes.Updated version.id version.changed [] ≡ after_check_in r u m cost call
+    → noted (stepped (with_contents (edited_series (edited r version.id (λ _. version)) series) o) cost) changes.Updated version.id version.modified_at [] ≡ after_check_in r u m cost call
 joined_is r u m cost call x version series o w i at e f g =
     let v : Object = new_version r u m call x in
     let label : Label = next_label call.major (last_label i.series) in
     let name : List ℕ = name_after r x call.properties in
     let is_label : label ≡ new_label r call x = ap (λ q. next_label call.major (unwrap_or (option_map last_label q) (record { major = 0; minor = 0 }))) (sym i.found) in
-    (λ j. noted (stepped (with_contents (edited_series (edited r (e j).id (λ _. e j)) (f j)) (g j)) cost) changes.Updated (e j).id (e j).changed [])
+    (λ j. noted (stepped (with_contents (edited_series (edited r (e j).id (λ _. e j)) (f j)) (g j)) cost) changes.Updated (e j).id (e j).modified_at [])
     ∙ (ap (λ q. noted (stepped (with_contents q (given_content r call x)) cost) changes.Updated x.id m []) (version_edits r v i.series label name w.series_numbers i.there)
     ∙ ((λ j. noted (stepped (with_contents (with_version r (sym i.entry j) v (is_label j) name) (given_content r call x)) cost) changes.Updated x.id m [])
     ∙ sym (ap (λ q. unwrap_or (option_map (after_check_in_of r u m cost call) q) r) at)))

@@ -4,11 +4,13 @@ use Rattle.cm_base.specs.declared.number.Moment.{Moment}
 use Rattle.cm_base.specs.declared.object.Object.{Object}
 use Rattle.cm_base.specs.declared.content.Content.{Content}
 use Rattle.cm_base.specs.declared.series.Label.{Label}
+use Rattle.cm_base.specs.declared.value.Slot.{Slot}
 use Rattle.cm_base.specs.declared.access.Level.TheVariants as levels
 use Rattle.cm_base.specs.declared.log.ChangeKind.TheVariants as changes
 use Rattle.cm_base.specs.declared.cause.Cause.TheVariants as causes
 use Rattle.cm_base.specs.Judged.{Judged, ◌>>=◌, ◌>>◌, refuse, find_or, first_cause}
 use Rattle.cm_base.specs.Names.{is_name}
+use Rattle.cm_types.specs.declared.definition.TypeDef.{TypeDef}
 use Rattle.cm_types.specs.declared.definition.BaseType.TheVariants as bases
 use Rattle.cm_types.specs.declared.property.PropDef.{PropDef}
 use Rattle.cm_types.specs.declared.given.PropertyCall.TheVariants as calls
@@ -38,35 +40,54 @@ props_after r call x = props_of r.types x.kind (secondary_after x call.propertie
 
 -- ---- the refusal
 
+-- the caller may check the object in, and the secondary types that are given are such
+abbrev pub judge_copy : Repository → List ℕ → CheckIn → Object → Judged (Unit {0})
+judge_copy r u call x = do
+  refuse causes.Denied (lacks r u levels.Write x)
+  refuse causes.WrongKind (not (is_a r bases.Document x))
+  refuse causes.NotWorking (not (is_working_copy r x))
+  refuse causes.TypeKind (has_other_secondary r.types (secondary_in call.properties))
+
 abbrev pub judge_new_name : Repository → CheckIn → Object → Judged (Unit {0})
 judge_new_name r call x = do
   refuse causes.BadName (not (is_name (name_after r x call.properties)))
   refuse causes.NameTaken (is_taken_anywhere r (entry_of x) (name_after r x call.properties))
 
-abbrev pub refusal_check_in : Repository → List ℕ → ℕ → CheckIn → Judged (Unit {0})
-refusal_check_in r u cost call = do
-  judge_storage r cost
-  x ← find_or causes.NotFound (addressed r u call.place)
-  kind ← find_or causes.TypeNotFound (type_of r x)
-  first_cause (unknown_type r.types) (secondary_in call.properties)
-  refuse causes.Denied (lacks r u levels.Write x)
-  refuse causes.WrongKind (not (is_a r bases.Document x))
-  refuse causes.NotWorking (not (is_working_copy r x))
-  refuse causes.TypeKind (has_other_secondary r.types (secondary_in call.properties))
+-- the properties, the content and the name
+abbrev pub judge_given : Repository → CheckIn → Object → TypeDef → Judged (Unit {0})
+judge_given r call x kind = do
   judge_properties calls.CheckIn (props_after r call x) (form_slots r x) call.properties
   judge_content kind call.stream (content_at r x.id)
   judge_new_name r call x
 
+-- once the object is found
+abbrev pub judge_found : Repository → List ℕ → CheckIn → Object → Judged (Unit {0})
+judge_found r u call x = do
+  kind ← find_or causes.TypeNotFound (type_of r x)
+  first_cause (unknown_type r.types) (secondary_in call.properties)
+  judge_copy r u call x
+  judge_given r call x kind
+
+abbrev pub refusal_check_in : Repository → List ℕ → ℕ → CheckIn → Judged (Unit {0})
+refusal_check_in r u cost call = do
+  judge_storage r cost
+  x ← find_or causes.NotFound (addressed r u call.place)
+  judge_found r u call x
+
 -- ---- the repository after it
+
+-- the values of the properties after the call
+abbrev pub values_after : Repository → CheckIn → Object → List Slot
+values_after r call x = kept_values calls.CheckIn (props_after r call x) (form_slots r x) call.properties
 
 -- the version that the working copy becomes; its name is that of its series
 abbrev pub new_version : Repository → List ℕ → Moment → CheckIn → Object → Object
 new_version r u m call x = record x {
   name = None;
   secondary = secondary_after x call.properties;
-  values = with_comment (kept_beside (kept_values calls.CheckIn (props_after r call x) (form_slots r x) call.properties)) call.comment;
-  changer = u;
-  changed = m;
+  values = with_comment (kept_beside (values_after r call x)) call.comment;
+  modified_by = u;
+  modified_at = m;
   token = r.step + 1;
 }
 

@@ -56,10 +56,10 @@ new_copy r u m x = record {
   name = Some (name_of r x);
   secondary = x.secondary;
   values = without_comment x.values;
-  maker = u;
-  made = m;
-  changer = u;
-  changed = m;
+  created_by = u;
+  created_at = m;
+  modified_by = u;
+  modified_at = m;
   token = r.step + 1;
   series = x.series;
 }

@@ -1,3 +1,2 @@
 pub mod CheckIn
-pub mod CheckInParts
 pub mod CheckOut

@@ -13,8 +13,7 @@ ghost use Rattle.cmis_spec.specs.Well.{IsWellFormed};
 ghost use Rattle.wr_rules.specs.Rules.{secondary_in, unknown_type, has_other_secondary};
 ghost use Rattle.wr_rules.specs.Documents.{form_slots, name_after, secondary_after};
 ghost use Rattle.wr_rules.specs.Found.{FindsWith};
-ghost use Rattle.wr_version.specs.CheckIn.{cost_check_in, props_after, judge_new_name, refusal_check_in, new_version, given_content, after_check_in, acknowledgement_check_in};
-ghost use Rattle.wr_version.specs.CheckInParts.{judge_given, judge_copy, judge_found, values_after};
+ghost use Rattle.wr_version.specs.CheckIn.{cost_check_in, props_after, judge_copy, judge_new_name, judge_given, judge_found, refusal_check_in, values_after, new_version, given_content, after_check_in, acknowledgement_check_in};
 
 use crate::after::{form_slots, is_taken_anywhere, kept_with_comment, name_after, secondary_after};
 use crate::joining::{checked_in, joined_in, label_after};
@@ -143,17 +142,15 @@ fn gives_other_type(alloc: Global, state: &State, call: &CheckIn) -> Result<bool
     has_other_secondary(alloc, state.types(), secondary.as_slice())
 }
 
+// The caller may check the object in, and the secondary types that are given are such.
 fn judge_copy(
     alloc: Global,
     state: &State,
     user: &Text,
     call: &CheckIn,
     x: &Object,
-    kind: &TypeDef,
-) -> Result<Values, Fail>
-    ensures { Leaves result
-        (judge_copy state.now user.now call.now x.now kind.now)
-        (values_after state.now call.now x.now) }
+) -> Result<(), Fail>
+    ensures { Meets (λ x. x) result (judge_copy state.now user.now call.now x.now) }
 {
     if lacks(state, user, Level::Write, x) {
         return Err(Fail::Refused(Cause::Denied));
@@ -168,7 +165,7 @@ fn judge_copy(
     if is_other {
         return Err(Fail::Refused(Cause::TypeKind));
     }
-    judge_given(alloc, state, call, x, kind)
+    Ok(())
 }
 
 fn judge_given_types(alloc: Global, state: &State, call: &CheckIn) -> Result<(), Fail>
@@ -193,7 +190,8 @@ fn judge_found(
 {
     let kind = state.type_named(&x.kind).ok_or(Cause::TypeNotFound)?;
     judge_given_types(alloc, state, call)?;
-    judge_copy(alloc, state, user, call, x, kind)
+    judge_copy(alloc, state, user, call, x)?;
+    judge_given(alloc, state, call, x, kind)
 }
 
 // The working copy that is addressed and the values that it then has, or the cause of the refusal.
@@ -249,12 +247,12 @@ fn changed_by(
 ) -> Result<Object, AllocError>
     requires room { state.now.step + 1 < 2 ^ 64 }
     ensures { IfOk result (λ x. x
-        ≡ record object { changer = user.now; changed = moment; token = state.now.step + 1 }) }
+        ≡ record object { modified_by = user.now; modified_at = moment; token = state.now.step + 1 }) }
 {
-    let changer = user.copied(alloc)?;
+    let modified_by = user.copied(alloc)?;
     Ok(Object {
-        changer,
-        changed: moment,
+        modified_by,
+        modified_at: moment,
         token: state.step() + 1,
         ..object
     })
@@ -311,9 +309,9 @@ fn with_version(
 ) -> Result<State, AllocError>
     requires allowed { refusal_check_in state.now user.now (cost_check_in call.now) call.now ≡ Ok tt }
     requires found { addressed state.now user.now call.now.place ≡ Some x.now }
-    requires version { version ≡ new_version state.now user.now version.changed call.now x.now }
+    requires version { version ≡ new_version state.now user.now version.modified_at call.now x.now }
     ensures { IfOk result (λ s. s
-        ≡ after_check_in state.now user.now version.changed (cost_check_in call.now) call.now) }
+        ≡ after_check_in state.now user.now version.modified_at (cost_check_in call.now) call.now) }
 {
     let _step = state.step();
     let series = series_after(alloc, state, call, x)?;

@@ -94,10 +94,10 @@ pub(crate) fn joined_in(
     ensures { IfOk result (λ d. d ≡
         noted (stepped (with_contents
         (edited_series (edited state.now version.id (λ _. version)) series) content) cost)
-        Updated version.id version.changed []) }
+        Updated version.id version.modified_at []) }
 {
     let number = version.id;
-    let moment = version.changed;
+    let moment = version.modified_at;
     let begun = Draft::of(alloc, state)?;
     let put = begun.edited(alloc, version)?;
     let joined = put.edited_series(alloc, series)?;

@@ -1,12 +1,12 @@
 use Rattle.std.proofs.Common.{◌≡◌, ◌+◌, ◌-◌, ◌∙◌, List, ℕ, Bool, true, false, length, ap, sym, arith}
 use Rattle.std.specs.Prelude.{◌&&◌, nat_le}
-use Rattle.http_grammar.specs.Limits.{chunked_limit}
+use Rattle.http_grammar.specs.Limits.{chunked_limit, body_limit}
 use Rattle.http_wire.proofs.ChunkReading.{chunked_limit_is, line_stop, last_done, last_stop, long_chunk, chunk_done, data_stop}
 use Rattle.http_wire.proofs.chunks.read_chunk.Goals as goal
 
-fits_at : (body : List ℕ) (form len size n : ℕ) (t : Bool) → n ≡ length body → t ≡ (nat_le (n + size) 16777216 && nat_le (form + (len + size + 2)) 134217728)
-    → (nat_le (length body + size) 16777216 && nat_le (form + (len + size + 2)) 134217728) ≡ t
-fits_at body form len size n t e f = ap (λ (m : ℕ). nat_le (m + size) 16777216 && nat_le (form + (len + size + 2)) 134217728) (sym e) ∙ sym f
+fits_at : (body : List ℕ) (form len size n : ℕ) (t : Bool) → n ≡ length body → t ≡ (nat_le (n + size) body_limit && nat_le (form + (len + size + 2)) 134217728)
+    → (nat_le (length body + size) body_limit && nat_le (form + (len + size + 2)) 134217728) ≡ t
+fits_at body form len size n t e f = ap (λ (m : ℕ). nat_le (m + size) body_limit && nat_le (form + (len + size + 2)) 134217728) (sym e) ∙ sym f
 
 pub returns-in-Err-clause-reads : goal.returns-in-Err-clause-reads
 returns-in-Err-clause-reads g c =

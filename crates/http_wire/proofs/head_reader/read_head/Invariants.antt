@@ -1,6 +1,7 @@
 use Rattle.std.proofs.Common.{◌≡◌, ◌-◌, ◌++◌, ℕ, List, length}
 use Rattle.outside.specs.Outside.{Gave}
 use Rattle.http_wire.specs.Windows.{held}
+use Rattle.http_grammar.specs.Limits.{head_limit}
 use Rattle.http_wire.proofs.head_reader.read_head.Given as goal
 
 abbrev pub invariant-more : goal.invariant-more
@@ -9,4 +10,4 @@ invariant-more g l =
     × (g.S.Source.aside l.source ≡ g.S.Source.aside l.fn.source)
 
 abbrev pub decreases-more : goal.decreases-more
-decreases-more g l = 65536 - length (held l.window)
+decreases-more g l = head_limit - length (held l.window)

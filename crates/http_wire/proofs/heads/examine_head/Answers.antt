@@ -6,7 +6,7 @@ use Rattle.http_wire.proofs.SeenHeads.{head_limit_is, whole_part, none_where_hop
 use Rattle.http_wire.proofs.heads.examine_head.Goals as goal
 
 pub examine_part-requires : goal.examine_part-requires
-examine_part-requires c = rw c.front.ensures (omega (arith, length-take 65536 c.args.bytes.now))
+examine_part-requires c = rw c.front.ensures (omega (arith, head_limit_is, length-take 65536 c.args.bytes.now))
 
 pub judge-requires : goal.judge-requires
 judge-requires c =

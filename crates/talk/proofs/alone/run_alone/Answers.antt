@@ -20,19 +20,19 @@ returns-clause-ran g c =
       fault_head = c.fault_holds_its_head.ensures;
     } in
     let base = new.1 ∙ (ap (λ d. d.base) desk ∙ ap (λ v. length v.journal) version) in
-    let caller = new.3 ∙ ap (λ d. d.made) desk in
-    let one = ap (λ k. k.callers) c.talk-end.ensures.aside ∙ (ap (λ d. d.made) made ∙ ap (λ d. d.made + 1) desk) in
+    let session = new.3 ∙ ap (λ d. d.made) desk in
+    let one = ap (λ k. k.sessions) c.talk-end.ensures.aside ∙ (ap (λ d. d.made) made ∙ ap (λ d. d.made + 1) desk) in
     let of = c.talk-end.ensures.is_of in
     let told = c.talk-end.ensures.talked in
     leaves _ _ _ _ _ _ _ _ _ _ _ _ _
-    (whole-seen g.M.Machine.next _ _ of one (told.base ∙ base) (told.caller ∙ caller) ∙ sym (ap (λ v. v.journal) c.close-last.ensures.last))
+    (whole-seen g.M.Machine.next _ _ of one (told.base ∙ base) (told.number ∙ session) ∙ sym (ap (λ v. v.journal) c.close-last.ensures.last))
     (sym c.close-last.ensures.words)
     (run-alone (record { next = g.M.Machine.next; answer = g.M.Machine.answer; number = g.M.Machine.number; call = g.M.Served.call; wire = wire_of g.M.Served.user g.M.Served.least g.M.Served.closes })
     c.args.opening c.args.users.now _ _ _ _ _ _ _ _ _ _ (record { one = c.first_is_one.ensures; within = c.request_lies_within.ensures }) law _ told
     (ap (λ d. d.words) made ∙ ap (λ d. d.words) desk)
     (new.2 ∙ (ap (λ d. d.opening) desk ∙ ap (λ v. v.opening) version))
     base
-    caller
+    session
     (new.4 ∙ (ap (λ d. d.journal) desk ∙ ap (λ v. v.journal) version))
     one
     of.below

@@ -8,4 +8,4 @@ pub returns : goal.returns
 returns c =
     let named = c.in_ok-named.ensures ∙ ap (λ d. with_maybe d c.args.series) c.in_ok-begun.ensures in
     let put = c.in_ok-put.ensures ∙ ap (λ d. edited d c.args.object.id (λ _. c.args.object)) named in
-    c.in_ok-noted.ensures ∙ (λ i. noted (put i) Updated c.args.object.id c.args.object.changed (c.new.ensures i))
+    c.in_ok-noted.ensures ∙ (λ i. noted (put i) Updated c.args.object.id c.args.object.modified_at (c.new.ensures i))

@@ -25,7 +25,7 @@ is_cleared c =
     let put = c.in_ok-put.ensures ∙ ap (λ d. edited d c.args.x.id (λ _. c.args.x)) c.in_ok-begun.ensures in
     let empty = c.in_ok-empty.ensures ∙ ap (λ d. without_content d c.args.x.id) put in
     let paid = c.stepped-paid.ensures ∙ ap (λ d. stepped d c.args.cost) empty in
-    c.in_ok-noted.ensures ∙ (λ i. noted (paid i) Updated c.args.x.id c.args.x.changed (c.new.ensures i))
+    c.in_ok-noted.ensures ∙ (λ i. noted (paid i) Updated c.args.x.id c.args.x.modified_at (c.new.ensures i))
 
 pub seal-requires : goal.seal-requires
 seal-requires c = record { well = subst IsWellFormed (sym (is_cleared c)) c.requires.well }
@@ -35,4 +35,4 @@ returns c =
     let put = c.in_ok-put.ensures ∙ ap (λ d. edited d c.args.x.id (λ _. c.args.x)) c.in_ok-begun.ensures in
     let empty = c.in_ok-empty.ensures ∙ ap (λ d. without_content d c.args.x.id) put in
     let paid = c.stepped-paid.ensures ∙ ap (λ d. stepped d c.args.cost) empty in
-    c.seal.ensures ∙ (c.in_ok-noted.ensures ∙ (λ i. noted (paid i) Updated c.args.x.id c.args.x.changed (c.new.ensures i)))
+    c.seal.ensures ∙ (c.in_ok-noted.ensures ∙ (λ i. noted (paid i) Updated c.args.x.id c.args.x.modified_at (c.new.ensures i)))

@@ -26,7 +26,7 @@ is_filled c =
     let put = c.in_ok-put.ensures ∙ ap (λ d. edited d c.args.x.id (λ _. c.args.x)) c.in_ok-begun.ensures in
     let full = c.in_ok-full.ensures ∙ ap (λ d. with_content d c.args.content) put in
     let paid = c.stepped-paid.ensures ∙ ap (λ d. stepped d c.args.cost) full in
-    c.in_ok-noted.ensures ∙ (λ i. noted (paid i) Updated c.args.x.id c.args.x.changed (c.new.ensures i))
+    c.in_ok-noted.ensures ∙ (λ i. noted (paid i) Updated c.args.x.id c.args.x.modified_at (c.new.ensures i))
 
 pub seal-requires : goal.seal-requires
 seal-requires c = record { well = subst IsWellFormed (sym (is_filled c)) c.requires.well }
@@ -36,4 +36,4 @@ returns c =
     let put = c.in_ok-put.ensures ∙ ap (λ d. edited d c.args.x.id (λ _. c.args.x)) c.in_ok-begun.ensures in
     let full = c.in_ok-full.ensures ∙ ap (λ d. with_content d c.args.content) put in
     let paid = c.stepped-paid.ensures ∙ ap (λ d. stepped d c.args.cost) full in
-    c.seal.ensures ∙ (c.in_ok-noted.ensures ∙ (λ i. noted (paid i) Updated c.args.x.id c.args.x.changed (c.new.ensures i)))
+    c.seal.ensures ∙ (c.in_ok-noted.ensures ∙ (λ i. noted (paid i) Updated c.args.x.id c.args.x.modified_at (c.new.ensures i)))

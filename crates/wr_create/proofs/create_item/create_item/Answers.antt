@@ -1,7 +1,7 @@
 use Rattle.std.proofs.Common.{◌≡◌, Ok, sym, ap, subst, ◌∙◌}
 use Rattle.std.specs.Prelude.{option_and_then}
 use Rattle.cm_see.specs.Addressed.{addressed}
-use Rattle.wr_object.specs.DocumentParts.{number_of}
+use Rattle.wr_object.specs.CreateDocument.{number_of}
 use Rattle.cmis_spec.specs.Well.{Apart, ComesBefore, IsWellFormed}
 use Rattle.wr_create.specs.Making.{after_making, reply_of_making}
 use Rattle.wr_create.specs.CreateItem.{refusal_of_item, refusal_create_item}

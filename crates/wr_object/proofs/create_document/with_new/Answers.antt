@@ -1,10 +1,11 @@
 use Rattle.std.proofs.Common.{◌≡◌, ap, sym, subst, ◌∙◌}
 use Rattle.cmis_spec.specs.Repository.{new_number}
 use Rattle.cmis_spec.specs.Well.{Apart, ComesBefore, IsWellFormed}
-use Rattle.wr_rules.specs.Rules.{name_in, policies_in, new_aces}
-use Rattle.wr_object.specs.CreateDocument.{after_create_document, state_made}
+use Rattle.wr_rules.specs.Rules.{policies_in, new_aces}
+use Rattle.wr_rules.specs.Wanted.{wanted_in}
+use Rattle.wr_object.specs.CreateDocument.{allowed_in, made_of_parts, after_create_document}
 use Rattle.wr_object.proofs.CreatedDocument.{series_id, keeps_create_document}
-use Rattle.wr_object.proofs.MadeDocument.{room_of, made_is}
+use Rattle.wr_object.proofs.MadeDocument.{room_of}
 use Rattle.wr_object.proofs.create_document.with_new.Goals as goal
 use Rattle.wr_object.proofs.create_document.with_new.Goals.{In_ok-draft}
 
@@ -12,10 +13,11 @@ pub document_in-requires : goal.document_in-requires
 document_in-requires c =
     let r = c.args.state.now in
     let call = c.args.call.now in
+    let wanted = wanted_in r.types call.properties in
     let room = room_of r c.args.user.now c.args.cost call c.step-step.ensures.well c.requires.allowed in
     record {
       number = ap (λ n. n.object.id) c.requires.new;
-      first = ap (λ n. n.series.id) c.requires.new ∙ series_id (new_number r) c.args.user.now (name_in call.properties) (state_made r call);
+      first = ap (λ n. n.series.id) c.requires.new ∙ series_id (new_number r) c.args.user.now wanted.name (allowed_in r c.args.user.now call wanted).state;
       next = room.next;
       step = room.step;
       cost = room.paid;
@@ -27,9 +29,9 @@ aces_are c = c.in_ok-aces.ensures.list ∙ (λ i. new_aces c.args.user.now (c.as
 is_after : (c : In_ok-draft) → c.in_ok-draft.draft ≡ after_create_document c.args.state.now c.args.user.now c.args.moment c.args.cost c.args.call.now
 is_after c =
     let r = c.args.state.now in
-    let u = c.args.user.now in
-    c.in_ok-draft.ensures ∙ made_is r u c.args.moment c.args.cost c.args.call.now c.args.new c.in_ok-aces.aces c.as_slice-policies.result.now c.requires.allowed c.requires.new (aces_are c)
-    (c.as_slice-policies.ensures ∙ c.in_ok-policies.ensures ∙ ap (policies_in r u) c.as_slice-3.ensures)
+    let policies = c.as_slice-policies.ensures ∙ c.in_ok-policies.ensures ∙ ap (policies_in r c.args.user.now) c.as_slice-3.ensures in
+    let aces = aces_are c in
+    c.in_ok-draft.ensures ∙ (λ i. made_of_parts r (c.requires.new i) (aces i) (policies i) c.args.cost c.args.moment)
 
 pub seal-requires : goal.seal-requires
 seal-requires c = record {
@@ -40,7 +42,6 @@ pub returns : goal.returns
 returns c =
     let r = c.args.state.now in
     let u = c.args.user.now in
-    let call = c.args.call.now in
-    c.seal.ensures ∙ (c.in_ok-draft.ensures ∙ made_is r u c.args.moment c.args.cost call c.args.new c.in_ok-aces.aces c.as_slice-policies.result.now c.requires.allowed c.requires.new
-    (c.in_ok-aces.ensures.list ∙ (λ i. new_aces u (c.as_slice.ensures i) (c.as_slice-2.ensures i)))
-    (c.as_slice-policies.ensures ∙ c.in_ok-policies.ensures ∙ ap (policies_in r u) c.as_slice-3.ensures))
+    let policies = c.as_slice-policies.ensures ∙ c.in_ok-policies.ensures ∙ ap (policies_in r u) c.as_slice-3.ensures in
+    let aces = c.in_ok-aces.ensures.list ∙ (λ i. new_aces u (c.as_slice.ensures i) (c.as_slice-2.ensures i)) in
+    c.seal.ensures ∙ (c.in_ok-draft.ensures ∙ (λ i. made_of_parts r (c.requires.new i) (aces i) (policies i) c.args.cost c.args.moment))

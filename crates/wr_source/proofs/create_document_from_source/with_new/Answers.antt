@@ -1,7 +1,7 @@
 use Rattle.std.proofs.Common.{◌≡◌, ap, sym, subst, ◌∙◌}
 use Rattle.cmis_spec.specs.Well.{Apart, ComesBefore, IsWellFormed}
 use Rattle.wr_rules.specs.Rules.{policies_in, new_aces}
-use Rattle.wr_object.specs.DocumentParts.{made_of_parts}
+use Rattle.wr_object.specs.CreateDocument.{made_of_parts}
 use Rattle.wr_source.specs.CreateDocumentFromSource.{after_create_document_from_source}
 use Rattle.wr_source.proofs.Created.{keeps_create_document_from_source, series_of_parts}
 use Rattle.wr_source.proofs.Found.{room_for}

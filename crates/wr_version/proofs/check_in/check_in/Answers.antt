@@ -26,7 +26,7 @@ with_reply-requires c =
     let m = c.args.moment in
     let call = c.args.call.now in
     let version = version_is r u m call c.in_ok-x.x.now c.in_ok-kept.kept c.in_ok-version.version c.in_ok-x.values c.in_ok-kept.ensures c.in_ok-version.ensures c.in_ok-x.ensures.2 in
-    let made = c.in_ok-made.ensures ∙ ap (λ t. after_check_in r u t (cost_check_in call) call) (ap (λ v. v.changed) version) in
+    let made = c.in_ok-made.ensures ∙ ap (λ t. after_check_in r u t (cost_check_in call) call) (ap (λ v. v.modified_at) version) in
     record { there = ap is_some (version_found r u m (cost_check_in call) call c.in_ok-made.made c.in_ok-x.x.now c.step-step.ensures.well.numbers c.in_ok-x.ensures.1 made) }
 
 pub returns-clause-written : goal.returns-clause-written
@@ -36,7 +36,7 @@ returns-clause-written c =
     let m = c.args.moment in
     let call = c.args.call.now in
     let version = version_is r u m call c.in_ok-x.x.now c.in_ok-kept.kept c.in_ok-version.version c.in_ok-x.values c.in_ok-kept.ensures c.in_ok-version.ensures c.in_ok-x.ensures.2 in
-    let made = c.in_ok-made.ensures ∙ ap (λ t. after_check_in r u t (cost_check_in call) call) (ap (λ v. v.changed) version) in
+    let made = c.in_ok-made.ensures ∙ ap (λ t. after_check_in r u t (cost_check_in call) call) (ap (λ v. v.modified_at) version) in
     let there = version_found r u m (cost_check_in call) call c.in_ok-made.made c.in_ok-x.x.now c.step-step.ensures.well.numbers c.in_ok-x.ensures.1 made in (
       c.in_ok-x.ensures.0,
       c.in_ok-next.ensures.same ∙ made,

@@ -38,7 +38,7 @@ joined_in-requires c =
       cost = subst (λ k. r.cost + k < 2 ^ 64) (sym c.weight_of_check_in-cost.ensures) room.1;
     }
 
-is_after : (c : In_ok-draft) → c.in_ok-draft.draft ≡ after_check_in c.args.state.now c.args.user.now c.args.version.changed (cost_check_in c.args.call.now) c.args.call.now
+is_after : (c : In_ok-draft) → c.in_ok-draft.draft ≡ after_check_in c.args.state.now c.args.user.now c.args.version.modified_at (cost_check_in c.args.call.now) c.args.call.now
 is_after c =
     let r = c.args.state.now in
     let u = c.args.user.now in
@@ -46,13 +46,13 @@ is_after c =
     let w = c.step-step.ensures.well in
     let here = in_series r u (cost_check_in call) call c.args.x.now w c.requires.allowed c.requires.found in
     c.in_ok-draft.ensures
-    ∙ (joined_is r u c.args.version.changed c.weight_of_check_in-cost.result call c.args.x.now c.args.version c.in_ok-series.series c.in_ok-content.content w here c.requires.found c.requires.version
+    ∙ (joined_is r u c.args.version.modified_at c.weight_of_check_in-cost.result call c.args.x.now c.args.version c.in_ok-series.series c.in_ok-content.content w here c.requires.found c.requires.version
     (c.in_ok-series.ensures here.series here.found) c.in_ok-content.ensures
-    ∙ ap (λ k. after_check_in r u c.args.version.changed k call) c.weight_of_check_in-cost.ensures)
+    ∙ ap (λ k. after_check_in r u c.args.version.modified_at k call) c.weight_of_check_in-cost.ensures)
 
 pub seal-requires : goal.seal-requires
 seal-requires c = record {
-  well = subst IsWellFormed (sym (is_after c)) (keeps_check_in c.args.state.now c.args.user.now c.args.version.changed (cost_check_in c.args.call.now) c.args.call.now c.step-step.ensures.well c.requires.allowed);
+  well = subst IsWellFormed (sym (is_after c)) (keeps_check_in c.args.state.now c.args.user.now c.args.version.modified_at (cost_check_in c.args.call.now) c.args.call.now c.step-step.ensures.well c.requires.allowed);
 }
 
 pub returns : goal.returns
@@ -63,6 +63,6 @@ returns c =
     let w = c.step-step.ensures.well in
     let here = in_series r u (cost_check_in call) call c.args.x.now w c.requires.allowed c.requires.found in
     c.seal.ensures ∙ (c.in_ok-draft.ensures
-    ∙ (joined_is r u c.args.version.changed c.weight_of_check_in-cost.result call c.args.x.now c.args.version c.in_ok-series.series c.in_ok-content.content w here c.requires.found c.requires.version
+    ∙ (joined_is r u c.args.version.modified_at c.weight_of_check_in-cost.result call c.args.x.now c.args.version c.in_ok-series.series c.in_ok-content.content w here c.requires.found c.requires.version
     (c.in_ok-series.ensures here.series here.found) c.in_ok-content.ensures
-    ∙ ap (λ k. after_check_in r u c.args.version.changed k call) c.weight_of_check_in-cost.ensures))
+    ∙ ap (λ k. after_check_in r u c.args.version.modified_at k call) c.weight_of_check_in-cost.ensures))

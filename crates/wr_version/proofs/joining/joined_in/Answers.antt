@@ -32,4 +32,4 @@ returns c =
     let joined = c.in_ok-joined.ensures ∙ ap (λ d. edited_series d c.args.series) put in
     let full = c.in_ok-full.ensures ∙ ap (λ d. with_contents d c.args.content) joined in
     let paid = c.stepped-paid.ensures ∙ ap (λ d. stepped d c.args.cost) full in
-    c.in_ok-noted.ensures ∙ (λ i. noted (paid i) Updated c.args.version.id c.args.version.changed (c.new.ensures i))
+    c.in_ok-noted.ensures ∙ (λ i. noted (paid i) Updated c.args.version.id c.args.version.modified_at (c.new.ensures i))

@@ -5,7 +5,7 @@ use Rattle.desk_lock.proofs.lock.Lock.write.Goals as goal
 
 pub publish-requires-clause-out : goal.publish-requires-clause-out
 publish-requires-clause-out g c = let p = c.pass.inside in
-    ((arc_value c.open-version.result).journal, record { caller = p.number; serial = p.own; user = c.in-Ok.user; moment = c.args.moment; call = c.args.call }, search rules, search rules, search rules, search rules, search rules, search rules)
+    ((arc_value c.open-version.result).journal, record { session = p.number; serial = p.own; user = c.in-Ok.user; moment = c.args.moment; call = c.args.call }, search rules, search rules, search rules, search rules, search rules, search rules)
 
 pub overflow_add-pass : goal.overflow_add-pass
 overflow_add-pass g c = let p = c.pass.inside in let t = arc_value c.open-version.result in let n = arc_value c.in-Ok-next_of.next in

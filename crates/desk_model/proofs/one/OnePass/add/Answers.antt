@@ -6,4 +6,4 @@ use Rattle.desk_model.proofs.one.OnePass.add.Goals as goal
 pub overflow_add-self : goal.overflow_add-self
 overflow_add-self g c =
     let r = c.requires in
-    omega (arith, r, own-length c.args.self.now.base c.args.self.now.caller (arc_value c.args.version).journal, c.self.invariant, ap (λ k. length k.own) c.self.view_is, c.len-len.ensures, ap (λ v. length v.journal) c.deref.ensures, c.len-len.type_inv)
+    omega (arith, r, own-length c.args.self.now.base c.args.self.now.session (arc_value c.args.version).journal, c.self.invariant, ap (λ k. length k.own) c.self.view_is, c.len-len.ensures, ap (λ v. length v.journal) c.deref.ensures, c.len-len.type_inv)
