@@ -1,5 +1,6 @@
--- What is sent of each reading's answer.
+-- What is sent of each write and of each reading's answer.
 use Rattle.std.specs.Prelude.{ℕ, List, Option, Ok}
+use Rattle.cm_base.specs.declared.number.Moment.{Moment}
 use Rattle.cm_base.specs.declared.object.Object.{Object}
 use Rattle.cm_base.specs.declared.shown.Shown.{Shown}
 use Rattle.cm_base.specs.Judged.{Judged, ◌>>=◌}
@@ -10,14 +11,19 @@ use Rattle.include_parts.specs.declared.readings.ShowObject.{ShowObject}
 use Rattle.include_parts.specs.declared.replies.IncludedChildrenReply.{IncludedChildrenReply}
 use Rattle.call_parts.specs.declared.replies.ContentReply.{ContentReply}
 use Rattle.include_parts.specs.declared.replies.IncludedReply.{IncludedReply}
+use Rattle.cm_call.specs.declared.write.Write.{Write}
 use Rattle.cm_call.specs.declared.reply.Reply.TheVariants as replies
 use Rattle.bind_json.specs.Replies.{shown_reply}
 use Rattle.cmis_spec.specs.Repository.{Repository}
-use Rattle.cm_repo.specs.Calls.{answer_default, default_of}
+use Rattle.cm_repo.specs.Calls.{acknowledgement, after, answer_default, default_of}
 use Rattle.cm_include.specs.declared.included.View.{View}
 use Rattle.rd_include.specs.ShowChildren.{answer_show_children}
 use Rattle.rd_include.specs.ShowObject.{answer_included_in, answer_show_object}
 use Rattle.rd_version.specs.Content.{answer_stream}
+
+-- what is sent of a write that is not refused, at the step after it
+abbrev pub sent_write : Repository → List ℕ → Moment → Write → Shown
+sent_write r u m call = shown_reply (acknowledgement r u m call) (after r u m call).step
 
 -- what is sent of a page that is answered at this step
 abbrev pub page_sent : ℕ → Judged IncludedChildrenReply → Judged Shown

@@ -66,7 +66,8 @@ use wr_types::update_type::update_type;
 use wr_version::check_in::check_in;
 use wr_version::check_out::check_out;
 
-fn write(
+/// Makes a write: the state after it and its reply, or the first cause that refuses it.
+pub(crate) fn write(
     alloc: Global,
     state: &State,
     user: &Text,

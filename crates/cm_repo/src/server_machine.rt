@@ -1,15 +1,28 @@
 //! The machine of the server.
-ghost use Rattle.std.specs.Prelude.{◌≡◌, Result};
-ghost use Rattle.cm_base.specs.Judged.{Meets};
+ghost use Rattle.std.specs.Prelude.{◌≡◌, Result, Some, IfOk, is_some, true};
+ghost use Rattle.serde_json.specs.Written.{compact_text};
+ghost use Rattle.cm_base.specs.declared.object.Object.{Object};
+ghost use Rattle.cm_base.specs.Judged.{Meets, Writes};
+ghost use Rattle.call_parts.specs.declared.readings.PropertyFilter.TheVariants as filters;
+ghost use Rattle.cm_call.specs.declared.write.Write.TheVariants as writes;
+ghost use Rattle.cm_see.specs.Shown.{shown_object};
+ghost use Rattle.cmis_spec.specs.Repository.{object_at};
+ghost use Rattle.object_json.specs.Objects.{shown_data};
+ghost use Rattle.object_json.specs.Sent.{shown_json};
 ghost use Rattle.desk_model.specs.Halts.{Tells};
+ghost use Rattle.cm_repo.specs.Calls.{refusal_of, after};
 ghost use Rattle.cm_repo.specs.ServerMachine.{shown_step, shown_answer};
-ghost use Rattle.cm_repo.specs.Sent.{sent_children, sent_default, sent_found, sent_included, sent_object, sent_stream};
+ghost use Rattle.cm_repo.specs.Sent.{sent_write, sent_children, sent_default, sent_found, sent_included, sent_object, sent_stream};
 
-use crate::calls::{advance, read};
+use crate::calls::{read, write};
 use bind_json::replies::text_of;
 use call_parts::place::Place;
+use call_parts::readings::PropertyFilter;
+use call_parts::versions::CreateDocument;
+use call_parts::writes::CreateFolder;
 use cm_base::cause::Cause;
 use cm_base::fail::Fail;
+use cm_base::number::{Moment, Oid};
 use cm_base::object::Object;
 use cm_base::shown::Shown;
 use cm_base::text::Text;
@@ -26,7 +39,104 @@ use include_text::children::show_children_text;
 use include_text::object::{included_object_text, show_object_text};
 use object_json::sent::shown_json;
 use rd_version::content::stream;
-use std::alloc::Global;
+use show_json::one::text_of_object;
+use std::alloc::{AllocError, Global};
+use wr_object::create_document::document_created;
+use wr_object::create_folder::folder_created;
+
+// What is sent of an object that was just made, whose text is written from the state.
+fn sent_made(
+    alloc: Global,
+    made: &State,
+    user: &Text,
+    succinct: bool,
+    number: Oid,
+) -> Result<Shown, AllocError>
+    requires there { is_some (object_at made.now number) ≡ true }
+    ensures { IfOk result (λ s. (x : Object) → object_at made.now number ≡ Some x
+        → s ≡ shown_json 201
+        (compact_text (shown_data (shown_object made.now user.now filters.All succinct x))) made.now.step) }
+{
+    let x = made.object(number).unwrap();
+    let text = text_of_object(alloc, made, user, &PropertyFilter::All, succinct, x)?;
+    let shown = shown_json(alloc, 201, text, made.step())?;
+    Ok(shown)
+}
+
+// A folder that is made, and what is sent of it.
+fn sent_folder(
+    alloc: Global,
+    state: &State,
+    user: &Text,
+    moment: Moment,
+    call: &CreateFolder,
+) -> Result<(State, Shown), Fail>
+    ensures { Writes result
+        (refusal_of state.now user.now moment (writes.CreateFolder call.now))
+        (after state.now user.now moment (writes.CreateFolder call.now))
+        (sent_write state.now user.now moment (writes.CreateFolder call.now)) }
+{
+    let number = Oid(state.next_number());
+    let made = folder_created(alloc, state, user, moment, call)?;
+    let shown = sent_made(alloc, &made, user, call.succinct, number)?;
+    Ok((made, shown))
+}
+
+// A document that is made, and what is sent of it.
+fn sent_document(
+    alloc: Global,
+    state: &State,
+    user: &Text,
+    moment: Moment,
+    call: &CreateDocument,
+) -> Result<(State, Shown), Fail>
+    ensures { Writes result
+        (refusal_of state.now user.now moment (writes.CreateDocument call.now))
+        (after state.now user.now moment (writes.CreateDocument call.now))
+        (sent_write state.now user.now moment (writes.CreateDocument call.now)) }
+{
+    let number = Oid(state.next_number());
+    let made = document_created(alloc, state, user, moment, call)?;
+    let shown = sent_made(alloc, &made, user, call.succinct, number)?;
+    Ok((made, shown))
+}
+
+// A write, and what is sent of a reply that is made first.
+fn sent_acknowledgement(
+    alloc: Global,
+    state: &State,
+    user: &Text,
+    moment: Moment,
+    call: &Write,
+) -> Result<(State, Shown), Fail>
+    ensures { Writes result
+        (refusal_of state.now user.now moment call.now)
+        (after state.now user.now moment call.now)
+        (sent_write state.now user.now moment call.now) }
+{
+    let (made, reply) = write(alloc, state, user, moment, call)?;
+    let shown = text_of(alloc, &reply, made.step())?;
+    Ok((made, shown))
+}
+
+fn sent_write(
+    alloc: Global,
+    state: &State,
+    user: &Text,
+    moment: Moment,
+    call: &Write,
+) -> Result<(State, Shown), Fail>
+    ensures { Writes result
+        (refusal_of state.now user.now moment call.now)
+        (after state.now user.now moment call.now)
+        (sent_write state.now user.now moment call.now) }
+{
+    match call {
+        Write::CreateFolder(call) => sent_folder(alloc, state, user, moment, call),
+        Write::CreateDocument(call) => sent_document(alloc, state, user, moment, call),
+        _ => sent_acknowledgement(alloc, state, user, moment, call),
+    }
+}
 
 fn shown_step(
     alloc: Global,
@@ -35,10 +145,10 @@ fn shown_step(
 ) -> Result<(State, Shown), Halt<Cause>>
     ensures { Tells (shown_step state.now entry.now) result }
 {
-    let (made, reply) = advance(alloc, state, entry)?;
-    match text_of(alloc, &reply, made.step()) {
-        Ok(shown) => Ok((made, shown)),
-        Err(_) => Err(Halt::Memory),
+    match sent_write(alloc, state, &entry.user, entry.moment, &entry.call) {
+        Ok((made, shown)) => Ok((made, shown)),
+        Err(Fail::Refused(cause)) => Err(Halt::Refused(cause)),
+        Err(Fail::Memory) => Err(Halt::Memory),
     }
 }
 

@@ -1,12 +1,13 @@
 //! Given properties against their definitions, and the values that are then kept.
 ghost use Rattle.std.specs.Prelude.{◌≡◌, map};
-ghost use Rattle.cm_base.specs.Judged.{Meets};
+ghost use Rattle.cm_base.specs.Judged.{Leaves, Meets};
 ghost use Rattle.cm_map.specs.Parts.{pointee};
 ghost use Rattle.cm_types.specs.declared.given.PropertyCall.TheVariants as calls;
-ghost use Rattle.cm_types.specs.Properties.{judge_properties, judge_values};
+ghost use Rattle.cm_types.specs.Properties.{judge_properties};
+ghost use Rattle.cmis_spec.specs.Values.{values_kept};
 
 use crate::fault::judge_given;
-use crate::kept::{judge_missing, kept_values};
+use crate::kept::{judge_missing, values_kept};
 use cm_base::fail::Fail;
 use cm_base::value::Values;
 use cm_types::given::{Givens, PropertyCall};
@@ -35,14 +36,16 @@ fn judge_values(
     old: &Values,
     given: &Givens,
 ) -> Result<Values, Fail>
-    ensures { Meets (λ x. x) result (judge_values call (map pointee defs.now) old.now given.now) }
+    ensures { Leaves result
+        (judge_properties call (map pointee defs.now) old.now given.now)
+        (values_kept call (map pointee defs.now) old.now given.now) }
 {
     judge_properties(alloc, call, defs, old, given)?;
-    let kept = kept_values(alloc, call, defs, old.as_slice(), given.as_slice())?;
+    let kept = values_kept(alloc, call, defs, old.as_slice(), given.as_slice())?;
     Ok(kept)
 }
 
-/// The values of a new object: the given ones, else those copied from a source, else the defaults.
+/// The values that a new object keeps beside its name and types: the given ones, else those copied from a source, else the defaults.
 ///
 /// A copied value may be unset, and then stays so. The cause is Property, with the id and the fault that comes first: those of
 /// the given properties in their order, then the first required property, in the order of the definitions, that would be unset.
@@ -52,12 +55,14 @@ pub fn check_new(
     copied: &Values,
     given: &Givens,
 ) -> Result<Values, Fail>
-    ensures { Meets (λ x. x) result (judge_values calls.Create (map pointee defs.now) copied.now given.now) }
+    ensures { Leaves result
+        (judge_properties calls.Create (map pointee defs.now) copied.now given.now)
+        (values_kept calls.Create (map pointee defs.now) copied.now given.now) }
 {
     judge_values(alloc, PropertyCall::Create, defs, copied, given)
 }
 
-/// The values after an update: the given ones, else the old ones. The causes are as in `check_new`; `working` says that the
+/// The values that an object keeps after an update: the given ones, else the old ones. The causes are as in `check_new`; `working` says that the
 /// object is a private working copy.
 pub fn check_update(
     alloc: Global,
@@ -66,7 +71,9 @@ pub fn check_update(
     given: &Givens,
     working: bool,
 ) -> Result<Values, Fail>
-    ensures { Meets (λ x. x) result (judge_values (calls.Update working) (map pointee defs.now) old.now given.now) }
+    ensures { Leaves result
+        (judge_properties (calls.Update working) (map pointee defs.now) old.now given.now)
+        (values_kept (calls.Update working) (map pointee defs.now) old.now given.now) }
 {
     judge_values(alloc, PropertyCall::Update(working), defs, old, given)
 }
@@ -78,7 +85,9 @@ pub fn check_checked_in(
     old: &Values,
     given: &Givens,
 ) -> Result<Values, Fail>
-    ensures { Meets (λ x. x) result (judge_values calls.CheckIn (map pointee defs.now) old.now given.now) }
+    ensures { Leaves result
+        (judge_properties calls.CheckIn (map pointee defs.now) old.now given.now)
+        (values_kept calls.CheckIn (map pointee defs.now) old.now given.now) }
 {
     judge_values(alloc, PropertyCall::CheckIn, defs, old, given)
 }

@@ -1,8 +1,9 @@
 //! The values that are kept.
-ghost use Rattle.std.specs.Prelude.{◌≡◌, IfOk, [], ◌∷◌, false, map};
+ghost use Rattle.std.specs.Prelude.{◌≡◌, IfOk, OnOk, [], ◌∷◌, ◌++◌, if◌then◌else◌, false, map};
 ghost use Rattle.cm_base.specs.Judged.{Meets, judge_by, first_cause};
 ghost use Rattle.cm_map.specs.Parts.{pointee};
-ghost use Rattle.cm_types.specs.Properties.{is_set, value_of_texts, stated, value_before, kept_value, kept_values, is_missing, missing_cause};
+ghost use Rattle.cm_types.specs.Properties.{is_set, value_of_texts, stated, value_before, kept_value, is_missing, missing_cause};
+ghost use Rattle.cmis_spec.specs.Values.{is_apart, values_kept};
 
 use crate::fault::stated;
 use crate::lookup::{given_of, slot_in};
@@ -62,21 +63,57 @@ fn kept_value(
     }
 }
 
-/// The values that are kept, by the order of the definitions.
-pub fn kept_values(
+fn is_apart(id: &Text) -> bool
+    ensures { result ≡ is_apart id.now }
+{
+    id.is_str("cmis:name")
+        || id.is_str("cmis:objectTypeId")
+        || id.is_str("cmis:secondaryObjectTypeIds")
+}
+
+// Puts a value at the end, where it is set.
+fn put(alloc: Global, kept: &mut Values, id: &Text, value: Value) -> Result<(), AllocError>
+    ensures { OnOk result (kept.new
+        ≡ kept.old ++ (if is_set value then (record { id = id.now; value = value }) ∷ [] else [])) }
+{
+    if !is_set(&value) {
+        return Ok(());
+    }
+    let id = id.copied(alloc)?;
+    kept.push(Slot { id, value })
+}
+
+// Puts the value of a property at the end, where an object keeps it beside its name and types.
+fn keep(
+    alloc: Global,
+    kept: &mut Values,
+    call: PropertyCall,
+    old: &[Slot],
+    given: &[Given],
+    def: &PropDef,
+) -> Result<(), AllocError>
+    ensures { OnOk result (kept.new ≡ kept.old ++ values_kept call (def.now ∷ []) old.now given.now) }
+{
+    if is_apart(&def.id) {
+        return Ok(());
+    }
+    let value = kept_value(alloc, call, old, given, def)?;
+    put(alloc, kept, &def.id, value)
+}
+
+/// The values that are kept, by the order of the definitions: the set ones, but the name and the types, which an object has beside them.
+pub fn values_kept(
     alloc: Global,
     call: PropertyCall,
     defs: &[&PropDef],
     old: &[Slot],
     given: &[Given],
 ) -> Result<Values, AllocError>
-    ensures { IfOk result (λ v. v ≡ kept_values call (map pointee defs.now) old.now given.now) }
+    ensures { IfOk result (λ v. v ≡ values_kept call (map pointee defs.now) old.now given.now) }
 {
     let mut kept = Items::new(alloc);
     for def in defs {
-        let value = kept_value(alloc, call, old, given, def)?;
-        let id = def.id.copied(alloc)?;
-        kept.push(Slot { id, value })?;
+        keep(alloc, &mut kept, call, old, given, def)?;
     }
     Ok(kept)
 }

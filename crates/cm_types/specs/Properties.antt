@@ -1,5 +1,5 @@
 -- What is wrong with a given property, and the values that are kept (CMIS 1.1, sections 2.1.2.1 and 2.1.3.3).
-use Rattle.std.specs.Prelude.{ℕ, ◌==◌, nat_lt, ℤ, pos, negsuc, int_lt, Bool, true, false, ◌&&◌, ◌||◌, not, if◌then◌else◌, List, [], ◌∷◌, length, map, filter_map, find, Option, Some, None, Ok, unwrap_or, option_map, bytes_eq, codes, count_by}
+use Rattle.std.specs.Prelude.{ℕ, ◌==◌, nat_lt, ℤ, pos, negsuc, int_lt, Bool, true, false, ◌&&◌, ◌||◌, not, if◌then◌else◌, List, [], ◌∷◌, length, map, filter_map, find, Option, Some, None, unwrap_or, option_map, bytes_eq, codes, count_by}
 use Rattle.std.specs.List.{list_any, list_all}
 use Rattle.core.specs.Fmt.{is_char_start}
 use Rattle.cm_base.specs.declared.value.Slot.{Slot}
@@ -222,10 +222,6 @@ abbrev pub judge_properties : PropertyCall → List PropDef → List Slot → Li
 judge_properties call defs old given =
     first_cause (given_cause call defs) given
     >> first_cause (missing_cause call old given) defs
-
--- the values that are kept, or the first fault
-abbrev pub judge_values : PropertyCall → List PropDef → List Slot → List Given → Judged (List Slot)
-judge_values call defs old given = judge_properties call defs old given >> Ok (kept_values call defs old given)
 
 -- the texts of a given property
 abbrev pub given_texts : List Given → List ℕ → List (List ℕ)

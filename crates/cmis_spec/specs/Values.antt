@@ -5,7 +5,10 @@ use Rattle.cm_base.specs.declared.value.Value.{Value}
 use Rattle.cm_base.specs.declared.value.Value.TheVariants.{Unset, One, Many}
 use Rattle.cm_base.specs.declared.value.Scalar.TheVariants.{Words}
 use Rattle.cm_base.specs.declared.value.Slot.{Slot}
-use Rattle.cm_types.specs.Properties.{value_in, is_set}
+use Rattle.cm_types.specs.declared.given.Given.{Given}
+use Rattle.cm_types.specs.declared.given.PropertyCall.{PropertyCall}
+use Rattle.cm_types.specs.declared.property.PropDef.{PropDef}
+use Rattle.cm_types.specs.Properties.{value_in, is_set, kept_values}
 use Rattle.cmis_spec.specs.Repository.{Repository, name_of}
 
 abbrev pub words : List ℕ → Value
@@ -23,6 +26,10 @@ is_apart id = bytes_eq id (codes "cmis:name") || bytes_eq id (codes "cmis:object
 -- the values that are kept with an object: the set ones but those three
 abbrev pub kept_beside : List Slot → List Slot
 kept_beside slots = filter (λ s. not (is_apart s.id) && is_set s.value) slots
+
+-- the values that an object keeps after a call that gives these
+abbrev pub values_kept : PropertyCall → List PropDef → List Slot → List Given → List Slot
+values_kept call defs old given = kept_beside (kept_values call defs old given)
 
 -- the value of a property that a form or a default may give
 abbrev pub form_value : Repository → Object → List ℕ → Value

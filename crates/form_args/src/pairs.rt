@@ -1,7 +1,9 @@
-//! Pairs of names and values, with an index by name.
-ghost use Rattle.std.specs.Prelude.{◌≡◌, IfOk, Option, option_map, length, ◌++◌, ◌∷◌, []};
-ghost use Rattle.std.specs.Option.{is_some};
+//! Pairs of names and values, with an index by name where there are many.
+ghost use Rattle.std.specs.Prelude.{◌≡◌, ◌<◌, IfOk, Option, option_map, length, ◌++◌, ◌∷◌, []};
+ghost use Rattle.std.specs.List.{slice_index_or};
+ghost use Rattle.std.specs.Option.{is_some, IfSome};
 ghost use Rattle.form_args.specs.Pairs.{first_of, is_given};
+ghost use Rattle.form_args.specs.declared.pairs.Pair.{Pair};
 ghost use Rattle.form_args.specs.Index.{FindsFirst};
 ghost use Rattle.std.specs.BTreeMap.{get_by_text};
 ghost use Rattle.cm_base.specs.Arguments.{word_of};
@@ -19,12 +21,12 @@ pub struct Pair {
     pub value: Text,
 }
 
-/// Pairs in their order. A name is found without going through all of them.
+/// Pairs in their order. Where there are more than 16, a name is found without going through all of them.
 #[derive(Drop)]
 pub struct Pairs {
     list: Vec<Pair>,
-    // The place of the first pair of each name.
-    places: BTreeMap<String, usize>,
+    // The place of the first pair of each name, where there are many pairs.
+    places: Option<BTreeMap<String, usize>>,
 }
 
 impl Model for Pairs {
@@ -33,12 +35,13 @@ impl Model for Pairs {
 
     ghost Value = { List Pair };
 
+    ghost use Rattle.std.specs.Option.{IfSome};
     ghost use Rattle.std.specs.BTreeMap.{get_by_text};
     ghost use Rattle.form_args.specs.Index.{FindsFirst};
 
     ghost view = { λ p. p.list.items };
 
-    ghost invariant = { λ p. FindsFirst (get_by_text p.places) p.list.items };
+    ghost invariant = { λ p. IfSome p.places (λ m. FindsFirst (get_by_text m) p.list.items) };
 }
 
 // Notes the place of a name that has none yet.
@@ -69,12 +72,61 @@ fn places_of(alloc: Global, list: &[Pair]) -> Result<BTreeMap<String, usize>, Al
     Ok(places)
 }
 
+// So many pairs are searched one after another: an index of them would take longer to make.
+const MOST_SEARCHED: usize = 16;
+
+// The index, where there are many pairs.
+fn index_of(alloc: Global, list: &[Pair]) -> Result<Option<BTreeMap<String, usize>>, AllocError>
+    ensures { IfOk result (λ o. IfSome o (λ m. FindsFirst (get_by_text m) list.now)) }
+{
+    if list.len() <= MOST_SEARCHED {
+        return Ok(None);
+    }
+    let places = places_of(alloc, list)?;
+    Ok(Some(places))
+}
+
+// The value of the pair at a place.
+fn value_at(list: &[Pair], place: usize) -> &Text
+    requires { place < length list.now }
+    ensures { (d : Pair) → result.now ≡ (slice_index_or list.now place d).value }
+{
+    &list[place].value
+}
+
+// The value of the first pair of this name, by the index.
+fn first_by<'a>(places: &BTreeMap<String, usize>, list: &'a [Pair], name: &str) -> Option<&'a Text>
+    requires { FindsFirst (get_by_text places.now) list.now }
+    ensures { option_map (λ t. t.now) result ≡ first_of list.now name.now }
+{
+    match places.get(name) {
+        Some(place) => Some(value_at(list, *place)),
+        None => None,
+    }
+}
+
+// The value of the first pair of this name, one pair after another.
+fn first_in<'a>(list: &'a [Pair], name: &str) -> Option<&'a Text>
+    ensures { option_map (λ t. t.now) result ≡ first_of list.now name.now }
+{
+    match list {
+        [] => None,
+        [pair, rest @ ..] => {
+            if pair.name.as_str() == name {
+                Some(&pair.value)
+            } else {
+                first_in(rest, name)
+            }
+        }
+    }
+}
+
 impl Pairs {
     /// These pairs.
     pub fn from_vec(alloc: Global, list: Vec<Pair>) -> Result<Pairs, AllocError>
         ensures { IfOk result (λ p. p ≡ list.items) }
     {
-        let places = places_of(alloc, &list)?;
+        let places = index_of(alloc, &list)?;
         Ok(Pairs { list, places })
     }
 
@@ -89,9 +141,9 @@ impl Pairs {
     pub fn first(&self, name: &str) -> Option<&Text>
         ensures { option_map (λ t. t.now) result ≡ first_of self.now name.now }
     {
-        match self.places.get(name) {
-            Some(place) => Some(&self.list[*place].value),
-            None => None,
+        match &self.places {
+            Some(places) => first_by(places, &self.list, name),
+            None => first_in(&self.list, name),
         }
     }
 

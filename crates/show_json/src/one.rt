@@ -22,8 +22,9 @@ use cm_state::state::State;
 use json_text::write::Writer;
 use std::alloc::{AllocError, Global};
 
+/// The text of an object as the caller sees it.
 #[tactic(auto, using(crate::specs::ColumnLaws::object_seen))]
-fn text_of(
+pub fn text_of_object(
     alloc: Global,
     state: &State,
     user: &Text,
@@ -56,7 +57,7 @@ pub fn object_text(
 {
     match addressed(state, user, place) {
         Some(x) => {
-            let text = text_of(alloc, state, user, filter, succinct, x)?;
+            let text = text_of_object(alloc, state, user, filter, succinct, x)?;
             Ok(text)
         }
         None => Err(Fail::Refused(Cause::NotFound)),

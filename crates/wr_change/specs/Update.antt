@@ -14,7 +14,7 @@ use Rattle.cm_base.specs.Names.{is_name}
 use Rattle.cm_types.specs.declared.property.PropDef.{PropDef}
 use Rattle.cm_types.specs.declared.given.PropertyCall.TheVariants as calls
 use Rattle.cm_types.specs.Types.{props_of}
-use Rattle.cm_types.specs.Properties.{given_of, judge_properties, kept_values}
+use Rattle.cm_types.specs.Properties.{given_of, judge_properties}
 use Rattle.call_parts.specs.declared.readings.PropertyFilter.TheVariants as filters
 use Rattle.call_parts.specs.declared.changes.UpdateProperties.{UpdateProperties}
 use Rattle.call_parts.specs.declared.replies.ObjectReply.{ObjectReply}
@@ -23,7 +23,7 @@ use Rattle.cm_see.specs.Addressed.{addressed}
 use Rattle.cm_see.specs.Shown.{shown_object}
 use Rattle.cmis_spec.specs.Repository.{Repository, same, root, root_folder, entry_of}
 use Rattle.cmis_spec.specs.Access.{lacks}
-use Rattle.cmis_spec.specs.Values.{kept_beside}
+use Rattle.cmis_spec.specs.Values.{values_kept}
 use Rattle.cmis_spec.specs.Changes.{stepped, noted, edited, series_edited}
 use Rattle.cmis_spec.specs.Documents.{is_working_copy, judge_changeable}
 use Rattle.cmis_spec.specs.Retention.{judge_retention}
@@ -49,7 +49,7 @@ props_updated r call x = props_of r.types x.kind (secondary_updated call x)
 
 -- the values of these properties after it
 abbrev pub values_updated : Repository → UpdateProperties → Object → List Slot
-values_updated r call x = kept_beside (kept_values (calls.Update (is_working_copy r x)) (props_updated r call x) (form_slots r x) call.properties)
+values_updated r call x = values_kept (calls.Update (is_working_copy r x)) (props_updated r call x) (form_slots r x) call.properties
 
 abbrev pub gives_name : UpdateProperties → Bool
 gives_name call = is_some (given_of call.properties (codes "cmis:name"))

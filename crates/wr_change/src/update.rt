@@ -3,8 +3,8 @@ ghost use Rattle.std.specs.Prelude.{◌≡◌, ◌&&◌, not, Ok, IfOk, map};
 ghost use Rattle.cm_map.specs.Parts.{pointee};
 ghost use Rattle.cm_base.specs.Judged.{Meets, Leaves, Writes, first_cause};
 ghost use Rattle.cm_types.specs.declared.given.PropertyCall.TheVariants as calls;
-ghost use Rattle.cm_types.specs.Properties.{judge_properties, kept_values};
-ghost use Rattle.cmis_spec.specs.Values.{kept_beside};
+ghost use Rattle.cm_types.specs.Properties.{judge_properties};
+ghost use Rattle.cmis_spec.specs.Values.{values_kept};
 ghost use Rattle.cmis_spec.specs.Repository.{same, root};
 ghost use Rattle.cmis_spec.specs.Changes.{stepped};
 ghost use Rattle.cmis_spec.specs.Documents.{is_working_copy};
@@ -39,7 +39,6 @@ use cm_state::state::State;
 use cm_types::given::Givens;
 use cm_types::property::PropDef;
 use std::alloc::{AllocError, Global};
-use wr_rules::beside::kept_beside;
 use wr_rules::kinds::{has_other_secondary, judge_types};
 use wr_rules::made::with_changed;
 use wr_rules::properties::is_given;
@@ -118,7 +117,7 @@ fn props_updated<'a>(
     Ok(defs)
 }
 
-// The values that are kept by these definitions, without those beside them, or the first fault of the given properties.
+// The values that are kept by these definitions, or the first fault of the given properties.
 fn judge_by(
     alloc: Global,
     defs: &[&PropDef],
@@ -128,10 +127,9 @@ fn judge_by(
 ) -> Result<Values, Fail>
     ensures { Leaves result
         (judge_properties (calls.Update working) (map pointee defs.now) old.now given.now)
-        (kept_beside (kept_values (calls.Update working) (map pointee defs.now) old.now given.now)) }
+        (values_kept (calls.Update working) (map pointee defs.now) old.now given.now) }
 {
-    let values = check_update(alloc, defs, old, given, working)?;
-    Ok(kept_beside(values))
+    check_update(alloc, defs, old, given, working)
 }
 
 // The values that the object has after the call, or the first fault of the given properties.

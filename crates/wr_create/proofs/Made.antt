@@ -12,8 +12,9 @@ use Rattle.cm_types.specs.declared.definition.BaseType.TheVariants as bases
 use Rattle.cm_types.specs.declared.given.Given.{Given}
 use Rattle.cm_types.specs.declared.given.PropertyCall.TheVariants as calls
 use Rattle.cm_types.specs.Types.{type_in, same_base}
-use Rattle.cm_types.specs.Properties.{judge_properties, kept_values}
+use Rattle.cm_types.specs.Properties.{judge_properties}
 use Rattle.create_parts.specs.declared.writes.ObjectRequest.{ObjectRequest}
+use Rattle.cmis_spec.specs.Values.{values_kept}
 use Rattle.cmis_spec.specs.Repository.{Repository, same, most_steps, most_cost, object_at, is_a, new_number}
 use Rattle.cmis_spec.specs.Changes.{stepped, with_object}
 use Rattle.cmis_spec.specs.Well.{Apart, ComesBefore, HasNumbers, HasEnds, IsTyped, IsWellFormed}
@@ -61,10 +62,10 @@ new_is_there r cost new w e =
 
 -- ---- what is found makes what the call says
 
-pub object_is : (r : Repository) (u : List ℕ) (m : Moment) (given : List Given) (wanted : Wanted) (values : List Slot) → wanted ≡ wanted_in r.types given → values ≡ kept_values calls.Create wanted.defs [] given
+pub object_is : (r : Repository) (u : List ℕ) (m : Moment) (given : List Given) (wanted : Wanted) (values : List Slot) → wanted ≡ wanted_in r.types given → values ≡ values_kept calls.Create wanted.defs [] given
     → object_of r u m wanted values ≡ new_object r u m given
 object_is r u m given wanted values e f =
-    let kept = f ∙ ap (λ w. kept_values calls.Create w.defs [] given) e in
+    let kept = f ∙ ap (λ w. values_kept calls.Create w.defs [] given) e in
     λ i. object_of r u m (e i) (kept i)
 
 pub made_is : (r : Repository) (u : List ℕ) (m : Moment) (request : ObjectRequest) (given : List Given) (new : NewObject) (x : Object) (found folder : Option Oid)

@@ -12,7 +12,7 @@ use Rattle.cm_types.specs.declared.definition.BaseType.{BaseType}
 use Rattle.cm_types.specs.declared.given.Given.{Given}
 use Rattle.cm_types.specs.declared.given.PropertyCall.TheVariants as calls
 use Rattle.cm_types.specs.Types.{type_in, same_base}
-use Rattle.cm_types.specs.Properties.{judge_properties, kept_values}
+use Rattle.cm_types.specs.Properties.{judge_properties}
 use Rattle.call_parts.specs.declared.place.Place.{Place}
 use Rattle.call_parts.specs.declared.readings.PropertyFilter.TheVariants as filters
 use Rattle.call_parts.specs.declared.replies.ObjectReply.{ObjectReply}
@@ -20,6 +20,7 @@ use Rattle.call_parts.specs.Weight.{bounded}
 use Rattle.create_parts.specs.declared.writes.ObjectRequest.{ObjectRequest}
 use Rattle.cm_see.specs.Addressed.{addressed}
 use Rattle.cm_see.specs.Shown.{shown_object}
+use Rattle.cmis_spec.specs.Values.{values_kept}
 use Rattle.cmis_spec.specs.Repository.{Repository}
 use Rattle.cmis_spec.specs.Changes.{stepped, noted, with_object}
 use Rattle.wr_rules.specs.Rules.{has_other_secondary, policies_in, has_unknown_permission, has_entries, new_aces, defaults_cost}
@@ -65,7 +66,7 @@ cost_of_making r weight given =
 
 -- the object that the given properties say, by this caller at this moment
 abbrev pub new_object : Repository → List ℕ → Moment → List Given → Object
-new_object r u m given = object_of r u m (wanted_in r.types given) (kept_values calls.Create (wanted_in r.types given).defs [] given)
+new_object r u m given = object_of r u m (wanted_in r.types given) (values_kept calls.Create (wanted_in r.types given).defs [] given)
 
 -- with the access list and the policies that are asked for, and the folder in which it is to stand
 abbrev pub new_of : Repository → List ℕ → ObjectRequest → Object → Option Oid → NewObject

@@ -3,7 +3,7 @@ ghost use Rattle.std.specs.Prelude.{◌≡◌, [], Ok, IfOk, option_and_then};
 ghost use Rattle.std.specs.Option.{option_copied};
 ghost use Rattle.cm_base.specs.Judged.{Leaves, Writes};
 ghost use Rattle.cm_types.specs.declared.given.PropertyCall.TheVariants as calls;
-ghost use Rattle.cm_types.specs.Properties.{kept_values};
+ghost use Rattle.cmis_spec.specs.Values.{values_kept};
 ghost use Rattle.cm_see.specs.Addressed.{addressed};
 ghost use Rattle.cmis_spec.specs.Well.{IsWellFormed};
 ghost use Rattle.wr_object.specs.CreateDocument.{number_of};
@@ -68,7 +68,7 @@ fn judge_item(
 ) -> Result<Values, Fail>
     ensures { Leaves result
         (judge_item state.now user.now call.now wanted.now (option_copied folder.entry) kind.now)
-        (kept_values calls.Create wanted.now.defs [] call.now.object.properties) }
+        (values_kept calls.Create wanted.now.defs [] call.now.object.properties) }
 {
     if may_not_make(state, user, folder) {
         return Err(Fail::Refused(Cause::Denied));
@@ -98,7 +98,7 @@ fn judge_wanted(
     ensures { Writes result
         (refusal_of_item state.now user.now cost call.now wanted.now)
         (number_of (option_and_then (addressed state.now user.now) call.now.place))
-        (kept_values calls.Create wanted.now.defs [] call.now.object.properties) }
+        (values_kept calls.Create wanted.now.defs [] call.now.object.properties) }
 {
     judge_storage(state, cost)?;
     let folder = folder_of(state, user, &call.place)?;

@@ -2,7 +2,7 @@
 ghost use Rattle.std.specs.Prelude.{◌≡◌, [], None, IfOk};
 ghost use Rattle.cm_base.specs.Judged.{Leaves, Writes};
 ghost use Rattle.cm_types.specs.declared.given.PropertyCall.TheVariants as calls;
-ghost use Rattle.cm_types.specs.Properties.{kept_values};
+ghost use Rattle.cmis_spec.specs.Values.{values_kept};
 ghost use Rattle.cmis_spec.specs.Well.{IsWellFormed};
 ghost use Rattle.wr_rules.specs.Wanted.{wanted_in};
 ghost use Rattle.wr_create.specs.CreatePolicy.{cost_create_policy, judge_policy, refusal_of_policy, refusal_create_policy, after_create_policy, acknowledgement_create_policy};
@@ -41,7 +41,7 @@ fn judge_policy(
 ) -> Result<Values, Fail>
     ensures { Leaves result
         (judge_policy state.now user.now call.now wanted.now kind.now)
-        (kept_values calls.Create wanted.now.defs [] call.now.object.properties) }
+        (values_kept calls.Create wanted.now.defs [] call.now.object.properties) }
 {
     if is_anonymous(user) {
         return Err(Fail::Refused(Cause::Denied));
@@ -72,7 +72,7 @@ fn judge_wanted(
 ) -> Result<Values, Fail>
     ensures { Leaves result
         (refusal_of_policy state.now user.now cost call.now wanted.now)
-        (kept_values calls.Create wanted.now.defs [] call.now.object.properties) }
+        (values_kept calls.Create wanted.now.defs [] call.now.object.properties) }
 {
     judge_storage(state, cost)?;
     judge_addressed(state, user, &call.place)?;

@@ -3,7 +3,7 @@ ghost use Rattle.std.specs.Prelude.{◌≡◌, ◌||◌, not, [], bytes_eq, code
 ghost use Rattle.cm_base.specs.Judged.{Leaves, Meets};
 ghost use Rattle.cm_types.specs.declared.given.PropertyCall.TheVariants as calls;
 ghost use Rattle.cm_types.specs.Types.{same_base};
-ghost use Rattle.cm_types.specs.Properties.{kept_values};
+ghost use Rattle.cmis_spec.specs.Values.{values_kept};
 ghost use Rattle.wr_rules.specs.Rules.{has_other_secondary};
 ghost use Rattle.wr_rules.specs.Wanted.{wanted_in};
 ghost use Rattle.wr_create.specs.Making.{judge_addressed, judge_type, is_uncontrollable, judge_request, cost_of_making};
@@ -118,7 +118,7 @@ pub fn judge_request(
 ) -> Result<Values, Fail>
     ensures { Leaves result
         (judge_request wanted.now object.now given.now)
-        (kept_values calls.Create wanted.now.defs [] given.now) }
+        (values_kept calls.Create wanted.now.defs [] given.now) }
 {
     let values = judge_values(alloc, &wanted.defs, given)?;
     if has_unknown(object.remove.as_slice(), object.add.as_slice()) {

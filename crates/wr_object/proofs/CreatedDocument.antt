@@ -19,11 +19,12 @@ use Rattle.cm_types.specs.declared.definition.TypeDef.{TypeDef}
 use Rattle.cm_types.specs.declared.definition.BaseType.TheVariants as bases
 use Rattle.cm_types.specs.declared.given.PropertyCall.TheVariants as calls
 use Rattle.cm_types.specs.Types.{type_in, same_base}
-use Rattle.cm_types.specs.Properties.{judge_properties, kept_values}
+use Rattle.cm_types.specs.Properties.{judge_properties}
 use Rattle.call_parts.specs.declared.place.Place.{Place}
 use Rattle.call_parts.specs.declared.versions.CreateDocument.{CreateDocument}
 use Rattle.call_parts.specs.declared.stream.GivenStream.{GivenStream}
 use Rattle.cm_see.specs.Addressed.{addressed}
+use Rattle.cmis_spec.specs.Values.{values_kept}
 use Rattle.cmis_spec.specs.Repository.{Repository, same, longest_stream, is_a, is_taken, new_number}
 use Rattle.cmis_spec.specs.Changes.{stepped, noted}
 use Rattle.cmis_spec.specs.Documents.{with_document, with_policies, with_contents}
@@ -193,7 +194,7 @@ module _ (r : Repository) (u : List ℕ) (m : Moment) (cost : ℕ) (call : Creat
 
   -- what is allowed, by the folder and the type that are found
   abbrev allowed : Allowed
-  allowed = record { folder = number_of p.folder; state = state; values = kept_values calls.Create wanted.defs [] call.properties }
+  allowed = record { folder = number_of p.folder; state = state; values = values_kept calls.Create wanted.defs [] call.properties }
 
   abbrev x : Object
   x = new_document r u m wanted allowed
@@ -247,7 +248,7 @@ module _ (r : Repository) (u : List ℕ) (m : Moment) (cost : ℕ) (call : Creat
   allowed_is = λ i. record {
     folder = number_of (p.at i);
     state = unwrap_or (option_map (λ kind. state_of kind call) (sym p.def i)) states.None;
-    values = kept_values calls.Create wanted.defs [] call.properties;
+    values = values_kept calls.Create wanted.defs [] call.properties;
   }
 
   pub document_made : IsWellFormed (after_create_document r u m cost call)

@@ -43,7 +43,3 @@ new_is_there r u m cost call w =
     find_last (λ x. same x.id (new_number r)) r.objects (folder_made r u m call)
     (All-weaker (λ x. x.id.0 < r.next) (λ x. same x.id (new_number r) ≡ false) (λ x lt. is_other x.id (new_number r) lt) r.objects w.1)
     (same_refl (new_number r))
-
-pub made_is_found : (r : Repository) (u : List ℕ) (m : Moment) (cost : ℕ) (call : CreateFolder) (made : Repository) (n : ℕ) → HasNumbers r → made ≡ after_create_folder r u m cost call → n ≡ r.next
-    → object_at made (record { 0 = n }) ≡ Some (folder_made r u m call)
-made_is_found r u m cost call made n w e f = (λ i. object_at (e i) (record { 0 = f i })) ∙ new_is_there r u m cost call w

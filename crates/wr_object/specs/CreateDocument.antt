@@ -18,7 +18,7 @@ use Rattle.cm_types.specs.declared.definition.BaseType.TheVariants as bases
 use Rattle.cm_types.specs.declared.property.PropDef.{PropDef}
 use Rattle.cm_types.specs.declared.given.PropertyCall.TheVariants as calls
 use Rattle.cm_types.specs.Types.{type_in, same_base, props_of}
-use Rattle.cm_types.specs.Properties.{judge_properties, kept_values}
+use Rattle.cm_types.specs.Properties.{judge_properties}
 use Rattle.call_parts.specs.declared.place.Place.{Place}
 use Rattle.call_parts.specs.declared.readings.PropertyFilter.TheVariants as filters
 use Rattle.call_parts.specs.declared.versions.CreateDocument.{CreateDocument}
@@ -29,7 +29,7 @@ use Rattle.cm_see.specs.Addressed.{addressed}
 use Rattle.cm_see.specs.Shown.{shown_object}
 use Rattle.cmis_spec.specs.Repository.{Repository, new_number, is_a, is_taken}
 use Rattle.cmis_spec.specs.Access.{lacks}
-use Rattle.cmis_spec.specs.Values.{kept_beside}
+use Rattle.cmis_spec.specs.Values.{values_kept}
 use Rattle.cmis_spec.specs.Changes.{stepped, noted, with_pair}
 use Rattle.cmis_spec.specs.Documents.{with_document, with_policies, with_contents}
 use Rattle.wr_rules.specs.Rules.{judge_storage, type_id_in, secondary_in, unknown_type, has_other_secondary, bars_child, unread_cause, has_other_policy, policies_in, has_unknown_permission, has_entries, new_aces, defaults_cost}
@@ -141,7 +141,7 @@ abbrev pub allowed_in : Repository → List ℕ → CreateDocument → Wanted �
 allowed_in r u call wanted = record {
   folder = number_of (option_and_then (addressed r u) call.place);
   state = unwrap_or (option_map (λ kind. state_of kind call) (type_in r.types wanted.kind)) states.None;
-  values = kept_values calls.Create wanted.defs [] call.properties;
+  values = values_kept calls.Create wanted.defs [] call.properties;
 }
 
 -- ---- the repository after it
@@ -157,7 +157,7 @@ new_document r u m wanted allowed = record {
   kind = wanted.kind;
   name = own_name allowed.state wanted.name;
   secondary = wanted.secondary;
-  values = kept_beside allowed.values;
+  values = allowed.values;
   created_by = u;
   created_at = m;
   modified_by = u;

@@ -14,7 +14,7 @@ use Rattle.cm_types.specs.declared.definition.BaseType.TheVariants as bases
 use Rattle.cm_types.specs.declared.property.PropDef.{PropDef}
 use Rattle.cm_types.specs.declared.given.PropertyCall.TheVariants as calls
 use Rattle.cm_types.specs.Types.{type_in, same_base, props_of}
-use Rattle.cm_types.specs.Properties.{judge_properties, kept_values}
+use Rattle.cm_types.specs.Properties.{judge_properties}
 use Rattle.call_parts.specs.declared.readings.PropertyFilter.TheVariants as filters
 use Rattle.call_parts.specs.declared.writes.CreateFolder.{CreateFolder}
 use Rattle.call_parts.specs.declared.replies.ObjectReply.{ObjectReply}
@@ -23,7 +23,7 @@ use Rattle.cm_see.specs.Addressed.{addressed}
 use Rattle.cm_see.specs.Shown.{shown_object}
 use Rattle.cmis_spec.specs.Repository.{Repository, root, most_levels, new_number, is_a, depth_of, is_taken}
 use Rattle.cmis_spec.specs.Access.{lacks}
-use Rattle.cmis_spec.specs.Values.{kept_beside}
+use Rattle.cmis_spec.specs.Values.{values_kept}
 use Rattle.cmis_spec.specs.Changes.{stepped, noted, with_object, with_pair}
 use Rattle.wr_rules.specs.Rules.{judge_storage, type_id_in, secondary_in, unknown_type, has_other_secondary, bars_child, unread_cause, has_other_policy, policies_in, has_unknown_permission, has_entries, new_aces, defaults_cost}
 use Rattle.wr_rules.specs.Wanted.{Wanted, wanted_in}
@@ -100,7 +100,7 @@ object_of r u m wanted values = record {
   kind = wanted.kind;
   name = Some wanted.name;
   secondary = wanted.secondary;
-  values = kept_beside values;
+  values = values;
   created_by = u;
   created_at = m;
   modified_by = u;
@@ -112,7 +112,7 @@ object_of r u m wanted values = record {
 abbrev pub folder_made : Repository → List ℕ → Moment → CreateFolder → Object
 folder_made r u m call =
     let wanted = wanted_in r.types call.properties in
-    object_of r u m wanted (kept_values calls.Create wanted.defs [] call.properties)
+    object_of r u m wanted (values_kept calls.Create wanted.defs [] call.properties)
 
 -- the folder in its parent, one step further, with its event
 abbrev pub after_create_folder_in : Repository → List ℕ → Moment → ℕ → CreateFolder → Oid → Repository

@@ -3,7 +3,8 @@ ghost use Rattle.std.specs.Prelude.{◌≡◌, ◌<◌, ◌&&◌, ◌||◌, not,
 ghost use Rattle.cm_map.specs.Parts.{pointee};
 ghost use Rattle.cm_base.specs.Judged.{Leaves};
 ghost use Rattle.cm_types.specs.declared.given.PropertyCall.TheVariants as calls;
-ghost use Rattle.cm_types.specs.Properties.{judge_properties, kept_values};
+ghost use Rattle.cm_types.specs.Properties.{judge_properties};
+ghost use Rattle.cmis_spec.specs.Values.{values_kept};
 ghost use Rattle.wr_rules.specs.Rules.{has_unknown_permission, has_entries};
 ghost use Rattle.wr_rules.specs.Wanted.{wanted_in};
 
@@ -36,7 +37,7 @@ pub fn wanted_of<'a>(
 pub fn judge_values(alloc: Global, defs: &[&PropDef], given: &Givens) -> Result<Values, Fail>
     ensures { Leaves result
         (judge_properties calls.Create (map pointee defs.now) [] given.now)
-        (kept_values calls.Create (map pointee defs.now) [] given.now) }
+        (values_kept calls.Create (map pointee defs.now) [] given.now) }
 {
     check_new(alloc, defs, &Items::new(alloc), given)
 }

@@ -1,9 +1,10 @@
 //! createDocument (CMIS 1.1, section 2.2.4.1).
-ghost use Rattle.std.specs.Prelude.{◌≡◌, ◌+◌, ◌<◌, ◌^◌, [], Ok, IfOk};
+ghost use Rattle.std.specs.Prelude.{◌≡◌, ◌+◌, ◌<◌, ◌^◌, [], Ok, Some, IfOk};
 ghost use Rattle.std.specs.Option.{option_copied};
 ghost use Rattle.cm_base.specs.Judged.{Leaves, Writes};
 ghost use Rattle.cm_types.specs.declared.given.PropertyCall.TheVariants as calls;
-ghost use Rattle.cm_types.specs.Properties.{kept_values};
+ghost use Rattle.cmis_spec.specs.Repository.{object_at, new_number};
+ghost use Rattle.cmis_spec.specs.Values.{values_kept};
 ghost use Rattle.cmis_spec.specs.Well.{IsWellFormed};
 ghost use Rattle.wr_object.specs.CreateDocument.{cost_create_document, judge_found, refusal_of_document, refusal_create_document, number_of, allowed_in, new_document, new_parts, parts_made, after_create_document, acknowledgement_create_document};
 ghost use Rattle.wr_rules.specs.Wanted.{wanted_in};
@@ -25,7 +26,6 @@ use cm_base::value::Values;
 use cm_state::state::State;
 use cm_types::definition::TypeDef;
 use std::alloc::{AllocError, Global};
-use wr_rules::beside::kept_beside;
 use wr_rules::costs::with_defaults;
 use wr_rules::entries::new_aces;
 use wr_rules::kinds::judge_types;
@@ -58,7 +58,7 @@ fn judge_found(
 ) -> Result<Values, Fail>
     ensures { Leaves result
         (judge_found state.now user.now call.now wanted.now (option_copied folder.entry) kind.now)
-        (kept_values calls.Create wanted.now.defs [] call.now.properties) }
+        (values_kept calls.Create wanted.now.defs [] call.now.properties) }
 {
     judge_kinds(
         alloc,
@@ -119,7 +119,7 @@ fn new_document(
         kind: wanted.kind,
         name: own_name(allowed.state, wanted.name),
         secondary: wanted.secondary,
-        values: kept_beside(allowed.values),
+        values: allowed.values,
         created_by: user.copied(alloc)?,
         created_at: moment,
         modified_by: user.copied(alloc)?,
@@ -176,9 +176,34 @@ fn with_new(
     Ok(draft.seal())
 }
 
-/// Makes a document. The cost is the weight of the call and the default values that the document takes.
+/// Makes a document, which has the next number. The cost is the weight of the call and the default values that the document takes.
 ///
-/// The answer is the first cause that refuses the call, or the repository after it and the new document as the caller sees it there.
+/// The answer is the first cause that refuses the call, or the repository after it.
+pub fn document_created(
+    alloc: Global,
+    state: &State,
+    user: &Text,
+    moment: Moment,
+    call: &CreateDocument,
+) -> Result<State, Fail>
+    ensures created { Leaves result
+        (refusal_create_document state.now user.now (cost_create_document state.now call.now) call.now)
+        (after_create_document state.now user.now moment (cost_create_document state.now call.now) call.now) }
+    ensures there { IfOk result (λ s. object_at s (new_number state.now)
+        ≡ Some (parts_made state.now user.now moment call.now).object) }
+    ensures well { IfOk result (λ s. IsWellFormed s) }
+{
+    let _step = state.step();
+    let wanted = wanted_of(alloc, state, &call.properties)?;
+    let cost = cost_of(state, call, &wanted);
+    let allowed = judge(alloc, state, user, cost, call, &wanted)?;
+    let new = new_parts(alloc, state, user, moment, call, wanted, allowed)?;
+    let made = with_new(alloc, state, user, moment, cost, call, new)?;
+    let _made_step = made.step();
+    Ok(made)
+}
+
+/// Makes a document, as `document_created` does, and shows it as the caller sees it after the step.
 pub fn create_document(
     alloc: Global,
     state: &State,
@@ -192,13 +217,8 @@ pub fn create_document(
         (acknowledgement_create_document state.now user.now moment (cost_create_document state.now call.now) call.now) }
     ensures well { IfOk result (λ x. IsWellFormed x.0) }
 {
-    let _step = state.step();
-    let wanted = wanted_of(alloc, state, &call.properties)?;
-    let cost = cost_of(state, call, &wanted);
-    let allowed = judge(alloc, state, user, cost, call, &wanted)?;
-    let new = new_parts(alloc, state, user, moment, call, wanted, allowed)?;
-    let made = with_new(alloc, state, user, moment, cost, call, new)?;
     let number = Oid(state.next_number());
+    let made = document_created(alloc, state, user, moment, call)?;
     let (next, reply) = with_reply(alloc, made, user, call.succinct, number)?;
     let _next_step = next.step();
     Ok((next, reply))

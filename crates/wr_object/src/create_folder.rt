@@ -1,9 +1,10 @@
 //! createFolder (CMIS 1.1, section 2.2.4.3).
-ghost use Rattle.std.specs.Prelude.{◌≡◌, [], Ok, IfOk};
+ghost use Rattle.std.specs.Prelude.{◌≡◌, [], Ok, Some, IfOk};
 ghost use Rattle.cm_base.specs.Judged.{Leaves, Writes};
 ghost use Rattle.cm_types.specs.declared.given.PropertyCall.TheVariants as calls;
-ghost use Rattle.cm_types.specs.Properties.{kept_values};
 ghost use Rattle.cm_see.specs.Addressed.{addressed};
+ghost use Rattle.cmis_spec.specs.Repository.{object_at, new_number};
+ghost use Rattle.cmis_spec.specs.Values.{values_kept};
 ghost use Rattle.cmis_spec.specs.Well.{IsWellFormed};
 ghost use Rattle.wr_object.specs.CreateFolder.{cost_create_folder, judge_found, refusal_of_folder, refusal_create_folder, folder_made, parent_of, after_create_folder, acknowledgement_create_folder};
 ghost use Rattle.wr_rules.specs.Wanted.{wanted_in};
@@ -56,7 +57,7 @@ fn judge_found(
 ) -> Result<Values, Fail>
     ensures { Leaves result
         (judge_found state.now user.now call.now wanted.now parent.now kind.now)
-        (kept_values calls.Create wanted.now.defs [] call.now.properties) }
+        (values_kept calls.Create wanted.now.defs [] call.now.properties) }
 {
     judge_kinds(
         alloc,
@@ -86,7 +87,7 @@ fn judge(
     ensures { Writes result
         (refusal_of_folder state.now user.now cost call.now wanted.now)
         (parent_of state.now user.now call.now)
-        (kept_values calls.Create wanted.now.defs [] call.now.properties) }
+        (values_kept calls.Create wanted.now.defs [] call.now.properties) }
 {
     judge_storage(state, cost)?;
     let parent = addressed(state, user, &call.place).ok_or(Cause::NotFound)?;
@@ -120,9 +121,34 @@ fn with_folder(
     Ok(draft.seal())
 }
 
-/// Makes a folder. The cost is the weight of the call and the default values that the folder takes.
+/// Makes a folder, which has the next number. The cost is the weight of the call and the default values that the folder takes.
 ///
-/// The answer is the first cause that refuses the call, or the repository after it and the new folder as the caller sees it there.
+/// The answer is the first cause that refuses the call, or the repository after it.
+pub fn folder_created(
+    alloc: Global,
+    state: &State,
+    user: &Text,
+    moment: Moment,
+    call: &CreateFolder,
+) -> Result<State, Fail>
+    ensures created { Leaves result
+        (refusal_create_folder state.now user.now moment (cost_create_folder state.now call.now) call.now)
+        (after_create_folder state.now user.now moment (cost_create_folder state.now call.now) call.now) }
+    ensures there { IfOk result (λ s. object_at s (new_number state.now)
+        ≡ Some (folder_made state.now user.now moment call.now)) }
+    ensures well { IfOk result (λ s. IsWellFormed s) }
+{
+    let _step = state.step();
+    let wanted = wanted_of(alloc, state, &call.properties)?;
+    let cost = cost_of(state, call, &wanted);
+    let (parent, values) = judge(alloc, state, user, cost, call, &wanted)?;
+    let object = new_object(alloc, state, user, moment, wanted, values)?;
+    let made = with_folder(alloc, state, user, moment, cost, call, object, parent)?;
+    let _made_step = made.step();
+    Ok(made)
+}
+
+/// Makes a folder, as `folder_created` does, and shows it as the caller sees it after the step.
 pub fn create_folder(
     alloc: Global,
     state: &State,
@@ -136,13 +162,8 @@ pub fn create_folder(
         (acknowledgement_create_folder state.now user.now moment (cost_create_folder state.now call.now) call.now) }
     ensures well { IfOk result (λ x. IsWellFormed x.0) }
 {
-    let _step = state.step();
-    let wanted = wanted_of(alloc, state, &call.properties)?;
-    let cost = cost_of(state, call, &wanted);
-    let (parent, values) = judge(alloc, state, user, cost, call, &wanted)?;
-    let object = new_object(alloc, state, user, moment, wanted, values)?;
-    let made = with_folder(alloc, state, user, moment, cost, call, object, parent)?;
     let number = Oid(state.next_number());
+    let made = folder_created(alloc, state, user, moment, call)?;
     let (next, reply) = with_reply(alloc, made, user, call.succinct, number)?;
     let _next_step = next.step();
     Ok((next, reply))

@@ -16,7 +16,6 @@ use cm_base::value::Values;
 use cm_draft::draft::Draft;
 use cm_state::state::State;
 use std::alloc::{AllocError, Global};
-use wr_rules::beside::kept_beside;
 use wr_rules::wanted::Wanted;
 
 /// The object in no series that is made of what is wanted, with these values.
@@ -36,7 +35,7 @@ pub fn new_object(
         kind: wanted.kind,
         name: Some(wanted.name),
         secondary: wanted.secondary,
-        values: kept_beside(values),
+        values,
         created_by: user.copied(alloc)?,
         created_at: moment,
         modified_by: user.copied(alloc)?,

@@ -3,7 +3,7 @@ ghost use Rattle.std.specs.Prelude.{◌≡◌, [], IfOk};
 ghost use Rattle.std.specs.Option.{option_copied};
 ghost use Rattle.cm_base.specs.Judged.{Leaves, Writes};
 ghost use Rattle.cm_types.specs.declared.given.PropertyCall.TheVariants as calls;
-ghost use Rattle.cm_types.specs.Properties.{kept_values};
+ghost use Rattle.cmis_spec.specs.Values.{values_kept};
 ghost use Rattle.cmis_spec.specs.Well.{IsWellFormed};
 ghost use Rattle.wr_rules.specs.Wanted.{wanted_in};
 ghost use Rattle.wr_relationship.specs.CreateRelationship.{with_name, cost_create_relationship, judge_relationship, refusal_of_relationship, refusal_create_relationship, after_create_relationship, acknowledgement_create_relationship};
@@ -45,7 +45,7 @@ fn judge_relationship(
     ensures { Leaves result
         (judge_relationship state.now call.now wanted.now
         (option_copied source.entry) (option_copied target.entry) kind.now)
-        (kept_values calls.Create wanted.now.defs [] call.now.object.properties) }
+        (values_kept calls.Create wanted.now.defs [] call.now.object.properties) }
 {
     judge_type(alloc, state.types(), BaseType::Relationship, wanted, kind)?;
     judge_link(state.types(), call, kind, source, target)?;
@@ -65,7 +65,7 @@ fn judge_wanted(
 ) -> Result<Values, Fail>
     ensures { Leaves result
         (refusal_of_relationship state.now user.now cost call.now wanted.now)
-        (kept_values calls.Create wanted.now.defs [] call.now.object.properties) }
+        (values_kept calls.Create wanted.now.defs [] call.now.object.properties) }
 {
     let given = call.object.properties.as_slice();
     judge_storage(state, cost)?;

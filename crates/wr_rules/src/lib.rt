@@ -3,7 +3,6 @@
 
 ghost use Rattle.std.specs.Prelude.{◌≡◌};
 
-pub mod beside;
 pub mod content;
 pub mod copied;
 pub mod costs;

@@ -11,7 +11,7 @@ use Rattle.cm_types.specs.declared.definition.BaseType.TheVariants as bases
 use Rattle.cm_types.specs.declared.given.Given.{Given}
 use Rattle.cm_types.specs.declared.given.PropertyCall.TheVariants as calls
 use Rattle.cm_types.specs.Types.{type_in, same_base}
-use Rattle.cm_types.specs.Properties.{judge_properties, kept_values}
+use Rattle.cm_types.specs.Properties.{judge_properties}
 use Rattle.call_parts.specs.declared.readings.PropertyFilter.TheVariants as filters
 use Rattle.call_parts.specs.declared.versions.CreateDocument.{CreateDocument}
 use Rattle.call_parts.specs.declared.replies.ObjectReply.{ObjectReply}
@@ -22,7 +22,7 @@ use Rattle.cm_see.specs.Addressed.{addressed}
 use Rattle.cm_see.specs.Shown.{shown_object}
 use Rattle.cmis_spec.specs.Repository.{Repository, root_folder, new_number, is_a}
 use Rattle.cmis_spec.specs.Access.{read_named}
-use Rattle.cmis_spec.specs.Values.{kept_beside}
+use Rattle.cmis_spec.specs.Values.{values_kept}
 use Rattle.wr_rules.specs.Rules.{judge_storage, unknown_type, has_other_secondary, unread_cause, has_other_policy, policies_in, has_unknown_permission, new_aces}
 use Rattle.wr_rules.specs.Documents.{judge_content, content_of_stream}
 use Rattle.wr_object.specs.CreateDocument.{folder_of, state_of, may_not_make, is_no_folder, is_name_taken, judge_place, own_name, new_series, number_of, made_of_parts}
@@ -102,7 +102,7 @@ abbrev pub allowed_in : Repository → CreateDocument → Template → Option Ob
 allowed_in r call t folder = record {
   folder = number_of folder;
   state = unwrap_or (option_map (λ kind. state_of kind call) (type_in r.types t.kind)) states.None;
-  values = kept_values calls.Create t.defs t.copied call.properties;
+  values = values_kept calls.Create t.defs t.copied call.properties;
 }
 
 abbrev pub new_document : Repository → List ℕ → Moment → Template → Allowed → Object
@@ -111,7 +111,7 @@ new_document r u m t allowed = record {
   kind = t.kind;
   name = own_name allowed.state t.name;
   secondary = t.secondary;
-  values = kept_beside allowed.values;
+  values = allowed.values;
   created_by = u;
   created_at = m;
   modified_by = u;

@@ -4,7 +4,8 @@ ghost use Rattle.cm_map.specs.Parts.{pointee};
 ghost use Rattle.std.specs.Option.{option_copied};
 ghost use Rattle.cm_base.specs.Judged.{Fails, Leaves, Writes};
 ghost use Rattle.cm_types.specs.declared.given.PropertyCall.TheVariants as calls;
-ghost use Rattle.cm_types.specs.Properties.{judge_properties, kept_values};
+ghost use Rattle.cm_types.specs.Properties.{judge_properties};
+ghost use Rattle.cmis_spec.specs.Values.{values_kept};
 ghost use Rattle.cm_see.specs.Addressed.{addressed};
 ghost use Rattle.cmis_spec.specs.Access.{read_named};
 ghost use Rattle.cmis_spec.specs.Well.{IsWellFormed};
@@ -36,7 +37,6 @@ use std::alloc::{AllocError, Global};
 use wr_object::document_rules::{folder_of, judge_place, number_of, state_of};
 use wr_object::making_document::{document_in, new_content, new_series, own_name};
 use wr_object::new_document::{Allowed, NewDocument};
-use wr_rules::beside::kept_beside;
 use wr_rules::entries::new_aces;
 use wr_rules::kinds::judge_types;
 use wr_rules::made::with_reply;
@@ -52,7 +52,7 @@ fn judge_values(
 ) -> Result<Values, Fail>
     ensures { Leaves result
         (judge_properties calls.Create (map pointee defs.now) copied.now given.now)
-        (kept_values calls.Create (map pointee defs.now) copied.now given.now) }
+        (values_kept calls.Create (map pointee defs.now) copied.now given.now) }
 {
     check_new(alloc, defs, copied, given)
 }
@@ -71,7 +71,7 @@ fn judge_found(
 ) -> Result<Values, Fail>
     ensures { Leaves result
         (judge_found state.now user.now call.now x.now t.now (option_copied folder.entry) kind.now)
-        (kept_values calls.Create t.now.defs t.now.copied call.now.properties) }
+        (values_kept calls.Create t.now.defs t.now.copied call.now.properties) }
 {
     judge_kinds(state, user, call, x, folder)?;
     judge_type(alloc, state, t, kind)?;
@@ -173,7 +173,7 @@ fn new_document(
         kind: t.kind,
         name: own_name(allowed.state, t.name),
         secondary: t.secondary,
-        values: kept_beside(allowed.values),
+        values: allowed.values,
         created_by: user.copied(alloc)?,
         created_at: moment,
         modified_by: user.copied(alloc)?,

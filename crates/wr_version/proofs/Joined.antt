@@ -12,7 +12,6 @@ use Rattle.cm_base.specs.declared.log.ChangeKind.TheVariants as changes
 use Rattle.call_parts.specs.declared.versions.CheckIn.{CheckIn}
 use Rattle.cm_see.specs.Addressed.{addressed}
 use Rattle.cmis_spec.specs.Repository.{Repository, same, root_folder, most_steps, most_cost, object_at, series_at, series_of, entry_of}
-use Rattle.cmis_spec.specs.Values.{kept_beside}
 use Rattle.cmis_spec.specs.Changes.{stepped, noted, edited, edited_series}
 use Rattle.cmis_spec.specs.Documents.{last_label, next_label, checked_in, with_comment, with_version, with_contents}
 use Rattle.cmis_spec.specs.Well.{HasNumbers, HasSeriesNumbers, IsLabel, IsWellFormed}
@@ -50,11 +49,11 @@ labels_fit r x s w h room =
 -- ---- the version
 
 pub version_is : (r : Repository) (u : List ℕ) (m : Moment) (call : CheckIn) (x kept version : Object) (values : List Slot)
-    → kept ≡ record x { name = None; secondary = secondary_after x call.properties; values = with_comment (kept_beside values) call.comment }
+    → kept ≡ record x { name = None; secondary = secondary_after x call.properties; values = with_comment values call.comment }
     → version ≡ record kept { modified_by = u; modified_at = m; token = r.step + 1 } → values ≡ values_after r call x → version ≡ new_version r u m call x
 version_is r u m call x kept version values e f v =
     f ∙ (ap (λ (k : Object). record k { modified_by = u; modified_at = m; token = r.step + 1 }) e
-    ∙ ap (λ (vs : List Slot). record x { name = None; secondary = secondary_after x call.properties; values = with_comment (kept_beside vs) call.comment; modified_by = u; modified_at = m; token = r.step + 1 }) v)
+    ∙ ap (λ (vs : List Slot). record x { name = None; secondary = secondary_after x call.properties; values = with_comment vs call.comment; modified_by = u; modified_at = m; token = r.step + 1 }) v)
 
 -- the moment is that at which it was changed
 pub as_changed : (r : Repository) (u : List ℕ) (m : Moment) (call : CheckIn) (x version : Object) → version ≡ new_version r u m call x → version ≡ new_version r u version.modified_at call x

@@ -15,7 +15,7 @@ use Rattle.cm_types.specs.declared.definition.BaseType.TheVariants as bases
 use Rattle.cm_types.specs.declared.property.PropDef.{PropDef}
 use Rattle.cm_types.specs.declared.given.PropertyCall.TheVariants as calls
 use Rattle.cm_types.specs.Types.{props_of}
-use Rattle.cm_types.specs.Properties.{judge_properties, kept_values}
+use Rattle.cm_types.specs.Properties.{judge_properties}
 use Rattle.call_parts.specs.declared.readings.PropertyFilter.TheVariants as filters
 use Rattle.call_parts.specs.declared.versions.CheckIn.{CheckIn}
 use Rattle.call_parts.specs.declared.replies.ObjectReply.{ObjectReply}
@@ -24,7 +24,7 @@ use Rattle.cm_see.specs.Addressed.{addressed}
 use Rattle.cm_see.specs.Shown.{shown_object}
 use Rattle.cmis_spec.specs.Repository.{Repository, root_folder, is_a, type_of, series_of, entry_of}
 use Rattle.cmis_spec.specs.Access.{lacks}
-use Rattle.cmis_spec.specs.Values.{kept_beside}
+use Rattle.cmis_spec.specs.Values.{values_kept}
 use Rattle.cmis_spec.specs.Changes.{stepped, noted}
 use Rattle.cmis_spec.specs.Documents.{is_working_copy, last_label, next_label, with_comment, with_version, with_contents}
 use Rattle.wr_rules.specs.Rules.{judge_storage, secondary_in, unknown_type, has_other_secondary}
@@ -78,14 +78,14 @@ refusal_check_in r u cost call = do
 
 -- the values of the properties after the call
 abbrev pub values_after : Repository → CheckIn → Object → List Slot
-values_after r call x = kept_values calls.CheckIn (props_after r call x) (form_slots r x) call.properties
+values_after r call x = values_kept calls.CheckIn (props_after r call x) (form_slots r x) call.properties
 
 -- the version that the working copy becomes; its name is that of its series
 abbrev pub new_version : Repository → List ℕ → Moment → CheckIn → Object → Object
 new_version r u m call x = record x {
   name = None;
   secondary = secondary_after x call.properties;
-  values = with_comment (kept_beside (values_after r call x)) call.comment;
+  values = with_comment (values_after r call x) call.comment;
   modified_by = u;
   modified_at = m;
   token = r.step + 1;

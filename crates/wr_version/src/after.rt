@@ -4,7 +4,7 @@ ghost use Rattle.std.specs.List.{list_any};
 ghost use Rattle.cm_base.specs.declared.value.Slot.{Slot};
 ghost use Rattle.cm_base.specs.declared.value.Scalar.TheVariants.{Words};
 ghost use Rattle.cmis_spec.specs.Repository.{is_taken};
-ghost use Rattle.cmis_spec.specs.Values.{words, texts, kept_beside};
+ghost use Rattle.cmis_spec.specs.Values.{words, texts};
 ghost use Rattle.cmis_spec.specs.Documents.{with_comment};
 ghost use Rattle.wr_rules.specs.Documents.{form_slots, name_after, secondary_after, is_taken_anywhere};
 
@@ -19,7 +19,6 @@ use cm_map::map::Map;
 use cm_state::state::State;
 use cm_types::given::Given;
 use std::alloc::{AllocError, Global};
-use wr_rules::beside::kept_beside;
 use wr_rules::copied::name_of;
 use wr_rules::properties::{is_given, name_in, secondary_in};
 
@@ -149,16 +148,15 @@ fn commented(
     }
 }
 
-/// The values that are kept with the object, with the comment of the check-in.
+/// The values with the comment of the check-in.
 pub fn kept_with_comment(
     alloc: Global,
     values: Values,
     comment: &Option<Text>,
 ) -> Result<Values, AllocError>
-    ensures { IfOk result (λ v. v ≡ with_comment (kept_beside values) comment.now) }
+    ensures { IfOk result (λ v. v ≡ with_comment values comment.now) }
 {
-    let kept = kept_beside(values);
-    let all = commented(alloc, kept.into_vec(), comment)?;
+    let all = commented(alloc, values.into_vec(), comment)?;
     Ok(Items::from_vec(all))
 }
 

@@ -4,10 +4,10 @@ ghost use Rattle.cm_map.specs.Parts.{pointee};
 ghost use Rattle.cm_base.specs.Judged.{Meets, Leaves, Writes, first_cause};
 ghost use Rattle.cm_base.specs.declared.series.Series.{Series};
 ghost use Rattle.cm_types.specs.declared.given.PropertyCall.TheVariants as calls;
-ghost use Rattle.cm_types.specs.Properties.{judge_properties, kept_values};
+ghost use Rattle.cm_types.specs.Properties.{judge_properties};
 ghost use Rattle.cm_see.specs.Addressed.{addressed};
 ghost use Rattle.cmis_spec.specs.Repository.{series_of};
-ghost use Rattle.cmis_spec.specs.Values.{kept_beside};
+ghost use Rattle.cmis_spec.specs.Values.{values_kept};
 ghost use Rattle.cmis_spec.specs.Documents.{is_copy_of, is_working_copy, last_label, next_label, checked_in, with_comment};
 ghost use Rattle.cmis_spec.specs.Well.{IsWellFormed};
 ghost use Rattle.wr_rules.specs.Rules.{secondary_in, unknown_type, has_other_secondary};
@@ -84,7 +84,7 @@ fn props_after<'a>(
 fn judge_by(alloc: Global, defs: &[&PropDef], old: &Values, given: &Givens) -> Result<Values, Fail>
     ensures { Leaves result
         (judge_properties calls.CheckIn (map pointee defs.now) old.now given.now)
-        (kept_values calls.CheckIn (map pointee defs.now) old.now given.now) }
+        (values_kept calls.CheckIn (map pointee defs.now) old.now given.now) }
 {
     check_checked_in(alloc, defs, old, given)
 }
@@ -223,7 +223,7 @@ fn version_of(
     ensures { IfOk result (λ v. v ≡ record x.now {
       name = None;
       secondary = secondary_after x.now call.now.properties;
-      values = with_comment (kept_beside values) call.now.comment;
+      values = with_comment values call.now.comment;
     }) }
 {
     let values = kept_with_comment(alloc, values, &call.comment)?;
