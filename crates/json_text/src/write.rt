@@ -38,6 +38,16 @@ impl Writer {
         }
     }
 
+    /// Nothing is written, and there is room for so many bytes before more memory is asked for.
+    pub fn with_room(alloc: Global, bytes: usize) -> Result<Writer, AllocError>
+        ensures { IfOk result (λ w. w ≡ []) }
+    {
+        let room = Vec::with_capacity(alloc, bytes)?;
+        Ok(Writer {
+            out: json::Writer::new(room),
+        })
+    }
+
     /// `{`
     pub fn begin_object(&mut self) -> Result<(), AllocError>
         ensures { OnOk result (self.new ≡ self.old ++ Token.begin_object ∷ []) }

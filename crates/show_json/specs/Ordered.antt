@@ -1,5 +1,6 @@
 -- Lists in the order of keys.
-use Rattle.std.specs.Prelude.{ℕ, List, [], ◌∷◌, fold}
+use Rattle.std.specs.Prelude.{ℕ, Bool, true, false, List, [], ◌∷◌, fold}
+use Rattle.std.specs.List.{insert, remove}
 use Rattle.std.specs.Ordering.{nat_cmp, match_ordering}
 use Rattle.std.specs.Cmp.Lexicographic.{slice_cmp}
 
@@ -7,6 +8,11 @@ use Rattle.std.specs.Cmp.Lexicographic.{slice_cmp}
 abbrev pub placed : {A : Type 0} → (A → List ℕ) → A → List A → List A
 placed key x [] = x ∷ []
 placed key x (y ∷ ys) = match_ordering (slice_cmp nat_cmp (key x) (key y)) (x ∷ y ∷ ys) (x ∷ ys) (y ∷ placed key x ys)
+
+-- one more at a place, or in place of what stands there
+abbrev pub put_at : {A : Type 0} → Bool → List A → ℕ → A → List A
+put_at false xs i x = insert xs i x
+put_at true xs i x = insert (remove xs i) i x
 
 -- by byte order of the keys; of one key the last
 abbrev pub in_key_order : {A : Type 0} → (A → List ℕ) → List A → List A

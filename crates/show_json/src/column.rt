@@ -1,10 +1,10 @@
 //! Columns: the definitions that are shown of the objects of a page, in byte order of their ids.
-ghost use Rattle.std.specs.Prelude.{◌≡◌, [], ◌∷◌, ◌++◌, map, IfOk, OnOk};
+ghost use Rattle.std.specs.Prelude.{◌≡◌, ◌≤◌, ◌<◌, length, map, true, IfOk, OnOk};
 ghost use Rattle.core.specs.Ordering.{nat_cmp};
 ghost use Rattle.core.specs.Cmp.Lexicographic.{slice_cmp};
 ghost use Rattle.cm_types.specs.declared.property.PropDef.{PropDef};
 ghost use Rattle.cm_map.specs.Parts.{pointee};
-ghost use Rattle.show_json.specs.Ordered.{in_key_order, placed};
+ghost use Rattle.show_json.specs.Ordered.{in_key_order, placed, put_at};
 ghost use Rattle.show_json.specs.Columns.{columns_of, id_of, setting_of};
 
 use call_parts::readings::PropertyFilter;
@@ -66,24 +66,6 @@ impl<'a> Column<'a> {
     {
         self.property
     }
-
-    fn again(&self) -> Column<'a>
-        ensures { result ≡ self.now }
-    {
-        Column {
-            def: self.def,
-            property: self.property,
-        }
-    }
-}
-
-fn add_all<'a>(all: &mut Vec<Column<'a>>, columns: &[Column<'a>]) -> Result<(), AllocError>
-    ensures { OnOk result (all.new.items ≡ all.old.items ++ columns.now) }
-{
-    for column in columns {
-        all.push(column.again())?;
-    }
-    Ok(())
 }
 
 fn order(a: &Column, b: &Column) -> Ordering
@@ -92,58 +74,45 @@ fn order(a: &Column, b: &Column) -> Ordering
     a.def.id.cmp(&b.def.id)
 }
 
-// Adds the columns with one more at its place.
-fn add_placed<'a>(
-    all: &mut Vec<Column<'a>>,
-    column: Column<'a>,
-    rest: &[Column<'a>],
-) -> Result<(), AllocError>
-    ensures { OnOk result (all.new.items ≡ all.old.items ++ placed id_of column.entry rest.now) }
+// The place of the column among others, and whether one with its id stands there.
+#[tactic(auto, using(crate::proofs::Placed::put_before, crate::proofs::Placed::put_over, crate::proofs::Placed::put_later))]
+fn place_of(columns: &[Column], column: &Column) -> (usize, bool)
+    ensures within { result.0 ≤ length columns.now }
+    ensures held { result.1 ≡ true → result.0 < length columns.now }
+    ensures place { placed id_of column.now columns.now ≡ put_at result.1 columns.now result.0 column.now }
 {
-    match rest {
-        [] => {
-            all.push(column)?;
-            Ok(())
-        }
-        [first, more @ ..] => match order(&column, first) {
-            Ordering::Less => {
-                all.push(column)?;
-                add_all(all, rest)?;
-                Ok(())
-            }
-            Ordering::Equal => {
-                all.push(column)?;
-                add_all(all, more)?;
-                Ok(())
-            }
+    match columns {
+        [] => (0, false),
+        [first, more @ ..] => match order(column, first) {
+            Ordering::Less => (0, false),
+            Ordering::Equal => (0, true),
             Ordering::Greater => {
-                all.push(first.again())?;
-                add_placed(all, column, more)?;
-                Ok(())
+                let (at, is_held) = place_of(more, column);
+                (at + 1, is_held)
             }
         },
     }
 }
 
-fn with_placed<'a>(
-    alloc: Global,
-    columns: &[Column<'a>],
-    column: Column<'a>,
-) -> Result<Vec<Column<'a>>, AllocError>
-    ensures { IfOk result (λ all. all.items ≡ placed id_of column.entry columns.now) }
+// Puts the column at its place, or in place of the one with its id.
+fn put<'a>(columns: &mut Vec<Column<'a>>, column: Column<'a>) -> Result<(), AllocError>
+    ensures { OnOk result (columns.new.items ≡ placed id_of column.entry columns.old.items) }
 {
-    let mut all = Vec::new(alloc);
-    add_placed(&mut all, column, columns)?;
-    Ok(all)
+    let (at, is_held) = place_of(columns, &column);
+    if is_held {
+        columns.remove(at);
+    }
+    columns.insert(at, column)?;
+    Ok(())
 }
 
 /// The columns of these definitions, in byte order of their ids; of one id the last.
 pub fn columns<'a>(alloc: Global, defs: &[&'a PropDef]) -> Result<Vec<Column<'a>>, AllocError>
     ensures { IfOk result (λ all. all.items ≡ in_key_order id_of (map pointee defs.now)) }
 {
-    let mut all = Vec::new(alloc);
+    let mut all = Vec::with_capacity(alloc, defs.len())?;
     for def in defs {
-        all = with_placed(alloc, &all, Column::of(def))?;
+        put(&mut all, Column::of(def))?;
     }
     Ok(all)
 }

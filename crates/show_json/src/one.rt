@@ -22,6 +22,9 @@ use cm_state::state::State;
 use json_text::write::Writer;
 use std::alloc::{AllocError, Global};
 
+// Room for what is shown of most objects.
+const ROOM: usize = 1024;
+
 /// The text of an object as the caller sees it.
 #[tactic(auto, using(crate::specs::ColumnLaws::object_seen))]
 pub fn text_of_object(
@@ -37,7 +40,7 @@ pub fn text_of_object(
 {
     let columns = columns_of(alloc, state, filter, x)?;
     let sight = Sight::new(alloc, state, user, x, base_of(state, x));
-    let mut out = Writer::new(alloc);
+    let mut out = Writer::with_room(alloc, ROOM)?;
     write_object(&mut out, &sight, succinct, &columns)?;
     let text = out.into_vec();
     let body = Bytes::from_vec(text)?;

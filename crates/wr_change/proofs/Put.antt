@@ -20,7 +20,8 @@ use Rattle.cmis_laws.proofs.Kept.{find_mapped}
 use Rattle.cmis_laws.proofs.Passed.{and_then_some}
 use Rattle.wr_rules.specs.Documents.{name_after}
 use Rattle.wr_version.proofs.Making.{series_edits}
-use Rattle.wr_change.specs.Update.{secondary_updated, values_updated, name_kept, updated_object, under_name, renamed, placed, changed_in, after_update, object_updated}
+use Rattle.cm_series.specs.Series.{under_name}
+use Rattle.wr_change.specs.Update.{secondary_updated, values_updated, name_kept, updated_object, renamed, placed, changed_in, after_update, object_updated}
 use Rattle.wr_change.specs.UpdateParts.{series_renamed, with_maybe}
 
 -- ---- the series

@@ -17,7 +17,7 @@ use Rattle.cmis_laws.proofs.Lists.{by_test, find_alike, bytes_turned, apart_map,
 use Rattle.cmis_laws.proofs.Entries.{series_found}
 use Rattle.cmis_laws.proofs.Begun.{IsSeries, IsPlainIn, HasLabelsOf}
 use Rattle.cmis_laws.proofs.Kept.{find_mapped, kept_anywhere, bytes_same}
-use Rattle.wr_change.specs.Update.{under_name}
+use Rattle.cm_series.specs.Series.{under_name}
 
 module _ (r : Repository) (s : Series) (name : List ℕ) (w : IsWellFormed r) (there : series_at r s.id ≡ Some s) (free : All (λ p. same p.child s.id ≡ true → is_taken r p.folder s.id name ≡ false) r.filed) where
   abbrev after : Repository

@@ -34,7 +34,8 @@ use Rattle.wr_rules.specs.Rules.{judge_token, distinct, secondary_in, unknown_ty
 use Rattle.wr_rules.specs.Documents.{form_slots, name_after, secondary_after, is_taken_anywhere}
 use Rattle.wr_rules.proofs.Found.{addressed_there}
 use Rattle.wr_rules.proofs.Known.{below_secondary}
-use Rattle.wr_change.specs.Update.{secondary_named, props_updated, gives_name, takes_name, judge_new_name, judge_allowed, judge_update, refusal_one, name_kept, updated_object, under_name, renamed, changed_in}
+use Rattle.cm_series.specs.Series.{under_name}
+use Rattle.wr_change.specs.Update.{secondary_named, props_updated, gives_name, takes_name, judge_new_name, judge_allowed, judge_update, refusal_one, name_kept, updated_object, renamed, changed_in}
 use Rattle.wr_change.specs.UpdateParts.{MayChange}
 use Rattle.wr_change.proofs.Ends.{all_front, all_back, ends_updated}
 use Rattle.wr_change.proofs.KeptUpdated.{kept_updated, owns_updated}

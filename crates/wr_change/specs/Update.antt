@@ -19,6 +19,7 @@ use Rattle.call_parts.specs.declared.readings.PropertyFilter.TheVariants as filt
 use Rattle.call_parts.specs.declared.changes.UpdateProperties.{UpdateProperties}
 use Rattle.call_parts.specs.declared.replies.ObjectReply.{ObjectReply}
 use Rattle.call_parts.specs.Changes.{weight_of_update}
+use Rattle.cm_series.specs.Series.{under_name}
 use Rattle.cm_see.specs.Addressed.{addressed}
 use Rattle.cm_see.specs.Shown.{shown_object}
 use Rattle.cmis_spec.specs.Repository.{Repository, same, root, root_folder, entry_of}
@@ -112,9 +113,6 @@ updated_object r u m call x = record x {
   modified_at = m;
   token = r.step;
 }
-
-abbrev pub under_name : List ℕ → Series → Series
-under_name name s = record s { name = name }
 
 -- the name of a version goes to its series; a working copy, and what is in no series, has its own
 abbrev pub renamed : Repository → List ℕ → Bool → Option Oid → Repository

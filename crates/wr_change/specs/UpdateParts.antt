@@ -10,7 +10,8 @@ use Rattle.cmis_spec.specs.Changes.{edited_series}
 use Rattle.cmis_spec.specs.Documents.{is_working_copy}
 use Rattle.wr_rules.specs.Rules.{has_other_secondary}
 use Rattle.wr_rules.specs.Documents.{form_slots, name_after}
-use Rattle.wr_change.specs.Update.{secondary_named, props_updated, takes_name, under_name}
+use Rattle.cm_series.specs.Series.{under_name}
+use Rattle.wr_change.specs.Update.{secondary_named, props_updated, takes_name}
 
 -- the object is there, and what the call asks of it is right, whoever calls and whatever the step
 pub record MayChange (r : Repository) (call : UpdateProperties) (x : Object) : Type 0 where

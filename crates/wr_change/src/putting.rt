@@ -3,7 +3,6 @@ ghost use Rattle.std.specs.Prelude.{◌≡◌, [], IfOk, IfSome, is_some, true};
 ghost use Rattle.cm_base.specs.declared.log.ChangeKind.TheVariants.{Updated};
 ghost use Rattle.cmis_spec.specs.Repository.{object_at, series_at};
 ghost use Rattle.cmis_spec.specs.Changes.{noted, edited};
-ghost use Rattle.wr_change.specs.Update.{under_name};
 ghost use Rattle.wr_change.specs.UpdateParts.{series_renamed, with_maybe};
 
 use cm_base::copies::Copies;
@@ -13,20 +12,10 @@ use cm_base::object::Object;
 use cm_base::series::Series;
 use cm_base::text::Text;
 use cm_draft::draft::Draft;
+use cm_series::working::rename;
 use cm_state::state::State;
 use std::alloc::{AllocError, Global};
 use wr_rules::versions::is_working_copy;
-
-fn under_name(alloc: Global, series: &Series, name: Text) -> Result<Series, AllocError>
-    ensures { IfOk result (λ s. s ≡ under_name name series.now) }
-{
-    Ok(Series {
-        id: series.id,
-        name,
-        versions: series.versions.copied(alloc)?,
-        working: Copies::copied(&series.working, alloc)?,
-    })
-}
 
 /// The series of a version, under the name. A working copy keeps its name for itself.
 pub(crate) fn series_renamed(
@@ -42,7 +31,7 @@ pub(crate) fn series_renamed(
     }
     match state.series_of(x) {
         Some(series) => {
-            let renamed = under_name(alloc, series, name)?;
+            let renamed = rename(alloc, series, name)?;
             Ok(Some(renamed))
         }
         None => Ok(None),

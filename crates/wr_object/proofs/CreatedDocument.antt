@@ -43,7 +43,8 @@ use Rattle.wr_rules.proofs.Found.{addressed_there}
 use Rattle.wr_rules.proofs.Known.{below_secondary}
 use Rattle.wr_rules.proofs.Room.{room_of}
 use Rattle.wr_object.specs.declared.new_document.Allowed.{Allowed}
-use Rattle.wr_object.specs.CreateDocument.{folder_at, folder_of, document_props, state_of, is_unversioned, has_other_state, may_not_make, is_no_folder, is_name_taken, judge_kinds, judge_place, refusal_create_document, number_of, allowed_in, own_name, new_document, new_series, new_parts, filed_at, made_of_parts, after_create_document}
+use Rattle.cm_series.specs.Series.{new_series}
+use Rattle.wr_object.specs.CreateDocument.{folder_at, folder_of, document_props, state_of, is_unversioned, has_other_state, may_not_make, is_no_folder, is_name_taken, judge_kinds, judge_place, refusal_create_document, number_of, allowed_in, own_name, new_document, new_parts, filed_at, made_of_parts, after_create_document}
 use Rattle.wr_object.proofs.CreateFolder.{IsGood, new_permit, distinct_all, good_all, named_all}
 
 -- ---- what a refusal that is none tells

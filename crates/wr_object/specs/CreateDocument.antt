@@ -25,6 +25,7 @@ use Rattle.call_parts.specs.declared.versions.CreateDocument.{CreateDocument}
 use Rattle.call_parts.specs.declared.replies.ObjectReply.{ObjectReply}
 use Rattle.call_parts.specs.Weight.{bounded}
 use Rattle.call_parts.specs.Versions.{weight_of_create_document}
+use Rattle.cm_series.specs.Series.{new_series}
 use Rattle.cm_see.specs.Addressed.{addressed}
 use Rattle.cm_see.specs.Shown.{shown_object}
 use Rattle.cmis_spec.specs.Repository.{Repository, new_number, is_a, is_taken}
@@ -165,16 +166,6 @@ new_document r u m wanted allowed = record {
   token = r.step + 1;
   series = Some (new_number r);
 }
-
--- the label of a first version
-abbrev pub first_label : VersioningState → Option Label
-first_label states.Major = Some (record { major = 1; minor = 0 })
-first_label states.Minor = Some (record { major = 0; minor = 1 })
-first_label _ = None
-
-abbrev pub new_series : Oid → List ℕ → List ℕ → VersioningState → Series
-new_series n u name states.CheckedOut = record { id = n; name = name; versions = []; working = Some (record { copy = n; owner = u }) }
-new_series n u name state = record { id = n; name = name; versions = record { object = n; label = first_label state } ∷ []; working = None }
 
 -- the document with its series, its content as of this step, and the folder in which it is filed
 abbrev pub new_parts : Repository → List ℕ → Moment → CreateDocument → Wanted → Allowed → NewDocument

@@ -11,7 +11,7 @@ ghost use Rattle.wr_rules.specs.Wanted.{wanted_in};
 
 use crate::asked::{judge_values, wanted_of};
 use crate::document_rules::{folder_of, judge_kinds, judge_name, judge_place, number_of, state_of};
-use crate::making_document::{document_in, new_content, new_series, own_name};
+use crate::making_document::{document_in, new_content, own_name};
 use crate::new_document::{Allowed, NewDocument};
 use call_parts::replies::ObjectReply;
 use call_parts::versions::CreateDocument;
@@ -23,6 +23,7 @@ use cm_base::number::{Moment, Oid};
 use cm_base::object::Object;
 use cm_base::text::Text;
 use cm_base::value::Values;
+use cm_series::begin::begin;
 use cm_state::state::State;
 use cm_types::definition::TypeDef;
 use std::alloc::{AllocError, Global};
@@ -144,7 +145,7 @@ fn new_parts(
 {
     let folder = allowed.folder;
     let number = Oid(state.next_number());
-    let series = new_series(alloc, number, user, &wanted.name, allowed.state)?;
+    let series = begin(alloc, number, user, &wanted.name, allowed.state)?;
     let content = new_content(alloc, state, &wanted.name, &call.stream)?;
     let object = new_document(alloc, state, user, moment, wanted, allowed)?;
     Ok(NewDocument {

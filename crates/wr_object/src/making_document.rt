@@ -1,11 +1,11 @@
 //! A document that is made with its series, as a draft.
-ghost use Rattle.std.specs.Prelude.{◌≡◌, ◌+◌, ◌<◌, ◌^◌, [], ◌∷◌, Some, None, IfOk, option_map};
+ghost use Rattle.std.specs.Prelude.{◌≡◌, ◌+◌, ◌<◌, ◌^◌, [], Some, None, IfOk, option_map};
 ghost use Rattle.cm_base.specs.declared.log.ChangeKind.TheVariants.{Created};
 ghost use Rattle.cmis_spec.specs.Repository.{new_number};
 ghost use Rattle.cmis_spec.specs.Changes.{stepped, noted};
 ghost use Rattle.cmis_spec.specs.Documents.{with_document, with_policies, with_contents};
 ghost use Rattle.wr_rules.specs.Documents.{content_of_stream};
-ghost use Rattle.wr_object.specs.CreateDocument.{own_name, first_label, new_series, filed_at, with_parts, made_of_parts};
+ghost use Rattle.wr_object.specs.CreateDocument.{own_name, filed_at, with_parts, made_of_parts};
 
 use crate::new_document::NewDocument;
 use call_parts::stream::GivenStream;
@@ -16,7 +16,7 @@ use cm_base::items::Items;
 use cm_base::log::ChangeKind;
 use cm_base::number::{Moment, Oid};
 use cm_base::object::Object;
-use cm_base::series::{DocumentVersion, Label, Series, VersioningState, WorkingCopy};
+use cm_base::series::{Series, VersioningState};
 use cm_base::text::Text;
 use cm_draft::draft::Draft;
 use cm_state::state::State;
@@ -32,82 +32,6 @@ pub fn own_name(state: VersioningState, name: Text) -> Option<Text>
         VersioningState::None => None,
         VersioningState::Minor => None,
         VersioningState::Major => None,
-    }
-}
-
-fn first_label(state: VersioningState) -> Option<Label>
-    ensures { result ≡ first_label state }
-{
-    match state {
-        VersioningState::Major => Some(Label { major: 1, minor: 0 }),
-        VersioningState::Minor => Some(Label { major: 0, minor: 1 }),
-        VersioningState::CheckedOut => None,
-        VersioningState::None => None,
-    }
-}
-
-// A series that begins with a version.
-fn with_version(
-    alloc: Global,
-    number: Oid,
-    name: Text,
-    label: Option<Label>,
-) -> Result<Series, AllocError>
-    ensures { IfOk result (λ s. s ≡ record {
-      id = number;
-      name = name;
-      versions = record { object = number; label = label } ∷ [];
-      working = None;
-    }) }
-{
-    let mut versions = Items::new(alloc);
-    versions.push(DocumentVersion {
-        object: number,
-        label,
-    })?;
-    Ok(Series {
-        id: number,
-        name,
-        versions,
-        working: None,
-    })
-}
-
-// A series that begins with a working copy.
-fn with_working(alloc: Global, number: Oid, owner: &Text, name: Text) -> Result<Series, AllocError>
-    ensures { IfOk result (λ s. s ≡ record {
-      id = number;
-      name = name;
-      versions = [];
-      working = Some (record { copy = number; owner = owner.now });
-    }) }
-{
-    let owner = owner.copied(alloc)?;
-    Ok(Series {
-        id: number,
-        name,
-        versions: Items::new(alloc),
-        working: Some(WorkingCopy {
-            copy: number,
-            owner,
-        }),
-    })
-}
-
-/// The series of the document with this number.
-pub fn new_series(
-    alloc: Global,
-    number: Oid,
-    user: &Text,
-    name: &Text,
-    state: VersioningState,
-) -> Result<Series, AllocError>
-    ensures { IfOk result (λ s. s ≡ new_series number user.now name.now state) }
-{
-    let name = name.copied(alloc)?;
-    match state {
-        VersioningState::CheckedOut => with_working(alloc, number, user, name),
-        _ => with_version(alloc, number, name, first_label(state)),
     }
 }
 

@@ -1,12 +1,13 @@
 //! What the writes on documents ask of a version series (CMIS 1.1, section 2.1.13).
 ghost use Rattle.std.specs.Prelude.{◌≡◌};
-ghost use Rattle.cmis_spec.specs.Documents.{is_copy_of, is_working_copy, fixed_in, judge_changeable};
+ghost use Rattle.cmis_spec.specs.Documents.{is_working_copy, fixed_in, judge_changeable};
 ghost use Rattle.wr_rules.specs.Documents.{is_versionable, is_checked_out};
 
 use cm_base::cause::Cause;
 use cm_base::number::Oid;
 use cm_base::object::Object;
 use cm_base::series::Series;
+use cm_series::working::is_copy_of;
 use cm_state::look::is_latest;
 use cm_state::state::State;
 
@@ -26,15 +27,6 @@ pub fn is_checked_out(state: &State, x: &Object) -> bool
 {
     match state.series_of(x) {
         Some(series) => series.working.is_some(),
-        None => false,
-    }
-}
-
-fn is_copy_of(series: &Series, n: Oid) -> bool
-    ensures { result ≡ is_copy_of series.now n }
-{
-    match &series.working {
-        Some(working) => working.copy == n,
         None => false,
     }
 }

@@ -37,7 +37,8 @@ use Rattle.wr_rules.proofs.Found.{read_there, named_there}
 use Rattle.wr_rules.proofs.Known.{below_secondary}
 use Rattle.wr_rules.proofs.Room.{room_of}
 use Rattle.wr_object.specs.declared.new_document.Allowed.{Allowed}
-use Rattle.wr_object.specs.CreateDocument.{folder_of, state_of, is_unversioned, has_other_state, may_not_make, is_no_folder, is_name_taken, new_series, number_of, filed_at, made_of_parts}
+use Rattle.cm_series.specs.Series.{new_series}
+use Rattle.wr_object.specs.CreateDocument.{folder_of, state_of, is_unversioned, has_other_state, may_not_make, is_no_folder, is_name_taken, number_of, filed_at, made_of_parts}
 use Rattle.wr_object.proofs.CreatedDocument.{bind_ok, folder_is, series_id, series_name, one_member, alone_in, named_so, labelled_so, plain_state, and_second, content_so, below_so, free_so}
 use Rattle.wr_object.proofs.CreateFolder.{IsGood, new_permit, distinct_all, good_all, named_all}
 use Rattle.wr_source.specs.Templates.{Template, template_of}

@@ -18,6 +18,7 @@ use Rattle.call_parts.specs.declared.replies.ObjectReply.{ObjectReply}
 use Rattle.call_parts.specs.Weight.{bounded}
 use Rattle.source_parts.specs.declared.writes.CreateDocumentFromSource.{CreateDocumentFromSource}
 use Rattle.source_parts.specs.Weight.{weight_of_create_document_from_source}
+use Rattle.cm_series.specs.Series.{new_series}
 use Rattle.cm_see.specs.Addressed.{addressed}
 use Rattle.cm_see.specs.Shown.{shown_object}
 use Rattle.cmis_spec.specs.Repository.{Repository, root_folder, new_number, is_a}
@@ -25,7 +26,7 @@ use Rattle.cmis_spec.specs.Access.{read_named}
 use Rattle.cmis_spec.specs.Values.{values_kept}
 use Rattle.wr_rules.specs.Rules.{judge_storage, unknown_type, has_other_secondary, unread_cause, has_other_policy, policies_in, has_unknown_permission, new_aces}
 use Rattle.wr_rules.specs.Documents.{judge_content, content_of_stream}
-use Rattle.wr_object.specs.CreateDocument.{folder_of, state_of, may_not_make, is_no_folder, is_name_taken, judge_place, own_name, new_series, number_of, made_of_parts}
+use Rattle.wr_object.specs.CreateDocument.{folder_of, state_of, may_not_make, is_no_folder, is_name_taken, judge_place, own_name, number_of, made_of_parts}
 use Rattle.wr_object.specs.declared.new_document.Allowed.{Allowed}
 use Rattle.wr_object.specs.declared.new_document.NewDocument.{NewDocument}
 use Rattle.wr_source.specs.Templates.{Template, taken_cost, template_of}

@@ -27,6 +27,7 @@ use cm_base::text::Text;
 use cm_base::value::Values;
 use cm_rules::check::check_new;
 use cm_see::read::read_named;
+use cm_series::begin::begin;
 use cm_state::state::State;
 use cm_types::definition::TypeDef;
 use cm_types::given::Givens;
@@ -35,7 +36,7 @@ use source_parts::weight::weight_of_create_document_from_source;
 use source_parts::writes::CreateDocumentFromSource;
 use std::alloc::{AllocError, Global};
 use wr_object::document_rules::{folder_of, judge_place, number_of, state_of};
-use wr_object::making_document::{document_in, new_content, new_series, own_name};
+use wr_object::making_document::{document_in, new_content, own_name};
 use wr_object::new_document::{Allowed, NewDocument};
 use wr_rules::entries::new_aces;
 use wr_rules::kinds::judge_types;
@@ -197,7 +198,7 @@ fn new_parts(
 {
     let folder = allowed.folder;
     let number = Oid(state.next_number());
-    let series = new_series(alloc, number, user, &t.name, allowed.state)?;
+    let series = begin(alloc, number, user, &t.name, allowed.state)?;
     let content = new_content(alloc, state, &t.name, &t.stream)?;
     let object = new_document(alloc, state, user, moment, t, allowed)?;
     Ok(NewDocument {

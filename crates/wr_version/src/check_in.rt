@@ -16,7 +16,7 @@ ghost use Rattle.wr_rules.specs.Found.{FindsWith};
 ghost use Rattle.wr_version.specs.CheckIn.{cost_check_in, props_after, judge_copy, judge_new_name, judge_given, judge_found, refusal_check_in, values_after, new_version, given_content, after_check_in, acknowledgement_check_in};
 
 use crate::after::{form_slots, is_taken_anywhere, kept_with_comment, name_after, secondary_after};
-use crate::joining::{checked_in, joined_in, label_after};
+use crate::joining::joined_in;
 use call_parts::replies::ObjectReply;
 use call_parts::versions::CheckIn;
 use call_parts::weight::weight_of_check_in;
@@ -34,6 +34,8 @@ use cm_base::value::Values;
 use cm_rules::check::check_checked_in;
 use cm_see::address::addressed;
 use cm_see::level::lacks;
+use cm_series::label::label_after;
+use cm_series::working;
 use cm_state::look::entry_of;
 use cm_state::state::State;
 use cm_types::definition::{BaseType, TypeDef};
@@ -295,7 +297,7 @@ fn series_after(
     let series = state.series_of(x).unwrap();
     let label = label_after(series, call.major);
     let name = name_after(alloc, state, x, call.properties.as_slice())?;
-    checked_in(alloc, series, x.id, label, name)
+    working::check_in(alloc, series, x.id, label, name)
 }
 
 // The state in which this version stands in place of the working copy that the call addresses.

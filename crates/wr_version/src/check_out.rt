@@ -11,7 +11,7 @@ ghost use Rattle.cm_see.specs.Shown.{is_latest_version};
 ghost use Rattle.wr_rules.specs.Found.{Finds};
 ghost use Rattle.wr_version.specs.CheckOut.{copies_cost, cost_check_out, judge_latest, refusal_check_out, new_copy, new_content, after_check_out, acknowledgement_check_out};
 
-use crate::copying::{checked_out, copied_in};
+use crate::copying::copied_in;
 use call_parts::replies::ObjectReply;
 use call_parts::versions::CheckOut;
 use call_parts::weight::weight_of_check_out;
@@ -28,6 +28,7 @@ use cm_base::text::Text;
 use cm_base::value::{Slot, Values};
 use cm_see::address::addressed;
 use cm_see::level::lacks;
+use cm_series::working;
 use cm_state::look::is_latest;
 use cm_state::state::State;
 use cm_types::definition::BaseType;
@@ -165,7 +166,7 @@ fn with_copy(
 {
     let _step = state.step();
     let copy = new_copy(alloc, state, user, moment, x)?;
-    let out = checked_out(alloc, series, copy.id, user)?;
+    let out = working::check_out(alloc, series, copy.id, user)?;
     let content = new_content(alloc, state, x)?;
     let draft = copied_in(alloc, state, copy, out, content, cost, moment)?;
     Ok(draft.seal())

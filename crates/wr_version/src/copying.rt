@@ -3,7 +3,7 @@ ghost use Rattle.std.specs.Prelude.{◌≡◌, ◌+◌, ◌<◌, ◌^◌, [], If
 ghost use Rattle.cm_base.specs.declared.log.ChangeKind.TheVariants.{Created};
 ghost use Rattle.cmis_spec.specs.Repository.{new_number, series_at};
 ghost use Rattle.cmis_spec.specs.Changes.{stepped, noted, edited_series};
-ghost use Rattle.cmis_spec.specs.Documents.{checked_out, with_member, with_contents};
+ghost use Rattle.cmis_spec.specs.Documents.{with_member, with_contents};
 
 use cm_base::content::Content;
 use cm_base::copies::Copies;
@@ -11,31 +11,11 @@ use cm_base::items::Items;
 use cm_base::log::ChangeKind;
 use cm_base::number::{Moment, Oid};
 use cm_base::object::Object;
-use cm_base::series::{Series, WorkingCopy};
+use cm_base::series::Series;
 use cm_base::text::Text;
 use cm_draft::draft::Draft;
 use cm_state::state::State;
 use std::alloc::{AllocError, Global};
-
-/// The series as its owner checked it out.
-pub(crate) fn checked_out(
-    alloc: Global,
-    series: &Series,
-    copy: Oid,
-    owner: &Text,
-) -> Result<Series, AllocError>
-    ensures { IfOk result (λ s. s ≡ checked_out copy owner.now series.now) }
-{
-    Ok(Series {
-        id: series.id,
-        name: series.name.copied(alloc)?,
-        versions: series.versions.copied(alloc)?,
-        working: Some(WorkingCopy {
-            copy,
-            owner: owner.copied(alloc)?,
-        }),
-    })
-}
 
 /// The draft with a content, if there is one.
 pub(crate) fn with_content(

@@ -3,7 +3,7 @@ ghost use Rattle.std.specs.Prelude.{◌≡◌, ◌+◌, ◌<◌, ◌^◌, [], If
 ghost use Rattle.cm_base.specs.declared.log.ChangeKind.TheVariants.{Updated};
 ghost use Rattle.cmis_spec.specs.Repository.{object_at, series_at};
 ghost use Rattle.cmis_spec.specs.Changes.{stepped, noted, edited, edited_series};
-ghost use Rattle.cmis_spec.specs.Documents.{last_label, next_label, checked_in, with_contents};
+ghost use Rattle.cmis_spec.specs.Documents.{with_contents};
 
 use crate::copying::with_content;
 use cm_base::content::Content;
@@ -12,70 +12,11 @@ use cm_base::items::Items;
 use cm_base::log::ChangeKind;
 use cm_base::number::Oid;
 use cm_base::object::Object;
-use cm_base::series::{DocumentVersion, Label, Series};
+use cm_base::series::Series;
 use cm_base::text::Text;
 use cm_draft::draft::Draft;
 use cm_state::state::State;
 use std::alloc::{AllocError, Global};
-
-fn last_label(series: &Series) -> Label
-    ensures { result ≡ last_label series.now }
-{
-    match series.versions.as_slice().last() {
-        Some(version) => version.label.unwrap_or(Label { major: 0, minor: 0 }),
-        None => Label { major: 0, minor: 0 },
-    }
-}
-
-fn next_label(major: bool, last: Label) -> Label
-    requires major { last.major + 1 < 2 ^ 64 }
-    requires minor { last.minor + 1 < 2 ^ 64 }
-    ensures { result ≡ next_label major last }
-{
-    if major {
-        Label {
-            major: last.major + 1,
-            minor: 0,
-        }
-    } else {
-        Label {
-            major: last.major,
-            minor: last.minor + 1,
-        }
-    }
-}
-
-/// The label of the next version of the series.
-pub(crate) fn label_after(series: &Series, major: bool) -> Label
-    requires major { (last_label series.now).major + 1 < 2 ^ 64 }
-    requires minor { (last_label series.now).minor + 1 < 2 ^ 64 }
-    ensures { result ≡ next_label major (last_label series.now) }
-{
-    next_label(major, last_label(series))
-}
-
-/// The series whose working copy is its latest version, under this label and name.
-pub(crate) fn checked_in(
-    alloc: Global,
-    series: &Series,
-    copy: Oid,
-    label: Label,
-    name: Text,
-) -> Result<Series, AllocError>
-    ensures { IfOk result (λ s. s ≡ checked_in copy label name series.now) }
-{
-    let mut versions = series.versions.copied(alloc)?;
-    versions.push(DocumentVersion {
-        object: copy,
-        label: Some(label),
-    })?;
-    Ok(Series {
-        id: series.id,
-        name,
-        versions,
-        working: None,
-    })
-}
 
 /// The version in place of the working copy that has its number, in its series, with a content that is given, one step further, with its
 /// event.
