@@ -1,5 +1,5 @@
 -- Types where they stand first, one by one.
-use Rattle.std.proofs.Common.{◌≡◌, ◌∙◌, Bool, true, false, cond, not, ◌||◌, List, [], ◌∷◌, ◌++◌, map, refl, sym, ap, append-nil}
+use Rattle.std.proofs.Common.{◌≡◌, ◌∙◌, Bool, true, false, cond, not, ◌||◌, List, [], ◌∷◌, ◌++◌, map, fold, refl, sym, ap, append-nil, append_assoc}
 use Rattle.std.specs.Prelude.{bytes_eq, filter}
 use Rattle.std.specs.List.{list_any}
 use Rattle.std.proofs.lemmas.Cmp.{nat_list_eq_equiv}
@@ -64,7 +64,7 @@ behind x t ts false false e f =
     ap (λ l. x ∷ l) (filter_one x t ts false (nat_list_eq_equiv.symm t.id x.id ∙ e))
     ∙ sym (ap (λ b. cond b (x ∷ rest) ((x ∷ rest) ++ t ∷ [])) (any_other x t ts e ∙ f))
 
-pub first_more : (ts : List TypeDef) (t : TypeDef) → first_of_each (ts ++ t ∷ []) ≡ with_first (first_of_each ts) t
+first_more : (ts : List TypeDef) (t : TypeDef) → first_of_each (ts ++ t ∷ []) ≡ with_first (first_of_each ts) t
 first_more [] t = refl
 first_more (x ∷ ts) t =
     ap (λ l. x ∷ filter (λ s. not (bytes_eq s.id x.id)) l) (first_more ts t)
@@ -81,3 +81,14 @@ pushed_first ts t h =
 pub kept_first : (ts : List (Bor TypeDef)) (t : Bor TypeDef) → list_any (λ (s : Bor TypeDef). bytes_eq s.now.id t.now.id) ts ≡ true
     → map pointee ts ≡ with_first (map pointee ts) t.now
 kept_first ts t h = sym (ap (λ b. cond b (map pointee ts) (map pointee ts ++ t.now ∷ [])) (any_map (λ s. bytes_eq s.id t.now.id) pointee ts ∙ h))
+
+more : (ts us : List TypeDef) → first_of_each (ts ++ us) ≡ fold with_first (first_of_each ts) us
+more ts [] = ap first_of_each (append-nil ts)
+more ts (u ∷ us) =
+    ap first_of_each (sym (append_assoc ts (u ∷ []) us))
+    ∙ more (ts ++ u ∷ []) us
+    ∙ ap (λ l. fold with_first l us) (first_more ts u)
+
+-- the types where they stand first are added one by one
+pub first_fold : (ts : List TypeDef) → first_of_each ts ≡ fold with_first [] ts
+first_fold ts = more [] ts

@@ -1,8 +1,8 @@
 //! The list of types, as a value that keeps its older states.
-ghost use Rattle.std.specs.Prelude.{◌≡◌, ℕ, List, [], ◌∷◌, ◌++◌, OnOk, ◌≤◌, length, IfOk, bytes_eq, map, reverse};
+ghost use Rattle.std.specs.Prelude.{◌≡◌, ℕ, List, [], ◌∷◌, ◌++◌, OnOk, ◌≤◌, length, IfOk, bytes_eq, map, reverse, fold};
 ghost use Rattle.std.specs.Option.{option_copied};
 ghost use Rattle.std.specs.List.{list_any, flat_map};
-ghost use Rattle.cm_types.specs.Types.{type_in, chain_of, chain, is_below, is_below_any, longest_chain, first_of_each, types_of, props_of};
+ghost use Rattle.cm_types.specs.Types.{type_in, chain_of, is_below, is_below_any, longest_chain, types_of, props_of};
 ghost use denote.Ref.{Bor};
 ghost use Rattle.cm_map.specs.Parts.{pointee};
 ghost use Rattle.cm_type_list.specs.Firsts.{with_first};
@@ -24,14 +24,6 @@ pub(crate) fn longest_chain() -> u64
     16
 }
 
-fn with_last<'a>(line: Vec<&'a TypeDef>, def: &'a TypeDef) -> Result<Vec<&'a TypeDef>, AllocError>
-    ensures { IfOk result (λ all. map pointee all.items ≡ map pointee line.entry.items ++ def.now ∷ []) }
-{
-    let mut line = line;
-    line.push(def)?;
-    Ok(line)
-}
-
 fn has_type(types: &[&TypeDef], id: &Text) -> bool
     ensures { result ≡ list_any (λ (t : Bor TypeDef). bytes_eq t.now.id id.now) types.now }
 {
@@ -47,16 +39,6 @@ fn add_first<'a>(types: &mut Vec<&'a TypeDef>, def: &'a TypeDef) -> Result<(), A
         types.push(def)?;
         Ok(())
     }
-}
-
-fn first_of_each<'a>(alloc: Global, all: &[&'a TypeDef]) -> Result<Vec<&'a TypeDef>, AllocError>
-    ensures { IfOk result (λ types. map pointee types.items ≡ first_of_each (map pointee all.now)) }
-{
-    let mut types = Vec::new(alloc);
-    for def in all {
-        add_first(&mut types, *def)?;
-    }
-    Ok(types)
 }
 
 fn add_props<'a>(all: &mut Vec<&'a PropDef>, defs: &'a [PropDef]) -> Result<(), AllocError>
@@ -158,44 +140,28 @@ impl Types {
         above.iter().any(|a| self.is_below(id, a))
     }
 
-    // A type's chain from its base down, of at most so many types.
-    fn line_in(&self, alloc: Global, levels: u64, id: &Text) -> Result<Vec<&TypeDef>, AllocError>
-        ensures { IfOk result (λ all. map pointee all.items ≡ reverse (chain_of levels self.now id.now)) }
+    // Adds those of a type's chain of at most so many types, base first, that are not there yet.
+    fn add_line<'a>(
+        &'a self,
+        types: &mut Vec<&'a TypeDef>,
+        levels: u64,
+        id: &Text,
+    ) -> Result<(), AllocError>
+        ensures { OnOk result (map pointee types.new.items
+            ≡ fold with_first (map pointee types.old.items) (reverse (chain_of levels self.now id.now))) }
     {
         if levels == 0 {
-            return Ok(Vec::new(alloc));
+            return Ok(());
         }
         match self.find(id) {
-            None => Ok(Vec::new(alloc)),
-            Some(def) => match &def.parent {
-                Some(parent) => {
-                    let above = self.line_in(alloc, levels - 1, parent)?;
-                    let line = with_last(above, def)?;
-                    Ok(line)
+            None => Ok(()),
+            Some(def) => {
+                if let Some(parent) = &def.parent {
+                    self.add_line(types, levels - 1, parent)?;
                 }
-                None => {
-                    let line = with_last(Vec::new(alloc), def)?;
-                    Ok(line)
-                }
-            },
+                add_first(types, def)
+            }
         }
-    }
-
-    // The chains of a type and of secondary types, each base first.
-    fn lines(
-        &self,
-        alloc: Global,
-        id: &Text,
-        secondaries: &[Text],
-    ) -> Result<Vec<&TypeDef>, AllocError>
-        ensures { IfOk result (λ all. map pointee all.items ≡ flat_map (λ s. reverse (chain self.now s)) (id.now ∷ secondaries.now)) }
-    {
-        let mut all = self.line_in(alloc, longest_chain(), id)?;
-        for other in secondaries {
-            let mut line = self.line_in(alloc, longest_chain(), other)?;
-            all.append(&mut line)?;
-        }
-        Ok(all)
     }
 
     /// The types whose properties an object has: its type's chain, then those of its secondary types, each base first, and each
@@ -208,9 +174,12 @@ impl Types {
     ) -> Result<Vec<&TypeDef>, AllocError>
         ensures { IfOk result (λ all. map pointee all.items ≡ types_of self.now id.now secondaries.now) }
     {
-        let lines = self.lines(alloc, id, secondaries)?;
-        let all = first_of_each(alloc, &lines)?;
-        Ok(all)
+        let mut types = Vec::new(alloc);
+        self.add_line(&mut types, longest_chain(), id)?;
+        for other in secondaries {
+            self.add_line(&mut types, longest_chain(), other)?;
+        }
+        Ok(types)
     }
 
     /// The definitions of an object's properties. None of them is copied.
