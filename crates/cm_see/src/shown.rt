@@ -1,6 +1,5 @@
 //! What a reply shows of an object.
-ghost use Rattle.std.specs.Prelude.{◌≡◌, ◌∷◌, ◌++◌, [], map, filter, IfOk, OnOk, true};
-ghost use Rattle.std.specs.List.{flat_map};
+ghost use Rattle.std.specs.Prelude.{◌≡◌, map, filter, IfOk};
 ghost use Rattle.cm_map.specs.Parts.{pointee};
 ghost use Rattle.cm_see.specs.Shown.{passes, shown_defs, shown_object, shown_properties, shown_property, shown_slot};
 ghost use Rattle.call_parts.specs.declared.replies.Properties.TheVariants as forms;
@@ -14,7 +13,6 @@ use cm_base::object::Object;
 use cm_base::text::Text;
 use cm_base::value::{Slot, Values};
 use cm_state::state::State;
-use cm_types::definition::TypeDef;
 use cm_types::property::PropDef;
 use std::alloc::{AllocError, Global};
 
@@ -29,46 +27,13 @@ fn passes(filter: &PropertyFilter, def: &PropDef) -> bool
     }
 }
 
-// Adds the definition where the filter lets it pass.
-fn add_passing<'a>(
-    all: &mut Vec<&'a PropDef>,
-    wanted: &PropertyFilter,
-    def: &'a PropDef,
-) -> Result<(), AllocError>
-    ensures { OnOk result (map pointee all.new.items ≡ map pointee all.old.items ++ filter (passes wanted.now) (def.now ∷ [])) }
+// The definitions that the filter lets pass.
+fn passing<'a>(defs: Vec<&'a PropDef>, wanted: &PropertyFilter) -> Vec<&'a PropDef>
+    ensures { map pointee result.items ≡ filter (passes wanted.now) (map pointee defs.entry.items) }
 {
-    if passes(wanted, def) {
-        all.push(def)?;
-    }
-    Ok(())
-}
-
-fn add_defs<'a>(
-    all: &mut Vec<&'a PropDef>,
-    wanted: &PropertyFilter,
-    defs: &'a [PropDef],
-) -> Result<(), AllocError>
-    ensures { OnOk result (map pointee all.new.items ≡ map pointee all.old.items ++ filter (passes wanted.now) defs.now) }
-{
-    for def in defs {
-        add_passing(all, wanted, def)?;
-    }
-    Ok(())
-}
-
-// The definitions of the types' properties that the filter lets pass.
-fn defs_in<'a>(
-    alloc: Global,
-    wanted: &PropertyFilter,
-    types: &[&'a TypeDef],
-) -> Result<Vec<&'a PropDef>, AllocError>
-    ensures { IfOk result (λ all. map pointee all.items ≡ filter (passes wanted.now) (flat_map (λ t. t.properties) (map pointee types.now))) }
-{
-    let mut all = Vec::new(alloc);
-    for def in types {
-        add_defs(&mut all, wanted, def.properties.as_slice())?;
-    }
-    Ok(all)
+    let mut defs = defs;
+    defs.retain(|def| passes(wanted, def));
+    defs
 }
 
 /// The definitions of the properties that the filter lets pass, in the order of the object's types.
@@ -80,11 +45,9 @@ pub fn shown_defs<'a>(
 ) -> Result<Vec<&'a PropDef>, AllocError>
     ensures { IfOk result (λ all. map pointee all.items ≡ shown_defs state.now filter.now x.now) }
 {
-    let types = state
-        .types()
-        .types_of(alloc, &x.kind, x.secondary.as_slice())?;
-    let all = defs_in(alloc, filter, &types)?;
-    Ok(all)
+    let types = state.types();
+    let defs = types.props_of(alloc, &x.kind, x.secondary.as_slice())?;
+    Ok(passing(defs, filter))
 }
 
 fn shown_slot(
