@@ -3,7 +3,7 @@ ghost use Rattle.std.specs.Prelude.{◌≡◌, ◌++◌, [], ◌∷◌, IfOk, is
 ghost use Rattle.std.specs.List.{list_any};
 ghost use Rattle.std.specs.Option.{option_to_list};
 ghost use Rattle.cm_base.specs.declared.access.Level.TheVariants as levels;
-ghost use Rattle.cm_acl.specs.Acl.{level_named};
+ghost use Rattle.cm_acl.specs.Acl.{level_named, changed_aces};
 ghost use Rattle.cmis_spec.specs.Well.{Apart, ComesBefore};
 ghost use Rattle.wr_rules.specs.Rules.{has_unknown_permission, has_entries, aces_of, aces_in, new_aces};
 
@@ -97,6 +97,22 @@ fn own_aces(alloc: Global, maker: &Text) -> Result<Aces, AllocError>
     Ok(aces)
 }
 
+fn changed(
+    alloc: Global,
+    own: &Aces,
+    remove: &[AceRequest],
+    add: &[AceRequest],
+) -> Result<Aces, AllocError>
+    requires { Apart ComesBefore own.now }
+    ensures list { IfOk result (λ aces. aces ≡ changed_aces own.now (aces_in remove.now) (aces_in add.now)) }
+    ensures ordered { IfOk result (λ aces. Apart ComesBefore aces) }
+{
+    let remove = aces_in(alloc, remove)?;
+    let add = aces_in(alloc, add)?;
+    let aces = apply(alloc, own, &remove, &add)?;
+    Ok(aces)
+}
+
 /// The list of a new object: cmis:all for its maker, less what is to be removed, and then what is to be added.
 pub fn new_aces(
     alloc: Global,
@@ -108,8 +124,11 @@ pub fn new_aces(
     ensures ordered { IfOk result (λ aces. Apart ComesBefore aces) }
 {
     let own = own_aces(alloc, maker)?;
-    let remove = aces_in(alloc, remove)?;
-    let add = aces_in(alloc, add)?;
-    let aces = apply(alloc, &own, &remove, &add)?;
-    Ok(aces)
+    match remove {
+        [] => match add {
+            [] => Ok(own),
+            _ => changed(alloc, &own, remove, add),
+        },
+        _ => changed(alloc, &own, remove, add),
+    }
 }
