@@ -13,11 +13,16 @@ fn decoded(alloc: Global, bytes: &[u8]) -> Result<Text, AllocError>
     Ok(Text::from_string(text.into_owned(alloc)?))
 }
 
+// The pairs for which room is made at once: most forms have no more, and an empty text has none.
+fn room_for(text: &[u8]) -> usize {
+    if text.is_empty() { 0 } else { 16 }
+}
+
 /// The pairs of a text in the form application/x-www-form-urlencoded. What is no UTF-8 has U+FFFD in its place.
 pub fn form_pairs(alloc: Global, text: &[u8]) -> Result<Vec<Pair>, AllocError>
     ensures { IfOk result (λ v. v.items ≡ form_pairs text.now) }
 {
-    let mut list = Vec::new(alloc);
+    let mut list = Vec::with_capacity(alloc, room_for(text))?;
     for (name, value) in form_urlencoded::raw_pairs(text) {
         list.push(Pair {
             name: decoded(alloc, name)?,
