@@ -14,7 +14,7 @@ use cm_state::state::State;
 use cm_types::definition::BaseType;
 use wr_rules::content::{bars_content, needs_content};
 use wr_rules::retention::is_under_hold;
-use wr_rules::versions::{is_checked_out, is_versionable, is_working_copy, judge_changeable};
+use wr_rules::versions::{is_checked_out, is_working_copy, judge_changeable};
 
 /// What the caller may do (CMIS 1.1, section 2.1.12).
 #[derive(Clone, Copy)]

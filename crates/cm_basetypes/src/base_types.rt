@@ -60,7 +60,8 @@ fn base_def(
 }
 
 fn document_type(alloc: Global) -> Result<TypeDef, AllocError>
-    ensures { IfOk result (λ t. t ≡ base_def bases.Document true true true true Allowed (common_props ++ (version_props ++ content_props))) }
+    ensures { IfOk result (λ t. t ≡ base_def bases.Document true true true true Allowed
+        (common_props ++ (version_props ++ content_props))) }
 {
     let properties = document_props(alloc)?;
     base_def(
@@ -76,7 +77,8 @@ fn document_type(alloc: Global) -> Result<TypeDef, AllocError>
 }
 
 fn folder_type(alloc: Global) -> Result<TypeDef, AllocError>
-    ensures { IfOk result (λ t. t ≡ base_def bases.Folder true true true false NotAllowed (common_props ++ folder_props)) }
+    ensures { IfOk result (λ t. t ≡ base_def bases.Folder true true true false NotAllowed
+        (common_props ++ folder_props)) }
 {
     let properties = folder_props(alloc)?;
     base_def(
@@ -92,7 +94,8 @@ fn folder_type(alloc: Global) -> Result<TypeDef, AllocError>
 }
 
 fn relationship_type(alloc: Global) -> Result<TypeDef, AllocError>
-    ensures { IfOk result (λ t. t ≡ base_def bases.Relationship true false true false NotAllowed (common_props ++ relationship_props)) }
+    ensures { IfOk result (λ t. t ≡ base_def bases.Relationship true false true false NotAllowed
+        (common_props ++ relationship_props)) }
 {
     let properties = relationship_props(alloc)?;
     base_def(
@@ -108,7 +111,8 @@ fn relationship_type(alloc: Global) -> Result<TypeDef, AllocError>
 }
 
 fn policy_type(alloc: Global) -> Result<TypeDef, AllocError>
-    ensures { IfOk result (λ t. t ≡ base_def bases.Policy true false true false NotAllowed (common_props ++ policy_props)) }
+    ensures { IfOk result (λ t. t ≡ base_def bases.Policy true false true false NotAllowed
+        (common_props ++ policy_props)) }
 {
     let properties = policy_props(alloc)?;
     base_def(

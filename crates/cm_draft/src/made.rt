@@ -16,7 +16,6 @@ use cm_link::links::Links;
 use cm_log::log::Log;
 use cm_map::table::Table;
 use cm_objects::objects::Objects;
-use cm_state::lists::Lists;
 use cm_state::parts::Parts;
 use cm_type_list::types::Types;
 use std::alloc::AllocError;
@@ -175,7 +174,8 @@ pub(crate) fn put_log(draft: Draft, log: Log) -> Draft
 
 /// The draft with these types, by which the same objects are folders.
 pub(crate) fn put_types(draft: Draft, types: Arc<Types>) -> Draft
-    requires folders { All (λ x. is_of_base (arc_value types) bases.Folder x.kind ≡ is_of_base draft.types bases.Folder x.kind) draft.objects }
+    requires folders { All (λ x. is_of_base (arc_value types) bases.Folder x.kind
+        ≡ is_of_base draft.types bases.Folder x.kind) draft.objects }
     ensures { result ≡ record draft { types = arc_value types } }
 {
     let parts = draft.parts;

@@ -45,7 +45,8 @@ fn name_of<'a>(series: &'a Table<Series>, objects: &'a Objects, n: Oid) -> &'a s
 
 // The entry of a child in a folder.
 fn entry(alloc: Global, parts: &Parts, folder: Oid, child: Oid) -> Result<FilingEntry, AllocError>
-    ensures { IfOk result (λ e. e ≡ entry_by parts.now.types parts.now.series parts.now.objects (record { folder = folder; child = child })) }
+    ensures { IfOk result (λ e. e ≡ entry_by parts.now.types parts.now.series parts.now.objects
+        (record { folder = folder; child = child })) }
 {
     let objects = objects_of(parts);
     let name = Text::from_str(alloc, name_of(series_of(parts), objects, child))?;
@@ -64,7 +65,8 @@ pub(crate) fn filed(
     folder: Oid,
     child: Oid,
 ) -> Result<Filing, AllocError>
-    ensures { IfOk result (λ f. f ≡ filed_with (entries_of parts.now) (entry_by parts.now.types parts.now.series parts.now.objects (record { folder = folder; child = child }))) }
+    ensures { IfOk result (λ f. f ≡ filed_with (entries_of parts.now)
+        (entry_by parts.now.types parts.now.series parts.now.objects (record { folder = folder; child = child }))) }
 {
     let entry = entry(alloc, parts, folder, child)?;
     let filing = filing_of(parts).with_entry(alloc, entry)?;
@@ -79,7 +81,8 @@ fn retold(
     objects: &Objects,
     n: Oid,
 ) -> Result<Filing, AllocError>
-    ensures { IfOk result (λ f. f ≡ told_anew (entries_of parts.now) n (folder_by parts.now.types objects.now n) (name_by series.now objects.now n)) }
+    ensures { IfOk result (λ f. f ≡ told_anew (entries_of parts.now) n (folder_by parts.now.types objects.now n)
+        (name_by series.now objects.now n)) }
 {
     let name = Text::from_str(alloc, name_of(series, objects, n))?;
     let is_folder = is_folder(parts.types(), objects, n);

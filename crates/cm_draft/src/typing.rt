@@ -13,7 +13,8 @@ use std::sync::Arc;
 impl Draft {
     /// Other types, by which the same objects are folders.
     pub fn with_types(self, alloc: Global, types: Types) -> Result<Draft, AllocError>
-        requires folders { All (λ x. is_of_base types bases.Folder x.kind ≡ is_of_base self.types bases.Folder x.kind) self.objects }
+        requires folders { All (λ x. is_of_base types bases.Folder x.kind
+            ≡ is_of_base self.types bases.Folder x.kind) self.objects }
         ensures { IfOk result (λ d. d ≡ with_types self types) }
     {
         match Arc::new(alloc, types) {

@@ -14,7 +14,7 @@ use cm_base::fail::Fail;
 use cm_base::number::Oid;
 use cm_base::text::Text;
 use cm_map::map::Map;
-use std::alloc::{AllocError, Global};
+use std::alloc::Global;
 
 impl Filing {
     // Whether another child of the target has the name of the child in the source.

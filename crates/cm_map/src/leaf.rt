@@ -8,8 +8,7 @@ ghost use Rattle.cm_map.specs.Parts.{HeadIs, without_key, pointee, within};
 
 use crate::key::Key;
 use crate::places::{between, place};
-use crate::rows::spliced;
-use std::alloc::{AllocError, Global};
+use std::alloc::AllocError;
 use std::cmp::Ordering;
 use std::sync::Arc;
 

@@ -71,7 +71,10 @@ pub(crate) fn leaving(
 }
 
 fn out_of(alloc: Global, draft: Draft, folders: &Map<u64, Oid>, n: Oid) -> Result<Draft, AllocError>
-    ensures { IfOk result (λ d. d ≡ record draft { filed = filter (λ p. not (list_any (λ f. same p.folder f && same p.child n) (map (λ e. e.1) folders.now))) draft.filed }) }
+    ensures { IfOk result (λ d. d ≡ record draft {
+      filed = filter
+          (λ p. not (list_any (λ f. same p.folder f && same p.child n) (map (λ e. e.1) folders.now))) draft.filed;
+    }) }
 {
     let mut left = draft;
     for entry in folders.iter() {
@@ -98,7 +101,10 @@ pub(crate) fn without_pairs(
     draft: Draft,
     leaving: &[Oid],
 ) -> Result<Draft, AllocError>
-    ensures { IfOk result (λ d. d ≡ record draft { filed = filter (λ p. not (list_any (is_pair_of state.now p) leaving.now)) draft.filed }) }
+    ensures { IfOk result (λ d. d ≡ record draft {
+      filed = filter
+          (λ p. not (list_any (is_pair_of state.now p) leaving.now)) draft.filed;
+    }) }
 {
     let mut left = draft;
     for n in leaving {

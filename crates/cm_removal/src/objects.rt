@@ -27,7 +27,10 @@ pub(crate) fn without_contents(
     draft: Draft,
     gone: &[Oid],
 ) -> Result<Draft, AllocError>
-    ensures { IfOk result (λ d. d ≡ record draft { contents = filter (λ c. not (among gone.now c.of)) draft.contents }) }
+    ensures { IfOk result (λ d. d ≡ record draft {
+      contents = filter
+          (λ c. not (among gone.now c.of)) draft.contents;
+    }) }
 {
     let mut left = draft;
     for n in gone {

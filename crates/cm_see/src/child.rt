@@ -19,7 +19,8 @@ fn add_read<'a>(
     user: &Text,
     n: Oid,
 ) -> Result<(), AllocError>
-    ensures { OnOk result (map pointee all.new.items ≡ map pointee all.old.items ++ option_to_list (read_at state.now user.now n)) }
+    ensures { OnOk result (map pointee all.new.items
+        ≡ map pointee all.old.items ++ option_to_list (read_at state.now user.now n)) }
 {
     match read_at(state, user, n) {
         Some(x) => {

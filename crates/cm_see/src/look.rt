@@ -13,20 +13,25 @@ ghost use Rattle.cm_see.specs.Shown.{shown_object};
 
 /// In two repositories in which the caller sees the same, an id names the same object for him.
 pub fn named_of_seen()
-    ensures { (r : Repository) (u id : List ℕ) → IsWellFormed r → OfSeen (λ s. read_named s u id) r u (read_named r u id) }
+    ensures { (r : Repository) (u id : List ℕ) → IsWellFormed r
+        → OfSeen (λ s. read_named s u id) r u (read_named r u id) }
 {}
 
 /// In two repositories in which the caller sees the same, a path leads him to the same object.
 pub fn path_of_seen()
-    ensures { (r : Repository) (u : List ℕ) (names : List (List ℕ)) → IsWellFormed r → OfSeen (λ s. at_path s u names) r u (at_path r u names) }
+    ensures { (r : Repository) (u : List ℕ) (names : List (List ℕ)) → IsWellFormed r
+        → OfSeen (λ s. at_path s u names) r u (at_path r u names) }
 {}
 
 /// In two repositories in which the caller sees the same, a folder that he reads has the same children for him.
 pub fn children_of_seen()
-    ensures { (r : Repository) (u : List ℕ) (place : Place) (f : Object) → IsWellFormed r → addressed r u place ≡ Some f → OfSeen (λ s. children_of s u f.id) r u (children_of r u f.id) }
+    ensures { (r : Repository) (u : List ℕ) (place : Place) (f : Object) → IsWellFormed r → addressed r u place ≡ Some f
+        → OfSeen (λ s. children_of s u f.id) r u (children_of r u f.id) }
 {}
 
 /// In two repositories in which the caller sees the same, an object that he reads is shown to him with the same properties.
 pub fn shown_of_seen()
-    ensures { (r : Repository) (u : List ℕ) (place : Place) (f : PropertyFilter) (succinct : Bool) (x : Object) → IsWellFormed r → addressed r u place ≡ Some x → OfSeen (λ s. shown_object s u f succinct x) r u (shown_object r u f succinct x) }
+    ensures { (r : Repository) (u : List ℕ) (place : Place) (f : PropertyFilter) (succinct : Bool) (x : Object)
+        → IsWellFormed r → addressed r u place ≡ Some x
+        → OfSeen (λ s. shown_object s u f succinct x) r u (shown_object r u f succinct x) }
 {}

@@ -60,7 +60,8 @@ fn with_step(mut text: String, name: &str) -> Result<String, AllocError>
 
 // The steps from the root to the folder, each behind a slash.
 fn path_by(alloc: Global, state: &State, levels: u64, folder: Oid) -> Result<String, AllocError>
-    ensures { IfOk result (λ t. string_bytes t ≡ path_by levels (parent_in state.now.filed) (entry_name state.now) folder) }
+    ensures { IfOk result (λ t. string_bytes t
+        ≡ path_by levels (parent_in state.now.filed) (entry_name state.now) folder) }
 {
     if levels == 0 || folder == ROOT {
         return Ok(String::new(alloc));

@@ -15,6 +15,14 @@ pub fn run_is_lawful<M: Machine>()
 /// The entries of a session past the beginning are those that it had before the events, and then its accepted writes, each once, in its order.
 pub fn accepted_writes_stand_once<M: Machine>()
     ensures { (s : ℕ) (w : World M.State M.Call) (events : List (Event M.Call M.Question)) → IsLawful M.next w
-        → map request_of (own w.base s (run (record { next = M.next; answer = M.answer; number = M.number }) w events).journal)
-        ≡ map request_of (own w.base s w.journal) ++ accepted s events (answers (record { next = M.next; answer = M.answer; number = M.number }) w events) }
+        → map request_of (own w.base s (run (record {
+          next = M.next;
+          answer = M.answer;
+          number = M.number;
+        }) w events).journal)
+        ≡ map request_of (own w.base s w.journal) ++ accepted s events (answers (record {
+          next = M.next;
+          answer = M.answer;
+          number = M.number;
+        }) w events) }
 {}

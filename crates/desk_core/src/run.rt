@@ -18,8 +18,10 @@ fn told_step<M: Machine>(
     core: &mut Core<M>,
     event: Event<M::Call, M::Question>,
 ) -> Result<Result<Done<M::Shown>, CoreStop<M::Cause>>, AllocError>
-    ensures told { IfOk result (λ done. done ≡ told (record { next = M.next; answer = M.answer; number = M.number }) core.old event) }
-    ensures world { OnOk result (core.new ≡ happens (record { next = M.next; answer = M.answer; number = M.number }) core.old event) }
+    ensures told { IfOk result (λ done. done
+        ≡ told (record { next = M.next; answer = M.answer; number = M.number }) core.old event) }
+    ensures world { OnOk result (core.new ≡ happens
+        (record { next = M.next; answer = M.answer; number = M.number }) core.old event) }
     ensures memory { OnErr result (core.new ≡ core.old) }
 {
     match core.step(alloc, event) {
@@ -38,9 +40,12 @@ pub fn run_events<M: Machine>(
     core: &mut Core<M>,
     events: Items<Event<M::Call, M::Question>>,
 ) -> Result<Dones<M::Shown, M::Cause>, AllocError>
-    ensures answers { IfOk result (λ dones. dones ≡ answers (record { next = M.next; answer = M.answer; number = M.number }) core.old events) }
-    ensures world { IfOk result (λ _. core.new ≡ run (record { next = M.next; answer = M.answer; number = M.number }) core.old events) }
-    ensures memory { OnErr result (StoodAfter (record { next = M.next; answer = M.answer; number = M.number }) core.old events core.new) }
+    ensures answers { IfOk result (λ dones. dones
+        ≡ answers (record { next = M.next; answer = M.answer; number = M.number }) core.old events) }
+    ensures world { IfOk result (λ _. core.new
+        ≡ run (record { next = M.next; answer = M.answer; number = M.number }) core.old events) }
+    ensures memory { OnErr result (StoodAfter
+        (record { next = M.next; answer = M.answer; number = M.number }) core.old events core.new) }
 {
     let mut dones = Items::new(alloc);
     for event in events.into_vec() {

@@ -42,7 +42,12 @@ impl<M: Machine> Model for Core<M> {
 impl<M: Machine> Core<M> {
     /// A core that begins with a version. No session was entered.
     pub fn new(alloc: Global, version: Version<M>) -> Result<Core<M>, AllocError>
-        ensures { IfOk result (λ c. c ≡ record { opening = version.opening; base = length version.journal; journal = version.journal; held = [] }) }
+        ensures { IfOk result (λ c. c ≡ record {
+          opening = version.opening;
+          base = length version.journal;
+          journal = version.journal;
+          held = [];
+        }) }
     {
         let base = version.len();
         let begin = Arc::new(alloc, version)?;
@@ -72,7 +77,8 @@ impl<M: Machine> Core<M> {
 
     // How many entries a session has, or none where it wasn't entered.
     fn serial_of(&self, session: u32) -> Option<u64>
-        ensures { MatchOption result (holds self.now session ≡ None) (λ n. (k : ℕ) × (holds self.now session ≡ Some k) × (n ≡ length (own self.now.base session self.now.journal))) }
+        ensures { MatchOption result (holds self.now session ≡ None) (λ n. (k : ℕ) × (holds self.now session ≡ Some k)
+            × (n ≡ length (own self.now.base session self.now.journal))) }
     {
         match self.held.get(&(session as u64)) {
             Some(held) => Some(held.serial),
@@ -82,7 +88,9 @@ impl<M: Machine> Core<M> {
 
     // The version that a session holds, or none where it wasn't entered.
     fn version_of(&self, session: u32) -> Option<&Version<M>>
-        ensures { MatchOption result (holds self.now session ≡ None) (λ v. (holds self.now session ≡ Some (length v.now.journal)) × (v.now.opening ≡ self.now.opening) × (v.now.journal ≡ take (length v.now.journal) self.now.journal)) }
+        ensures { MatchOption result (holds self.now session
+            ≡ None) (λ v. (holds self.now session ≡ Some (length v.now.journal)) × (v.now.opening ≡ self.now.opening)
+            × (v.now.journal ≡ take (length v.now.journal) self.now.journal)) }
     {
         match self.held.get(&(session as u64)) {
             Some(held) => Some(&*held.seen),
@@ -92,7 +100,8 @@ impl<M: Machine> Core<M> {
 
     // A session begins. It holds what the core began with.
     fn enter(&mut self, alloc: Global, session: u32) -> Result<Done<M::Shown>, CoreStop<M::Cause>>
-        ensures { Stepped (record { next = M.next; answer = M.answer; number = M.number }) self.old (Enter session) result self.new }
+        ensures { Stepped (record { next = M.next; answer = M.answer; number = M.number }) self.old
+            (Enter session) result self.new }
     {
         match self.serial_of(session) {
             Some(_) => return Err(CoreStop::Known),
@@ -106,7 +115,8 @@ impl<M: Machine> Core<M> {
 
     // A session looks at the whole.
     fn look(&mut self, alloc: Global, session: u32) -> Result<Done<M::Shown>, CoreStop<M::Cause>>
-        ensures { Stepped (record { next = M.next; answer = M.answer; number = M.number }) self.old (Look session) result self.new }
+        ensures { Stepped (record { next = M.next; answer = M.answer; number = M.number }) self.old
+            (Look session) result self.new }
     {
         let serial = match self.serial_of(session) {
             Some(serial) => serial,
@@ -127,7 +137,8 @@ impl<M: Machine> Core<M> {
         moment: Moment,
         call: M::Call,
     ) -> Result<Done<M::Shown>, CoreStop<M::Cause>>
-        ensures { Stepped (record { next = M.next; answer = M.answer; number = M.number }) self.old (Write session user moment call) result self.new }
+        ensures { Stepped (record { next = M.next; answer = M.answer; number = M.number }) self.old
+            (Write session user moment call) result self.new }
     {
         let serial = match self.serial_of(session) {
             Some(serial) => serial,
@@ -168,7 +179,8 @@ impl<M: Machine> Core<M> {
         user: &Text,
         question: &M::Question,
     ) -> Result<Done<M::Shown>, CoreStop<M::Cause>>
-        ensures { Stepped (record { next = M.next; answer = M.answer; number = M.number }) self.now (Ask session user.now question.now) result self.now }
+        ensures { Stepped (record { next = M.next; answer = M.answer; number = M.number }) self.now
+            (Ask session user.now question.now) result self.now }
     {
         let version = match self.version_of(session) {
             Some(version) => version,
@@ -188,7 +200,11 @@ impl<M: Machine> Core<M> {
         alloc: Global,
         event: Event<M::Call, M::Question>,
     ) -> Result<Done<M::Shown>, CoreStop<M::Cause>>
-        ensures { Stepped (record { next = M.next; answer = M.answer; number = M.number }) self.old event result self.new }
+        ensures { Stepped (record {
+          next = M.next;
+          answer = M.answer;
+          number = M.number;
+        }) self.old event result self.new }
     {
         match event {
             Event::Enter { session } => self.enter(alloc, session),
@@ -216,7 +232,8 @@ fn with_held<M: Machine>(
     version: &Arc<Version<M>>,
     serial: u64,
 ) -> Result<Map<u64, Held<M>>, AllocError>
-    ensures { IfOk result (λ all. all ≡ put nat_cmp session (record { seen = arc_value version.now; serial = serial }) held.now) }
+    ensures { IfOk result (λ all. all ≡ put nat_cmp session
+        (record { seen = arc_value version.now; serial = serial }) held.now) }
 {
     let seen = Arc::try_clone(version)?;
     let all = held.with(alloc, session as u64, Held { seen, serial })?;

@@ -28,13 +28,21 @@ impl<M: Machine> Model for Pass<M> {
 
     ghost view = { λ p. record {
       table = p.place.table_id;
-      known = record { opening = (arc_value p.began).opening; base = p.place.me.0.start; session = p.place.me.0.number; seen = p.place.me.0.seen; own = p.place.me.0.own };
+      known = record {
+        opening = (arc_value p.began).opening;
+        base = p.place.me.0.start;
+        session = p.place.me.0.number;
+        seen = p.place.me.0.seen;
+        own = p.place.me.0.own;
+      };
       made = p.place.me.0.made;
       ended = p.place.me.0.ended;
     } };
 
-    ghost invariant = { λ p. (p.place.me.1 ≡ []) × IsIdle p.place.me.0 × (p.place.me.0.live ≡ 1) × (p.place.me.0.told ≡ []) × (p.place.me.0.origin ≡ Some (arc_value p.began).opening)
-        × (p.number ≡ p.place.me.0.number) × (p.seen ≡ length p.place.me.0.seen) × (p.own ≡ length p.place.me.0.own) × (p.made ≡ p.place.me.0.made) };
+    ghost invariant = { λ p. (p.place.me.1 ≡ []) × IsIdle p.place.me.0 × (p.place.me.0.live ≡ 1)
+        × (p.place.me.0.told ≡ []) × (p.place.me.0.origin ≡ Some (arc_value p.began).opening)
+        × (p.number ≡ p.place.me.0.number) × (p.seen ≡ length p.place.me.0.seen) × (p.own ≡ length p.place.me.0.own)
+        × (p.made ≡ p.place.me.0.made) };
 }
 
 impl<M: Machine> Pass<M> {

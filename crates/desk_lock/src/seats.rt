@@ -41,7 +41,8 @@ pub(crate) fn hear<M: Machine>(top: &Top<M>, place: &mut Place<M>, from: &mut Pl
     requires ready { (place.old.me.0.live ≡ 1) × IsIdle place.old.me.0 × IsIdle from.old.me.0 × (from.old.me.1 ≡ []) }
     ensures seat { (place.new.table_id ≡ place.old.table_id) × (place.new.id ≡ place.old.id)
         × (from.new.table_id ≡ from.old.table_id) × (from.new.id ≡ from.old.id) × (from.new.me ≡ from.old.me) }
-    ensures seen { (n : ℕ) × caught (step 2 0 0 0 none) (told_by place.old.me.0 from.old.me.0, place.old.me.1) n place.new.me }
+    ensures seen { (n : ℕ) × caught (step 2 0 0 0 none)
+        (told_by place.old.me.0 from.old.me.0, place.old.me.1) n place.new.me }
 {
     let helper = top.split_seat::<Help>(from);
     top.join_seat::<Tell>(place, helper);
@@ -55,7 +56,8 @@ pub(crate) fn take_in<M: Machine>(top: &Top<M>, place: &mut Place<M>, gone: Plac
     requires ready { (place.old.me.0.live ≡ 1) × IsIdle place.old.me.0 × (gone.me.0.live ≡ 1) × (gone.me.0.made ≡ 0)
         × IsIdle gone.me.0 × (gone.me.1 ≡ []) }
     ensures seat { (place.new.table_id ≡ place.old.table_id) × (place.new.id ≡ place.old.id) }
-    ensures seen { (n : ℕ) × caught (step 2 0 0 0 none) (took_in place.old.me.0 gone.me.0, place.old.me.1) n place.new.me }
+    ensures seen { (n : ℕ) × caught (step 2 0 0 0 none)
+        (took_in place.old.me.0 gone.me.0, place.old.me.1) n place.new.me }
 {
     top.join_seat::<TakeIn>(place, gone);
     catch_up(top, place);

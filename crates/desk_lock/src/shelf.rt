@@ -98,7 +98,13 @@ fn store_number<M: Machine>(
     requires number { length (arc_value version.now).journal ≡ place.old.me.0.start + number }
     ensures seat { (place.new.table_id ≡ place.old.table_id) × (place.new.id ≡ place.old.id) }
     ensures stored { place.new.me
-        ≡ (record place.old.me.0 { turn = HasTurn (arc_value version.now).journal; shelf = HasShelf (arc_value version.now).journal }, place.old.me.1) }
+        ≡ (
+          record place.old.me.0 {
+            turn = HasTurn (arc_value version.now).journal;
+            shelf = HasShelf (arc_value version.now).journal;
+          },
+          place.old.me.1,
+        ) }
 {
     let _ = version;
     top.store::<StoreShelf<M>>(place, SHELF_NUMBER, number);

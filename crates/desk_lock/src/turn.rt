@@ -106,7 +106,15 @@ fn commit<M: Machine>(top: &Top<M>, place: &mut Place<M>, version: Arc<Version<M
     ensures seat { (place.new.table_id ≡ place.old.table_id) × (place.new.id ≡ place.old.id) }
     ensures number { length (arc_value version).journal ≡ place.old.me.0.start + result }
     ensures done { place.new.me
-        ≡ (record place.old.me.0 { seen = (arc_value version).journal; told = []; own = by place.old.me.0.number (drop place.old.me.0.start (arc_value version).journal); turn = Committed (arc_value version).journal }, (0, Some version) ∷ []) }
+        ≡ (
+          record place.old.me.0 {
+            seen = (arc_value version).journal;
+            told = [];
+            own = by place.old.me.0.number (drop place.old.me.0.start (arc_value version).journal);
+            turn = Committed (arc_value version).journal;
+          },
+          (0, Some version) ∷ [],
+        ) }
 {
     let _len = version.len();
     let None = top.exchange(place, HOME, Some(version)) else {
@@ -134,7 +142,15 @@ pub(crate) fn publish<M: Machine, R: Wait>(
         × (e.serial ≡ length place.old.me.0.own) }
     ensures seat { (place.new.table_id ≡ place.old.table_id) × (place.new.id ≡ place.old.id) }
     ensures idle { place.new.me
-        ≡ (record place.old.me.0 { seen = (arc_value version).journal; told = []; own = by place.old.me.0.number (drop place.old.me.0.start (arc_value version).journal); turn = NoTurn }, []) }
+        ≡ (
+          record place.old.me.0 {
+            seen = (arc_value version).journal;
+            told = [];
+            own = by place.old.me.0.number (drop place.old.me.0.start (arc_value version).journal);
+            turn = NoTurn;
+          },
+          [],
+        ) }
 {
     let number = commit(top, place, version);
     show(rt, top, queues, place, again, number);

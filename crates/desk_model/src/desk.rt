@@ -37,7 +37,8 @@ pub trait Desk {
     /// The moment of the clock's next word; at a desk that tells no words it is that of some word. No other call takes one.
     fn moment(&mut self, leave: &mut Self::Leave) -> Moment
         ensures of_word { IsOfWord result }
-        ensures word { IfSome (words self.old) (λ w. (result ≡ moment_of (first_word w)) × (words self.new ≡ Some (rest_words w))) }
+        ensures word { IfSome (words self.old) (λ w. (result ≡ moment_of (first_word w))
+            × (words self.new ≡ Some (rest_words w))) }
         ensures aside { aside self.new ≡ aside self.old }
         ensures passes { (p : Self.Pass) → is_of self.old p → is_of self.new p };
 
@@ -53,12 +54,14 @@ pub trait Desk {
         call: <Self::Kind as Machine>::Call,
     ) -> Result<<Self::Kind as Machine>::Shown, Stop<<Self::Kind as Machine>::Cause>>
         requires { is_of self.old pass.old }
-        ensures wrote { Wrote Self.Kind.next Self.Kind.number (known pass.old) least user.now moment call result (known pass.new) }
+        ensures wrote { Wrote Self.Kind.next Self.Kind.number (known pass.old) least user.now moment call result
+            (known pass.new) }
         ensures words { words self.new ≡ words self.old }
         ensures is_of { is_of self.new pass.new }
         ensures place { place pass.new ≡ place pass.old }
         ensures aside { aside self.new ≡ aside self.old }
-        ensures passes { (p : Self.Pass) → (known p).session ≢ (known pass.old).session → is_of self.old p → is_of self.new p };
+        ensures passes { (p : Self.Pass) → (known p).session ≢ (known pass.old).session → is_of self.old p
+            → is_of self.new p };
 
     /// A version whose journal begins with all that the pass had seen.
     fn look(
@@ -67,7 +70,8 @@ pub trait Desk {
         pass: &mut Self::Pass,
     ) -> Result<Snapshot<Self::Kind>, AllocError>
         requires { is_of self.old pass.old }
-        ensures looked { MatchResult result (λ v. Looked (known pass.old) v (known pass.new)) (λ _. known pass.new ≡ known pass.old) }
+        ensures looked { MatchResult result (λ v. Looked (known pass.old) v (known pass.new)) (λ _. known pass.new
+            ≡ known pass.old) }
         ensures words { words self.new ≡ words self.old }
         ensures is_of { is_of self.new pass.new }
         ensures place { place pass.new ≡ place pass.old }
@@ -80,7 +84,8 @@ pub trait Desk {
         ensures { result ≡ (known pass.now).session };
 
     /// The sessions of what a pass of the desk sees past its base.
-    ghost below: { (d : Self) (p : Self.Pass) → is_of d p → SessionsBelow (aside d).sessions (drop (known p).base (known p).seen) };
+    ghost below: { (d : Self) (p : Self.Pass) → is_of d p
+        → SessionsBelow (aside d).sessions (drop (known p).base (known p).seen) };
 
     /// Each pass of a desk is sound.
     ghost sound: { (d : Self) (p : Self.Pass) → is_of d p → IsSound Self.Kind.next (known p) };

@@ -100,13 +100,21 @@ impl<M: Machine, C: Clock> Model for OneDesk<M, C> {
 
     ghost view = { λ d. single_at (arc_value d.version) d.base d.made (C.words d.clock) (C.stands_for d.clock) };
 
-    ghost invariant = { λ d. (d.base ≤ length (arc_value d.version).journal) × SessionsBelow d.made (drop d.base (arc_value d.version).journal) };
+    ghost invariant = { λ d. (d.base ≤ length (arc_value d.version).journal)
+        × SessionsBelow d.made (drop d.base (arc_value d.version).journal) };
 }
 
 impl<M: Machine, C: Clock + Drop> OneDesk<M, C> {
     /// A desk that begins with a version. No pass was made.
     pub fn new(alloc: Global, version: Version<M>, clock: C) -> Result<OneDesk<M, C>, AllocError>
-        ensures { IfOk result (λ d. d ≡ record { opening = version.opening; journal = version.journal; base = length version.journal; made = 0; words = C.words clock; stands_for = C.stands_for clock }) }
+        ensures { IfOk result (λ d. d ≡ record {
+          opening = version.opening;
+          journal = version.journal;
+          base = length version.journal;
+          made = 0;
+          words = C.words clock;
+          stands_for = C.stands_for clock;
+        }) }
     {
         let base = version.len();
         let version = Arc::new(alloc, version)?;
@@ -121,7 +129,9 @@ impl<M: Machine, C: Clock + Drop> OneDesk<M, C> {
     /// A new pass: it has the next number, from 0 on, has seen the whole journal and has no own entries.
     pub fn pass(&mut self) -> Result<OnePass<M>, AllocError>
         requires { self.old.made < 4294967295 }
-        ensures ok { IfOk result (λ p. IsOf M.next self.new p × (p.base ≡ self.old.base) × (p.opening ≡ self.old.opening) × (p.session ≡ self.old.made) × (p.seen ≡ self.old.journal) × (p.own ≡ [])) }
+        ensures ok { IfOk result (λ p. IsOf M.next self.new p × (p.base ≡ self.old.base)
+            × (p.opening ≡ self.old.opening) × (p.session ≡ self.old.made) × (p.seen ≡ self.old.journal)
+            × (p.own ≡ [])) }
         ensures made { OnOk result (self.new ≡ with_made self.old (self.old.made + 1)) }
         ensures passes { OnOk result ((p : Known M.State M.Call) → IsOf M.next self.old p → IsOf M.next self.new p) }
         ensures err { OnErr result (self.new ≡ self.old) }
@@ -192,7 +202,8 @@ impl<M: Machine, C: Clock> Desk for OneDesk<M, C> {
         ensures is_of { IsOf M.next self.new pass.new }
         ensures place { the_place pass.new ≡ the_place pass.old }
         ensures aside { kept_by_calls self.new ≡ kept_by_calls self.old }
-        ensures passes { (p : Known M.State M.Call) → p.session ≢ pass.old.session → IsOf M.next self.old p → IsOf M.next self.new p }
+        ensures passes { (p : Known M.State M.Call) → p.session ≢ pass.old.session → IsOf M.next self.old p
+            → IsOf M.next self.new p }
     {
         self.version.lawful();
         let Ok(seen) = Arc::try_clone(&self.version) else {
@@ -253,7 +264,8 @@ fn next_of<M: Machine>(
     version: &Arc<Version<M>>,
     entry: Entry<M::Call>,
 ) -> Result<(Arc<Version<M>>, Arc<Version<M>>, M::Shown), Halt<M::Cause>>
-    ensures grown { IfOk result (λ r. (arc_value r.0 ≡ grown (arc_value version.now) entry) × (arc_value r.1 ≡ arc_value r.0)) }
+    ensures grown { IfOk result (λ r. (arc_value r.0 ≡ grown (arc_value version.now) entry)
+        × (arc_value r.1 ≡ arc_value r.0)) }
     ensures lawful { IfOk result (λ r. IsLegal M.next (arc_value r.0).opening (arc_value r.0).journal) }
     ensures told { TellsThird (shown_by (M.next (state_of M.next (arc_value version.now)) entry)) result }
 {

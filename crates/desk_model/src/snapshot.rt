@@ -36,7 +36,8 @@ impl<M: Machine> Snapshot<M> {
 
     /// The entry at a place of the journal, none exactly from its length on. It takes no memory.
     pub fn entry(&self, place: u64) -> Option<&Entry<M::Call>>
-        ensures { MatchOption result (length self.now.journal ≤ place) (λ e. slice_get self.now.journal place ≡ Some e.now) }
+        ensures { MatchOption result (length self.now.journal ≤ place) (λ e. slice_get self.now.journal place
+            ≡ Some e.now) }
     {
         self.version.entry(place)
     }

@@ -27,7 +27,8 @@ impl<M: Machine> Model for Version<M> {
 
     ghost view = { λ v. record { opening = arc_value v.opening; journal = v.journal } };
 
-    ghost invariant = { λ v. (arc_value v.state ≡ replay M.next (arc_value v.opening) v.journal) × IsLegal M.next (arc_value v.opening) v.journal };
+    ghost invariant = { λ v. (arc_value v.state ≡ replay M.next (arc_value v.opening) v.journal)
+        × IsLegal M.next (arc_value v.opening) v.journal };
 }
 
 impl<M: Machine> Version<M> {
@@ -87,7 +88,8 @@ impl<M: Machine> Version<M> {
 
     /// The entry at a place of the journal, none exactly from its length on. It takes no memory.
     pub fn entry(&self, place: u64) -> Option<&Entry<M::Call>>
-        ensures { MatchOption result (length self.now.journal ≤ place) (λ e. slice_get self.now.journal place ≡ Some e.now) }
+        ensures { MatchOption result (length self.now.journal ≤ place) (λ e. slice_get self.now.journal place
+            ≡ Some e.now) }
     {
         self.journal.get(place)
     }

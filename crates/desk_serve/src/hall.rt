@@ -45,10 +45,18 @@ pub(crate) fn note<M: Served, H: Host, C: Clock + Drop>(
     seat: Seat<M, H::Link>,
 )
     requires is_of { IsOf M.next lock.now hall.old.pass }
-    requires held { IsHeld (terms M.next M.answer M.number M.call M.user M.least M.closes H.Link.Source.told H.Link.Sink.told users.now (H.left all.now.value)) lock.now place before seat.pass seat.link seat.outcome }
+    requires held { IsHeld
+        (terms M.next M.answer M.number M.call M.user M.least M.closes H.Link.Source.told H.Link.Sink.told users.now
+        (H.left all.now.value)) lock.now place before seat.pass seat.link seat.outcome }
     requires room { vec_len hall.old.ended < vec_capacity hall.old.ended }
     ensures keeps { (held : ℕ → ℕ) (running spare n : ℕ)
-        → Keeps (terms M.next M.answer M.number M.call M.user M.least M.closes H.Link.Source.told H.Link.Sink.told users.now (H.left all.now.value)) lock.now hall.old.pass hall.old.ended.items (and_at place held) (running + 1) spare n → Keeps (terms M.next M.answer M.number M.call M.user M.least M.closes H.Link.Source.told H.Link.Sink.told users.now (H.left all.now.value)) lock.now hall.new.pass hall.new.ended.items held running spare n }
+        → Keeps
+        (terms M.next M.answer M.number M.call M.user M.least M.closes H.Link.Source.told H.Link.Sink.told users.now
+        (H.left all.now.value)) lock.now hall.old.pass hall.old.ended.items (and_at place held)
+        (running + 1) spare n
+        → Keeps
+        (terms M.next M.answer M.number M.call M.user M.least M.closes H.Link.Source.told H.Link.Sink.told users.now
+        (H.left all.now.value)) lock.now hall.new.pass hall.new.ended.items held running spare n }
     ensures running { hall.new.running ≡ hall.old.running }
     ensures room { (vec_len hall.new.ended ≡ vec_len hall.old.ended + 1)
         × (vec_capacity hall.new.ended ≡ vec_capacity hall.old.ended) }
@@ -82,10 +90,19 @@ fn settle<M: Served, H: Host, C: Clock + Drop, R: Threads>(
     row: Row<M, H::Link, C>,
 )
     requires is_of { IsOf M.next lock.now hall.old.pass }
-    requires runs { Runs (terms M.next M.answer M.number M.call M.user M.least M.closes H.Link.Source.told H.Link.Sink.told users.now (H.left all.now.value)) lock.now row.handle.promise.lock.value row.handle.promise.users.value row.handle.promise.pass.value row.handle.promise.link.value row.place row.before }
+    requires runs { Runs (terms M.next M.answer M.number M.call M.user M.least M.closes H.Link.Source.told
+        H.Link.Sink.told users.now (H.left all.now.value)) lock.now row.handle.promise.lock.value
+        row.handle.promise.users.value row.handle.promise.pass.value row.handle.promise.link.value row.place
+        row.before }
     requires room { vec_len hall.old.ended < vec_capacity hall.old.ended }
     ensures keeps { (held : ℕ → ℕ) (running spare n : ℕ)
-        → Keeps (terms M.next M.answer M.number M.call M.user M.least M.closes H.Link.Source.told H.Link.Sink.told users.now (H.left all.now.value)) lock.now hall.old.pass hall.old.ended.items (and_at row.place held) (running + 1) spare n → Keeps (terms M.next M.answer M.number M.call M.user M.least M.closes H.Link.Source.told H.Link.Sink.told users.now (H.left all.now.value)) lock.now hall.new.pass hall.new.ended.items held running spare n }
+        → Keeps
+        (terms M.next M.answer M.number M.call M.user M.least M.closes H.Link.Source.told H.Link.Sink.told users.now
+        (H.left all.now.value)) lock.now hall.old.pass hall.old.ended.items (and_at row.place held)
+        (running + 1) spare n
+        → Keeps
+        (terms M.next M.answer M.number M.call M.user M.least M.closes H.Link.Source.told H.Link.Sink.told users.now
+        (H.left all.now.value)) lock.now hall.new.pass hall.new.ended.items held running spare n }
     ensures running { hall.new.running ≡ hall.old.running }
     ensures room { (vec_len hall.new.ended ≡ vec_len hall.old.ended + 1)
         × (vec_capacity hall.new.ended ≡ vec_capacity hall.old.ended) }
@@ -129,11 +146,23 @@ pub(crate) fn join_one<M: Served, H: Host, C: Clock + Drop, R: Threads + Wait>(
     hall: &mut Hall<M, H::Link, C>,
     place: u64,
 )
-    requires keeps { Keeps (terms M.next M.answer M.number M.call M.user M.least M.closes H.Link.Source.told H.Link.Sink.told users.now (H.left all.now.value)) lock.now hall.old.pass hall.old.ended.items (held_by (λ r. r.place) hall.old.running.items) (vec_len hall.old.running) 0 place }
-    requires rows { All (λ r. Runs (terms M.next M.answer M.number M.call M.user M.least M.closes H.Link.Source.told H.Link.Sink.told users.now (H.left all.now.value)) lock.now r.handle.promise.lock.value r.handle.promise.users.value r.handle.promise.pass.value r.handle.promise.link.value r.place r.before) hall.old.running.items }
+    requires keeps { Keeps
+        (terms M.next M.answer M.number M.call M.user M.least M.closes H.Link.Source.told H.Link.Sink.told users.now
+        (H.left all.now.value)) lock.now hall.old.pass hall.old.ended.items
+        (held_by (λ r. r.place) hall.old.running.items) (vec_len hall.old.running) 0 place }
+    requires rows { All (λ r. Runs (terms M.next M.answer M.number M.call M.user M.least M.closes H.Link.Source.told
+        H.Link.Sink.told users.now (H.left all.now.value)) lock.now r.handle.promise.lock.value
+        r.handle.promise.users.value r.handle.promise.pass.value r.handle.promise.link.value r.place r.before)
+        hall.old.running.items }
     requires room { vec_len hall.old.ended + vec_len hall.old.running ≤ vec_capacity hall.old.ended }
-    ensures keeps { Keeps (terms M.next M.answer M.number M.call M.user M.least M.closes H.Link.Source.told H.Link.Sink.told users.now (H.left all.now.value)) lock.now hall.new.pass hall.new.ended.items (held_by (λ r. r.place) hall.new.running.items) (vec_len hall.new.running) 0 place }
-    ensures rows { All (λ r. Runs (terms M.next M.answer M.number M.call M.user M.least M.closes H.Link.Source.told H.Link.Sink.told users.now (H.left all.now.value)) lock.now r.handle.promise.lock.value r.handle.promise.users.value r.handle.promise.pass.value r.handle.promise.link.value r.place r.before) hall.new.running.items }
+    ensures keeps { Keeps
+        (terms M.next M.answer M.number M.call M.user M.least M.closes H.Link.Source.told H.Link.Sink.told users.now
+        (H.left all.now.value)) lock.now hall.new.pass hall.new.ended.items
+        (held_by (λ r. r.place) hall.new.running.items) (vec_len hall.new.running) 0 place }
+    ensures rows { All (λ r. Runs (terms M.next M.answer M.number M.call M.user M.least M.closes H.Link.Source.told
+        H.Link.Sink.told users.now (H.left all.now.value)) lock.now r.handle.promise.lock.value
+        r.handle.promise.users.value r.handle.promise.pass.value r.handle.promise.link.value r.place r.before)
+        hall.new.running.items }
     ensures room { vec_len hall.new.ended + vec_len hall.new.running ≤ vec_capacity hall.new.ended }
     ensures fewer { vec_len hall.new.running + 1 ≡ vec_len hall.old.running }
 {
@@ -154,10 +183,21 @@ pub(crate) fn join_all<M: Served, H: Host, C: Clock + Drop, R: Threads>(
     spare: &Option<Pass<M>>,
     end: &HostEnd,
 )
-    requires stopped { IsStopped (terms M.next M.answer M.number M.call M.user M.least M.closes H.Link.Source.told H.Link.Sink.told users.now (H.left all.now.value)) lock.now hall.old.pass hall.old.ended.items (held_by (λ r. r.place) hall.old.running.items) (vec_len hall.old.running) (H.told all.now.value) (H.told host.now) (H.left host.now) spare.now end.now }
-    requires rows { All (λ r. Runs (terms M.next M.answer M.number M.call M.user M.least M.closes H.Link.Source.told H.Link.Sink.told users.now (H.left all.now.value)) lock.now r.handle.promise.lock.value r.handle.promise.users.value r.handle.promise.pass.value r.handle.promise.link.value r.place r.before) hall.old.running.items }
+    requires stopped { IsStopped
+        (terms M.next M.answer M.number M.call M.user M.least M.closes H.Link.Source.told H.Link.Sink.told users.now
+        (H.left all.now.value)) lock.now hall.old.pass hall.old.ended.items
+        (held_by (λ r. r.place) hall.old.running.items) (vec_len hall.old.running) (H.told all.now.value)
+        (H.told host.now) (H.left host.now) spare.now end.now }
+    requires rows { All (λ r. Runs (terms M.next M.answer M.number M.call M.user M.least M.closes H.Link.Source.told
+        H.Link.Sink.told users.now (H.left all.now.value)) lock.now r.handle.promise.lock.value
+        r.handle.promise.users.value r.handle.promise.pass.value r.handle.promise.link.value r.place r.before)
+        hall.old.running.items }
     requires room { vec_len hall.old.ended + vec_len hall.old.running ≤ vec_capacity hall.old.ended }
-    ensures stopped { IsStopped (terms M.next M.answer M.number M.call M.user M.least M.closes H.Link.Source.told H.Link.Sink.told users.now (H.left all.now.value)) lock.now hall.new.pass hall.new.ended.items (held_by (λ r. r.place) hall.new.running.items) (vec_len hall.new.running) (H.told all.now.value) (H.told host.now) (H.left host.now) spare.now end.now }
+    ensures stopped { IsStopped
+        (terms M.next M.answer M.number M.call M.user M.least M.closes H.Link.Source.told H.Link.Sink.told users.now
+        (H.left all.now.value)) lock.now hall.new.pass hall.new.ended.items
+        (held_by (λ r. r.place) hall.new.running.items) (vec_len hall.new.running) (H.told all.now.value)
+        (H.told host.now) (H.left host.now) spare.now end.now }
     ensures none_run { vec_len hall.new.running ≡ 0 }
 {
     let _ = host;
@@ -178,9 +218,16 @@ pub(crate) fn take_in_spare<M: Served, H: Host, C: Clock + Drop>(
     spare: Option<Pass<M>>,
     end: HostEnd,
 )
-    requires stopped { IsStopped (terms M.next M.answer M.number M.call M.user M.least M.closes H.Link.Source.told H.Link.Sink.told users.now (H.left all.now.value)) lock.now hall.old.pass hall.old.ended.items (held_by (λ r. r.place) hall.old.running.items) (vec_len hall.old.running) (H.told all.now.value) (H.told host.now) (H.left host.now) spare end }
+    requires stopped { IsStopped
+        (terms M.next M.answer M.number M.call M.user M.least M.closes H.Link.Source.told H.Link.Sink.told users.now
+        (H.left all.now.value)) lock.now hall.old.pass hall.old.ended.items
+        (held_by (λ r. r.place) hall.old.running.items) (vec_len hall.old.running) (H.told all.now.value)
+        (H.told host.now) (H.left host.now) spare end }
     requires none_run { vec_len hall.old.running ≡ 0 }
-    ensures { IsOverAll (terms M.next M.answer M.number M.call M.user M.least M.closes H.Link.Source.told H.Link.Sink.told users.now (H.left all.now.value)) lock.now hall.new.pass hall.new.ended.items (H.told all.now.value) (H.told host.now) (H.left host.now) end }
+    ensures { IsOverAll
+        (terms M.next M.answer M.number M.call M.user M.least M.closes H.Link.Source.told H.Link.Sink.told users.now
+        (H.left all.now.value)) lock.now hall.new.pass hall.new.ended.items (H.told all.now.value) (H.told host.now)
+        (H.left host.now) end }
 {
     let _ = users;
     let _ = all;

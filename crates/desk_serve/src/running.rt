@@ -25,7 +25,8 @@ pub(crate) struct Kept<M: Machine, L, C: Clock> {
 }
 
 impl<M: Served, L: Link, C: Clock> Promise<Seat<M, L>> for Kept<M, L, C> {
-    ghost kept_by = { λ p r. IsOver (terms M.next M.answer M.number M.call M.user M.least M.closes L.Source.told L.Sink.told p.users.value None) p.lock.value p.pass.value p.link.value r.pass r.link r.outcome };
+    ghost kept_by = { λ p r. IsOver (terms M.next M.answer M.number M.call M.user M.least M.closes L.Source.told
+        L.Sink.told p.users.value None) p.lock.value p.pass.value p.link.value r.pass r.link r.outcome };
 }
 
 /// A session that runs.
@@ -60,7 +61,9 @@ where
     requires { IsFresh M.next lock.now pass }
     ensures running { IfOk result (λ r. (r.promise.lock.value ≡ lock.now) × (r.promise.users.value ≡ users.now)
         × (r.promise.pass.value ≡ pass) × (r.promise.link.value ≡ link)) }
-    ensures done { IfErr result (λ r. IsOver (terms M.next M.answer M.number M.call M.user M.least M.closes L.Source.told L.Sink.told users.now None) lock.now pass link r.pass r.link r.outcome) }
+    ensures done { IfErr result (λ r. IsOver
+        (terms M.next M.answer M.number M.call M.user M.least M.closes L.Source.told L.Sink.told users.now None)
+        lock.now pass link r.pass r.link r.outcome) }
 {
     let promise: Kept<M, L, C> = Kept {
         lock: Snapshot::of(lock),
@@ -70,7 +73,8 @@ where
     };
     let run = move || -> Seat<M, L>
         requires { IsFresh M.next lock.now pass }
-        ensures { IsOver (terms M.next M.answer M.number M.call M.user M.least M.closes L.Source.told L.Sink.told users.entry.now None) lock.entry.now pass link result.pass result.link result.outcome }
+        ensures { IsOver (terms M.next M.answer M.number M.call M.user M.least M.closes L.Source.told L.Sink.told
+            users.entry.now None) lock.entry.now pass link result.pass result.link result.outcome }
     {
         let seat = seated(rt, alloc, lock, users, gate, pass, link);
         marks.set(rt, row);

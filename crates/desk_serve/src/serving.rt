@@ -52,13 +52,25 @@ fn join_down<M: Served, H: Host, C: Clock + Drop, R: Threads + Wait>(
     hall: &mut Hall<M, H::Link, C>,
     place: u64,
 )
-    requires keeps { Keeps (terms M.next M.answer M.number M.call M.user M.least M.closes H.Link.Source.told H.Link.Sink.told users.now (H.left all.now.value)) lock.now hall.old.pass hall.old.ended.items (held_by (λ r. r.place) hall.old.running.items) (vec_len hall.old.running) 0 place }
-    requires rows { All (λ r. Runs (terms M.next M.answer M.number M.call M.user M.least M.closes H.Link.Source.told H.Link.Sink.told users.now (H.left all.now.value)) lock.now r.handle.promise.lock.value r.handle.promise.users.value r.handle.promise.pass.value r.handle.promise.link.value r.place r.before) hall.old.running.items }
+    requires keeps { Keeps
+        (terms M.next M.answer M.number M.call M.user M.least M.closes H.Link.Source.told H.Link.Sink.told users.now
+        (H.left all.now.value)) lock.now hall.old.pass hall.old.ended.items
+        (held_by (λ r. r.place) hall.old.running.items) (vec_len hall.old.running) 0 place }
+    requires rows { All (λ r. Runs (terms M.next M.answer M.number M.call M.user M.least M.closes H.Link.Source.told
+        H.Link.Sink.told users.now (H.left all.now.value)) lock.now r.handle.promise.lock.value
+        r.handle.promise.users.value r.handle.promise.pass.value r.handle.promise.link.value r.place r.before)
+        hall.old.running.items }
     requires room { vec_len hall.old.ended + vec_len hall.old.running ≤ vec_capacity hall.old.ended }
     requires workers { workers ≤ most_workers }
     requires few { vec_len hall.old.running ≤ most_workers }
-    ensures keeps { Keeps (terms M.next M.answer M.number M.call M.user M.least M.closes H.Link.Source.told H.Link.Sink.told users.now (H.left all.now.value)) lock.now hall.new.pass hall.new.ended.items (held_by (λ r. r.place) hall.new.running.items) (vec_len hall.new.running) 0 place }
-    ensures rows { All (λ r. Runs (terms M.next M.answer M.number M.call M.user M.least M.closes H.Link.Source.told H.Link.Sink.told users.now (H.left all.now.value)) lock.now r.handle.promise.lock.value r.handle.promise.users.value r.handle.promise.pass.value r.handle.promise.link.value r.place r.before) hall.new.running.items }
+    ensures keeps { Keeps
+        (terms M.next M.answer M.number M.call M.user M.least M.closes H.Link.Source.told H.Link.Sink.told users.now
+        (H.left all.now.value)) lock.now hall.new.pass hall.new.ended.items
+        (held_by (λ r. r.place) hall.new.running.items) (vec_len hall.new.running) 0 place }
+    ensures rows { All (λ r. Runs (terms M.next M.answer M.number M.call M.user M.least M.closes H.Link.Source.told
+        H.Link.Sink.told users.now (H.left all.now.value)) lock.now r.handle.promise.lock.value
+        r.handle.promise.users.value r.handle.promise.pass.value r.handle.promise.link.value r.place r.before)
+        hall.new.running.items }
     ensures room { vec_len hall.new.ended + vec_len hall.new.running ≤ vec_capacity hall.new.ended }
     ensures few { vec_len hall.new.running < most_workers }
 {
@@ -78,13 +90,25 @@ fn make_room<M: Served, H: Host, C: Clock + Drop, R: Threads + Wait>(
     hall: &mut Hall<M, H::Link, C>,
     place: u64,
 ) -> bool
-    requires keeps { Keeps (terms M.next M.answer M.number M.call M.user M.least M.closes H.Link.Source.told H.Link.Sink.told users.now (H.left all.now.value)) lock.now hall.old.pass hall.old.ended.items (held_by (λ r. r.place) hall.old.running.items) (vec_len hall.old.running) 0 place }
-    requires rows { All (λ r. Runs (terms M.next M.answer M.number M.call M.user M.least M.closes H.Link.Source.told H.Link.Sink.told users.now (H.left all.now.value)) lock.now r.handle.promise.lock.value r.handle.promise.users.value r.handle.promise.pass.value r.handle.promise.link.value r.place r.before) hall.old.running.items }
+    requires keeps { Keeps
+        (terms M.next M.answer M.number M.call M.user M.least M.closes H.Link.Source.told H.Link.Sink.told users.now
+        (H.left all.now.value)) lock.now hall.old.pass hall.old.ended.items
+        (held_by (λ r. r.place) hall.old.running.items) (vec_len hall.old.running) 0 place }
+    requires rows { All (λ r. Runs (terms M.next M.answer M.number M.call M.user M.least M.closes H.Link.Source.told
+        H.Link.Sink.told users.now (H.left all.now.value)) lock.now r.handle.promise.lock.value
+        r.handle.promise.users.value r.handle.promise.pass.value r.handle.promise.link.value r.place r.before)
+        hall.old.running.items }
     requires room { vec_len hall.old.ended + vec_len hall.old.running ≤ vec_capacity hall.old.ended }
     requires workers { workers ≤ most_workers }
     requires few { vec_len hall.old.running ≤ most_workers }
-    ensures keeps { Keeps (terms M.next M.answer M.number M.call M.user M.least M.closes H.Link.Source.told H.Link.Sink.told users.now (H.left all.now.value)) lock.now hall.new.pass hall.new.ended.items (held_by (λ r. r.place) hall.new.running.items) (vec_len hall.new.running) 0 place }
-    ensures rows { All (λ r. Runs (terms M.next M.answer M.number M.call M.user M.least M.closes H.Link.Source.told H.Link.Sink.told users.now (H.left all.now.value)) lock.now r.handle.promise.lock.value r.handle.promise.users.value r.handle.promise.pass.value r.handle.promise.link.value r.place r.before) hall.new.running.items }
+    ensures keeps { Keeps
+        (terms M.next M.answer M.number M.call M.user M.least M.closes H.Link.Source.told H.Link.Sink.told users.now
+        (H.left all.now.value)) lock.now hall.new.pass hall.new.ended.items
+        (held_by (λ r. r.place) hall.new.running.items) (vec_len hall.new.running) 0 place }
+    ensures rows { All (λ r. Runs (terms M.next M.answer M.number M.call M.user M.least M.closes H.Link.Source.told
+        H.Link.Sink.told users.now (H.left all.now.value)) lock.now r.handle.promise.lock.value
+        r.handle.promise.users.value r.handle.promise.pass.value r.handle.promise.link.value r.place r.before)
+        hall.new.running.items }
     ensures room { vec_len hall.new.ended + vec_len hall.new.running ≤ vec_capacity hall.new.ended }
     ensures few { vec_len hall.new.running < most_workers }
     ensures more { result ≡ true
@@ -103,9 +127,15 @@ fn new_pass<M: Served, H: Host, C: Clock + Drop>(
     hall: &mut Hall<M, H::Link, C>,
     place: u64,
 ) -> Option<Pass<M>>
-    requires keeps { Keeps (terms M.next M.answer M.number M.call M.user M.least M.closes H.Link.Source.told H.Link.Sink.told users.now (H.left all.now.value)) lock.now hall.old.pass hall.old.ended.items (held_by (λ r. r.place) hall.old.running.items) (vec_len hall.old.running) 0 place }
+    requires keeps { Keeps
+        (terms M.next M.answer M.number M.call M.user M.least M.closes H.Link.Source.told H.Link.Sink.told users.now
+        (H.left all.now.value)) lock.now hall.old.pass hall.old.ended.items
+        (held_by (λ r. r.place) hall.old.running.items) (vec_len hall.old.running) 0 place }
     requires fewer { place < most_links }
-    ensures keeps { KeepsWith (terms M.next M.answer M.number M.call M.user M.least M.closes H.Link.Source.told H.Link.Sink.told users.now (H.left all.now.value)) lock.now hall.new.pass hall.new.ended.items (held_by (λ r. r.place) hall.new.running.items) (vec_len hall.new.running) place result }
+    ensures keeps { KeepsWith
+        (terms M.next M.answer M.number M.call M.user M.least M.closes H.Link.Source.told H.Link.Sink.told users.now
+        (H.left all.now.value)) lock.now hall.new.pass hall.new.ended.items
+        (held_by (λ r. r.place) hall.new.running.items) (vec_len hall.new.running) place result }
     ensures ended { hall.new.ended ≡ hall.old.ended }
     ensures running { hall.new.running ≡ hall.old.running }
 {
@@ -126,10 +156,13 @@ fn next_link<H: Host>(
     place: u64,
 ) -> Result<Option<H::Link>, Failed>
     requires taken { Taken (H.told all.now.value) (H.left all.now.value) (H.told host.old) (H.left host.old) place }
-    ensures link { IfOk result (λ o. MatchOption o (Taken (H.told all.now.value) (H.left all.now.value) (H.told host.new) (H.left host.new) place × (((H.told host.new).given ≡ (H.told host.new).bound) ⊎ NoneLeft (H.left host.new)))
+    ensures link { IfOk result (λ o. MatchOption o
+        (Taken (H.told all.now.value) (H.left all.now.value) (H.told host.new) (H.left host.new) place
+        × (((H.told host.new).given ≡ (H.told host.new).bound) ⊎ NoneLeft (H.left host.new)))
         (λ l. Taken (H.told all.now.value) (H.left all.now.value) (H.told host.new) (H.left host.new) (place + 1)
         × IsGiven (H.left all.now.value) place l × IsNew (H.Link.Source.told l) (H.Link.Sink.told l))) }
-    ensures failed { OnErr result (Taken (H.told all.now.value) (H.left all.now.value) (H.told host.new) (H.left host.new) place × Rose (H.told all.now.value).faults (H.told host.new).faults) }
+    ensures failed { OnErr result (Taken (H.told all.now.value) (H.left all.now.value) (H.told host.new)
+        (H.left host.new) place × Rose (H.told all.now.value).faults (H.told host.new).faults) }
 {
     let _ = all;
     let _ = place;
@@ -169,16 +202,28 @@ where
     M::Call: Send + Sync,
     M::Question: Send,
     H::Link: Send + 's,
-    requires keeps { Keeps (terms M.next M.answer M.number M.call M.user M.least M.closes H.Link.Source.told H.Link.Sink.told users.now (H.left all.now.value)) lock.now hall.old.pass hall.old.ended.items (held_by (λ r. r.place) hall.old.running.items) (vec_len hall.old.running) 1 place }
-    requires rows { All (λ r. Runs (terms M.next M.answer M.number M.call M.user M.least M.closes H.Link.Source.told H.Link.Sink.told users.now (H.left all.now.value)) lock.now r.handle.promise.lock.value r.handle.promise.users.value r.handle.promise.pass.value r.handle.promise.link.value r.place r.before) hall.old.running.items }
+    requires keeps { Keeps
+        (terms M.next M.answer M.number M.call M.user M.least M.closes H.Link.Source.told H.Link.Sink.told users.now
+        (H.left all.now.value)) lock.now hall.old.pass hall.old.ended.items
+        (held_by (λ r. r.place) hall.old.running.items) (vec_len hall.old.running) 1 place }
+    requires rows { All (λ r. Runs (terms M.next M.answer M.number M.call M.user M.least M.closes H.Link.Source.told
+        H.Link.Sink.told users.now (H.left all.now.value)) lock.now r.handle.promise.lock.value
+        r.handle.promise.users.value r.handle.promise.pass.value r.handle.promise.link.value r.place r.before)
+        hall.old.running.items }
     requires room { (vec_len hall.old.ended + vec_len hall.old.running + 1 ≤ vec_capacity hall.old.ended)
         × (vec_len hall.old.running < vec_capacity hall.old.running) }
     requires few { vec_len hall.old.running < most_workers }
     requires fresh { IsFresh M.next lock.now pass }
     requires given { IsGiven (H.left all.now.value) place link }
     requires was_new { IsNew (H.Link.Source.told link) (H.Link.Sink.told link) }
-    ensures keeps { Keeps (terms M.next M.answer M.number M.call M.user M.least M.closes H.Link.Source.told H.Link.Sink.told users.now (H.left all.now.value)) lock.now hall.new.pass hall.new.ended.items (held_by (λ r. r.place) hall.new.running.items) (vec_len hall.new.running) 0 (place + 1) }
-    ensures rows { All (λ r. Runs (terms M.next M.answer M.number M.call M.user M.least M.closes H.Link.Source.told H.Link.Sink.told users.now (H.left all.now.value)) lock.now r.handle.promise.lock.value r.handle.promise.users.value r.handle.promise.pass.value r.handle.promise.link.value r.place r.before) hall.new.running.items }
+    ensures keeps { Keeps
+        (terms M.next M.answer M.number M.call M.user M.least M.closes H.Link.Source.told H.Link.Sink.told users.now
+        (H.left all.now.value)) lock.now hall.new.pass hall.new.ended.items
+        (held_by (λ r. r.place) hall.new.running.items) (vec_len hall.new.running) 0 (place + 1) }
+    ensures rows { All (λ r. Runs (terms M.next M.answer M.number M.call M.user M.least M.closes H.Link.Source.told
+        H.Link.Sink.told users.now (H.left all.now.value)) lock.now r.handle.promise.lock.value
+        r.handle.promise.users.value r.handle.promise.pass.value r.handle.promise.link.value r.place r.before)
+        hall.new.running.items }
     ensures room { vec_len hall.new.ended + vec_len hall.new.running ≤ vec_capacity hall.new.ended }
     ensures few { vec_len hall.new.running ≤ most_workers }
 {
@@ -224,14 +269,27 @@ where
     M::Call: Send + Sync,
     M::Question: Send,
     H::Link: Send + 's,
-    requires keeps { Keeps (terms M.next M.answer M.number M.call M.user M.least M.closes H.Link.Source.told H.Link.Sink.told users.now (H.left all.now.value)) lock.now hall.old.pass hall.old.ended.items (held_by (λ r. r.place) hall.old.running.items) (vec_len hall.old.running) 0 0 }
-    requires rows { All (λ r. Runs (terms M.next M.answer M.number M.call M.user M.least M.closes H.Link.Source.told H.Link.Sink.told users.now (H.left all.now.value)) lock.now r.handle.promise.lock.value r.handle.promise.users.value r.handle.promise.pass.value r.handle.promise.link.value r.place r.before) hall.old.running.items }
+    requires keeps { Keeps
+        (terms M.next M.answer M.number M.call M.user M.least M.closes H.Link.Source.told H.Link.Sink.told users.now
+        (H.left all.now.value)) lock.now hall.old.pass hall.old.ended.items
+        (held_by (λ r. r.place) hall.old.running.items) (vec_len hall.old.running) 0 0 }
+    requires rows { All (λ r. Runs (terms M.next M.answer M.number M.call M.user M.least M.closes H.Link.Source.told
+        H.Link.Sink.told users.now (H.left all.now.value)) lock.now r.handle.promise.lock.value
+        r.handle.promise.users.value r.handle.promise.pass.value r.handle.promise.link.value r.place r.before)
+        hall.old.running.items }
     requires room { vec_len hall.old.ended + vec_len hall.old.running ≤ vec_capacity hall.old.ended }
     requires workers { workers ≤ most_workers }
     requires few { vec_len hall.old.running ≤ most_workers }
     requires taken { Taken (H.told all.now.value) (H.left all.now.value) (H.told host.old) (H.left host.old) 0 }
-    ensures stopped { IsStopped (terms M.next M.answer M.number M.call M.user M.least M.closes H.Link.Source.told H.Link.Sink.told users.now (H.left all.now.value)) lock.now hall.new.pass hall.new.ended.items (held_by (λ r. r.place) hall.new.running.items) (vec_len hall.new.running) (H.told all.now.value) (H.told host.new) (H.left host.new) result.1 result.0 }
-    ensures rows { All (λ r. Runs (terms M.next M.answer M.number M.call M.user M.least M.closes H.Link.Source.told H.Link.Sink.told users.now (H.left all.now.value)) lock.now r.handle.promise.lock.value r.handle.promise.users.value r.handle.promise.pass.value r.handle.promise.link.value r.place r.before) hall.new.running.items }
+    ensures stopped { IsStopped
+        (terms M.next M.answer M.number M.call M.user M.least M.closes H.Link.Source.told H.Link.Sink.told users.now
+        (H.left all.now.value)) lock.now hall.new.pass hall.new.ended.items
+        (held_by (λ r. r.place) hall.new.running.items) (vec_len hall.new.running) (H.told all.now.value)
+        (H.told host.new) (H.left host.new) result.1 result.0 }
+    ensures rows { All (λ r. Runs (terms M.next M.answer M.number M.call M.user M.least M.closes H.Link.Source.told
+        H.Link.Sink.told users.now (H.left all.now.value)) lock.now r.handle.promise.lock.value
+        r.handle.promise.users.value r.handle.promise.pass.value r.handle.promise.link.value r.place r.before)
+        hall.new.running.items }
     ensures room { vec_len hall.new.ended + vec_len hall.new.running ≤ vec_capacity hall.new.ended }
 {
     for place in 0..MOST_LINKS {
@@ -290,10 +348,15 @@ where
     M::Question: Send,
     H::Link: Send + 's,
     requires workers { workers ≤ most_workers }
-    requires ready { IsReady (terms M.next M.answer M.number M.call M.user M.least M.closes H.Link.Source.told H.Link.Sink.told users.now (H.left host.old)) lock.now hall.old.pass hall.old.ended.items (vec_len hall.old.running) }
+    requires ready { IsReady
+        (terms M.next M.answer M.number M.call M.user M.least M.closes H.Link.Source.told H.Link.Sink.told users.now
+        (H.left host.old)) lock.now hall.old.pass hall.old.ended.items (vec_len hall.old.running) }
     ensures same_host { result.host.ghost_name ≡ host.entry.ghost_name }
     ensures same_hall { result.hall.ghost_name ≡ hall.entry.ghost_name }
-    ensures over { IsOverAll (terms M.next M.answer M.number M.call M.user M.least M.closes H.Link.Source.told H.Link.Sink.told users.now (H.left host.old)) lock.now result.hall.now.pass result.hall.now.ended.items (H.told host.old) (H.told result.host.now) (H.left result.host.now) result.end }
+    ensures over { IsOverAll
+        (terms M.next M.answer M.number M.call M.user M.least M.closes H.Link.Source.told H.Link.Sink.told users.now
+        (H.left host.old)) lock.now result.hall.now.pass result.hall.now.ended.items (H.told host.old)
+        (H.told result.host.now) (H.left result.host.now) result.end }
 {
     let all = Snapshot::of(&*host);
     let (end, spare) = take_links(
@@ -331,20 +394,30 @@ where
     M::Question: Send,
     H::Link: Send,
     requires workers { workers ≤ most_workers }
-    requires ready { IsReady (terms M.next M.answer M.number M.call M.user M.least M.closes H.Link.Source.told H.Link.Sink.told users.now (H.left host.old)) lock.now hall.old.pass hall.old.ended.items (vec_len hall.old.running) }
+    requires ready { IsReady
+        (terms M.next M.answer M.number M.call M.user M.least M.closes H.Link.Source.told H.Link.Sink.told users.now
+        (H.left host.old)) lock.now hall.old.pass hall.old.ended.items (vec_len hall.old.running) }
     ensures same_host { result.host.ghost_name ≡ host.entry.ghost_name }
     ensures same_hall { result.hall.ghost_name ≡ hall.entry.ghost_name }
-    ensures over { IsOverAll (terms M.next M.answer M.number M.call M.user M.least M.closes H.Link.Source.told H.Link.Sink.told users.now (H.left host.old)) lock.now result.hall.now.pass result.hall.now.ended.items (H.told host.old) (H.told result.host.now) (H.left result.host.now) result.end }
+    ensures over { IsOverAll
+        (terms M.next M.answer M.number M.call M.user M.least M.closes H.Link.Source.told H.Link.Sink.told users.now
+        (H.left host.old)) lock.now result.hall.now.pass result.hall.now.ended.items (H.told host.old)
+        (H.told result.host.now) (H.left result.host.now) result.end }
 {
     thread::scope(
         thread::scope_env(),
         rt,
         move |scope| -> Back<'_, '_, M, H, C>
             requires workers { workers ≤ most_workers }
-            requires ready { IsReady (terms M.next M.answer M.number M.call M.user M.least M.closes H.Link.Source.told H.Link.Sink.told users.now (H.left host.now)) lock.now hall.now.pass hall.now.ended.items (vec_len hall.now.running) }
+            requires ready { IsReady (terms M.next M.answer M.number M.call M.user M.least M.closes H.Link.Source.told
+                H.Link.Sink.told users.now (H.left host.now)) lock.now hall.now.pass hall.now.ended.items
+                (vec_len hall.now.running) }
             ensures same_host { result.host.ghost_name ≡ host.entry.ghost_name }
             ensures same_hall { result.hall.ghost_name ≡ hall.entry.ghost_name }
-            ensures over { IsOverAll (terms M.next M.answer M.number M.call M.user M.least M.closes H.Link.Source.told H.Link.Sink.told users.entry.now (H.left host.entry.now)) lock.entry.now result.hall.now.pass result.hall.now.ended.items (H.told host.entry.now) (H.told result.host.now) (H.left result.host.now) result.end }
+            ensures over { IsOverAll (terms M.next M.answer M.number M.call M.user M.least M.closes H.Link.Source.told
+                H.Link.Sink.told users.entry.now (H.left host.entry.now)) lock.entry.now result.hall.now.pass
+                result.hall.now.ended.items (H.told host.entry.now) (H.told result.host.now)
+                (H.left result.host.now) result.end }
         {
             work(
                 scope, rt, alloc, lock, users, gate, marks, workers, host, hall,
@@ -372,8 +445,13 @@ where
     M::Question: Send,
     H::Link: Send,
     requires workers { workers ≤ most_workers }
-    requires ready { IsReady (terms M.next M.answer M.number M.call M.user M.least M.closes H.Link.Source.told H.Link.Sink.told users.now (H.left host.old)) lock.now hall.old.pass hall.old.ended.items (vec_len hall.old.running) }
-    ensures { IsOverAll (terms M.next M.answer M.number M.call M.user M.least M.closes H.Link.Source.told H.Link.Sink.told users.now (H.left host.old)) lock.now hall.new.pass hall.new.ended.items (H.told host.old) (H.told host.new) (H.left host.new) result }
+    requires ready { IsReady
+        (terms M.next M.answer M.number M.call M.user M.least M.closes H.Link.Source.told H.Link.Sink.told users.now
+        (H.left host.old)) lock.now hall.old.pass hall.old.ended.items (vec_len hall.old.running) }
+    ensures { IsOverAll
+        (terms M.next M.answer M.number M.call M.user M.least M.closes H.Link.Source.told H.Link.Sink.told users.now
+        (H.left host.old)) lock.now hall.new.pass hall.new.ended.items (H.told host.old) (H.told host.new)
+        (H.left host.new) result }
 {
     let back = scoped(rt, alloc, lock, users, gate, marks, workers, host, hall);
     back.end
@@ -388,8 +466,12 @@ fn close<M: Served, H: Host, C: Clock + Drop>(
     ended: Vec<Ended<H::Link>>,
     end: HostEnd,
 ) -> Closing<M, H::Link>
-    requires { IsDone (terms M.next M.answer M.number M.call M.user M.least M.closes H.Link.Source.told H.Link.Sink.told users.now (H.left all.now.value)) lock pass ended.items }
-    ensures closed { Closed (terms M.next M.answer M.number M.call M.user M.least M.closes H.Link.Source.told H.Link.Sink.told users.now (H.left all.now.value)) lock.version.opening result.last result.ended }
+    requires { IsDone
+        (terms M.next M.answer M.number M.call M.user M.least M.closes H.Link.Source.told H.Link.Sink.told users.now
+        (H.left all.now.value)) lock pass ended.items }
+    ensures closed { Closed
+        (terms M.next M.answer M.number M.call M.user M.least M.closes H.Link.Source.told H.Link.Sink.told users.now
+        (H.left all.now.value)) lock.version.opening result.last result.ended }
     ensures ended { result.ended ≡ ended.items }
     ensures end { result.end ≡ end }
 {
@@ -416,7 +498,9 @@ fn first_hall<M: Served, H: Host, C: Clock + Drop>(
     requires empty { lock.now.version.journal ≡ [] }
     requires first { pass ≡ first_pass lock.now }
     requires is_of { IsOf M.next lock.now pass }
-    ensures { IsReady (terms M.next M.answer M.number M.call M.user M.least M.closes H.Link.Source.told H.Link.Sink.told users.now (H.left all.now.value)) lock.now result.pass result.ended.items (vec_len result.running) }
+    ensures { IsReady
+        (terms M.next M.answer M.number M.call M.user M.least M.closes H.Link.Source.told H.Link.Sink.told users.now
+        (H.left all.now.value)) lock.now result.pass result.ended.items (vec_len result.running) }
 {
     let _ = lock;
     let _ = users;
@@ -446,9 +530,13 @@ where
     M::Call: Send + Sync,
     M::Question: Send,
     H::Link: Send,
-    ensures closed { IfOk result (λ c. Closed (terms M.next M.answer M.number M.call M.user M.least M.closes H.Link.Source.told H.Link.Sink.told users.now (H.left host.old)) opening c.last c.ended) }
-    ensures taken { IfOk result (λ c. Taken (H.told host.old) (H.left host.old) (H.told host.new) (H.left host.new) (length c.ended)) }
-    ensures end { IfOk result (λ c. EndsFor (H.told host.old) (H.told host.new) (H.left host.new) (length c.ended) c.end) }
+    ensures closed { IfOk result (λ c. Closed
+        (terms M.next M.answer M.number M.call M.user M.least M.closes H.Link.Source.told H.Link.Sink.told users.now
+        (H.left host.old)) opening c.last c.ended) }
+    ensures taken { IfOk result (λ c. Taken (H.told host.old) (H.left host.old) (H.told host.new) (H.left host.new)
+        (length c.ended)) }
+    ensures end { IfOk result (λ c. EndsFor (H.told host.old) (H.told host.new) (H.left host.new)
+        (length c.ended) c.end) }
     ensures unasked { OnErr result (host.new ≡ host.old) }
 {
     let all = Snapshot::of(&*host);

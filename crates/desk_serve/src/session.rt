@@ -30,7 +30,8 @@ fn hold<'a, M: Served, L: Link, C: Clock + Drop, G: Gate, R: Wait>(
     link: &mut L,
 ) -> End
     requires { IsFresh M.next lock.now pass.old }
-    ensures { IsOver (terms M.next M.answer M.number M.call M.user M.least M.closes L.Source.told L.Sink.told users.now None) lock.now pass.old link.old pass.new link.new result }
+    ensures { IsOver (terms M.next M.answer M.number M.call M.user M.least M.closes L.Source.told L.Sink.told users.now
+        None) lock.now pass.old link.old pass.new link.new result }
 {
     let mut desk: LockDesk<'a, R, M, C> = LockDesk::new(lock);
     let mut leave = rt;
@@ -51,7 +52,8 @@ pub(crate) fn seated<'a, M: Served, L: Link, C: Clock + Drop, G: Gate, R: Wait>(
     link: L,
 ) -> Seat<M, L>
     requires { IsFresh M.next lock.now pass }
-    ensures { IsOver (terms M.next M.answer M.number M.call M.user M.least M.closes L.Source.told L.Sink.told users.now None) lock.now pass link result.pass result.link result.outcome }
+    ensures { IsOver (terms M.next M.answer M.number M.call M.user M.least M.closes L.Source.told L.Sink.told users.now
+        None) lock.now pass link result.pass result.link result.outcome }
 {
     let mut pass = pass;
     let mut link = link;

@@ -46,7 +46,16 @@ impl Machine for ShownSums {
 
     type Cause = Cause;
 
-    ghost next = { λ s e. if nat_lt e.call 100 && nat_lt (s + e.call) 100 then Ok (s + e.call, record { status = 201; kind = []; body = []; number = Some (s + e.call) }) else Err causes.NotFound };
+    ghost next = { λ s e. if nat_lt e.call 100
+        && nat_lt (s + e.call) 100 then Ok (
+          s + e.call,
+          record {
+            status = 201;
+            kind = [];
+            body = [];
+            number = Some (s + e.call);
+          },
+        ) else Err causes.NotFound };
 
     ghost answer = { λ s u q. Ok (record { status = 200; kind = []; body = []; number = Some s }) };
 

@@ -7,7 +7,7 @@ ghost use Rattle.ql_grammar.specs.Reads.{Reads, Finds, IsPast, IsSplit, IsNoBegi
 use crate::plain::plain_text;
 use crate::stop::{Halt, Stop};
 use cm_base::text::Text;
-use ql_lex::token::{Kind, Piece, Token};
+use ql_lex::token::{Kind, Token};
 use ql_lex::word::{Word, is_left_out};
 use ql_tree::tree::Timestamp;
 use std::alloc::Global;

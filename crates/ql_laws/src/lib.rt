@@ -18,6 +18,7 @@ pub fn says_one_thing()
 
 /// The printed form of a query that some text spells is a text that spells this query, and no other, but for the offsets of its timestamps.
 pub fn printed_again()
-    ensures again { (text : List ℕ) (q : Query) → Spells text q → (r : Query) × Spells (printed q) r × (stripped r ≡ stripped q) }
+    ensures again { (text : List ℕ) (q : Query) → Spells text q → (r : Query) × Spells (printed q) r
+        × (stripped r ≡ stripped q) }
     ensures alone { (text : List ℕ) (q r : Query) → Spells text q → Spells (printed q) r → stripped r ≡ stripped q }
 {}

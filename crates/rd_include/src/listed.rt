@@ -39,7 +39,8 @@ pub fn included_page(
     max_items: u64,
     objects: &[&Object],
 ) -> Result<IncludedPageReply, AllocError>
-    ensures { IfOk result (λ reply. reply ≡ page_of (included_in view.entry) skip_count max_items (map pointee objects.now)) }
+    ensures { IfOk result (λ reply. reply ≡ page_of (included_in view.entry) skip_count max_items
+        (map pointee objects.now)) }
 {
     let shown = page(skip_count, max_items, objects);
     let all = included_objects(alloc, view, shown)?;

@@ -12,7 +12,8 @@ ghost use Rattle.rd_order.specs.Ordered.{ordered};
 
 /// In two repositories in which the caller sees the same, the children of an object that he reads stand in the same order for him.
 pub fn ordered_of_seen()
-    ensures { (r : Repository) (u : List ℕ) (place : Place) (x : Object) (order : List SortSpecification) → IsWellFormed r
+    ensures { (r : Repository) (u : List ℕ) (place : Place) (x : Object) (order : List SortSpecification)
+        → IsWellFormed r
         → addressed r u place ≡ Some x
         → OfSeen (λ s. ordered s u order (children_of s u x.id)) r u (ordered r u order (children_of r u x.id)) }
 {}

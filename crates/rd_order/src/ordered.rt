@@ -154,7 +154,8 @@ fn ordered_by_names<'a>(
     keys: &[OrderKey],
 ) -> Result<Vec<&'a Object>, AllocError>
     ensures { IfOk result (λ all. map pointee all.items
-        ≡ sorted_by (object_order state.now user.now (sort_filter specifications.now) keys.now) (map pointee objects.now)) }
+        ≡ sorted_by (object_order state.now user.now (sort_filter specifications.now) keys.now)
+        (map pointee objects.now)) }
 {
     let filter = sort_filter(alloc, specifications)?;
     let all = ordered_by(alloc, state, user, objects, &filter, keys)?;

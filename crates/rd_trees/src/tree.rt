@@ -123,7 +123,8 @@ fn add_nodes<'a>(
 ) -> Result<(), AllocError>
     requires room { level + levels ≤ levels_up }
     ensures { OnOk result (nodes_shown nodes.new.items ≡ nodes_shown nodes.old.items
-        ++ placed levels scope.entry.state.now scope.entry.user.now scope.entry.folders_only level (map pointee tops.now)) }
+        ++ placed levels scope.entry.state.now scope.entry.user.now scope.entry.folders_only level
+        (map pointee tops.now)) }
 {
     if levels == 0 {
         return Ok(());

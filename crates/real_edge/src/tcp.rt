@@ -70,7 +70,15 @@ impl<S: Read + Write + OpenStream + Drop> Source for TcpLink<S> {
 impl<S: Read + Write + OpenStream + Drop> Sink for TcpLink<S> {
     ghost told = { λ l. record { held = None; faults = l.write_faults } };
 
-    ghost aside = { λ l. record { source = record { left = None; given = None; ended = l.ended; faults = l.read_faults }; stands_for = [] } };
+    ghost aside = { λ l. record {
+      source = record {
+        left = None;
+        given = None;
+        ended = l.ended;
+        faults = l.read_faults;
+      };
+      stands_for = [];
+    } };
 
     fn write(&mut self, piece: &[u8]) -> Result<usize, Failed> {
         let count = match &mut self.stream {

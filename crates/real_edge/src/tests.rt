@@ -5,7 +5,6 @@ use std::io::{self, Error, ErrorKind, Read, Write};
 use std::net::{IpAddr, Ipv4Addr, Net, OpenListener, OpenStream, SocketAddr};
 use std::os::fd::{AsRawFd, RawFd};
 use std::rt::Clock as System;
-use std::test::Fail;
 use std::time::Duration;
 
 // A reader whose every read fails.

@@ -56,7 +56,8 @@ pub fn object_text(
     filter: &PropertyFilter,
     succinct: bool,
 ) -> Result<Bytes, Fail>
-    ensures { Meets (λ y. y) result (object_answer_text (answer_addressed state.now user.now place.now filter.now succinct)) }
+    ensures { Meets (λ y. y) result (object_answer_text
+        (answer_addressed state.now user.now place.now filter.now succinct)) }
 {
     match addressed(state, user, place) {
         Some(x) => {

@@ -33,12 +33,21 @@ pub fn run_alone<M: Served, C: Clock + Drop, L: Link, G: Gate>(
     link: &mut L,
     gate: &G,
 ) -> Result<AloneEnd<M, C>, AllocError>
-    ensures ran { IfOk result (λ r. RunAlone (record { next = M.next; answer = M.answer; number = M.number; call = M.call; wire = wire_of M.user M.least M.closes }) opening users.now (C.words clock)
-        (L.Source.told link.old) (L.Sink.told link.old) (L.Source.told link.new) (L.Sink.told link.new) r.end r.last.journal (C.words r.clock)) }
+    ensures ran { IfOk result (λ r. RunAlone
+        (record {
+          next = M.next;
+          answer = M.answer;
+          number = M.number;
+          call = M.call;
+          wire = wire_of M.user M.least M.closes;
+        }) opening users.now (C.words clock)
+        (L.Source.told link.old) (L.Sink.told link.old) (L.Source.told link.new)
+        (L.Sink.told link.new) r.end r.last.journal (C.words r.clock)) }
     ensures opening { IfOk result (λ r. r.last.opening ≡ opening) }
     ensures clock { IfOk result (λ r. C.stands_for r.clock ≡ C.stands_for clock) }
     ensures stands_for { L.stands_for link.new ≡ L.stands_for link.old }
-    ensures untouched { OnErr result ((L.Source.told link.new ≡ L.Source.told link.old) × (L.Sink.told link.new ≡ L.Sink.told link.old)) }
+    ensures untouched { OnErr result ((L.Source.told link.new ≡ L.Source.told link.old)
+        × (L.Sink.told link.new ≡ L.Sink.told link.old)) }
 {
     first_is_one();
     first_is_kept();

@@ -59,7 +59,8 @@ pub fn starve<L: Link>(link: &mut L)
 
 /// Answers a fault of the bytes with its cause, and closes. A request that is cut off has no reply.
 pub fn refuse<K: Served, L: Link>(alloc: Global, link: &mut L, fault: HttpFault) -> End
-    ensures refuses { Refuses (wire_of K.user K.least K.closes) fault (L.Sink.told link.old) (L.Sink.told link.new) result }
+    ensures refuses { Refuses (wire_of K.user K.least K.closes) fault (L.Sink.told link.old)
+        (L.Sink.told link.new) result }
     ensures source { L.Source.told link.new ≡ L.Source.told link.old }
     ensures stands_for { L.stands_for link.new ≡ L.stands_for link.old }
 {

@@ -66,7 +66,14 @@ where
     ensures aside { D.aside desk.new ≡ D.aside desk.old }
     ensures place { D.place pass.new ≡ D.place pass.old }
     ensures turned { IfOk result (λ shown. (users : List User) (head : HeadParts) (last : Bool)
-        → Turned (record { next = D.Kind.next; answer = D.Kind.answer; number = D.Kind.number; call = D.Kind.call; wire = wire_of D.Kind.user D.Kind.least D.Kind.closes }) users head last (writes user.now least call) (D.known pass.old) (D.words desk.old) (reply_text shown last) (D.known pass.new) (D.words desk.new)) }
+        → Turned (record {
+          next = D.Kind.next;
+          answer = D.Kind.answer;
+          number = D.Kind.number;
+          call = D.Kind.call;
+          wire = wire_of D.Kind.user D.Kind.least D.Kind.closes;
+        }) users head last (writes user.now least call)
+        (D.known pass.old) (D.words desk.old) (reply_text shown last) (D.known pass.new) (D.words desk.new)) }
     ensures starved { OnErr result (Stays (D.known pass.old) (D.known pass.new) (D.words desk.old) (D.words desk.new)) }
 {
     match write_turn(alloc, leave, desk, pass, user, least, call) {
@@ -95,7 +102,14 @@ where
     ensures aside { D.aside desk.new ≡ D.aside desk.old }
     ensures place { D.place pass.new ≡ D.place pass.old }
     ensures turned { IfOk result (λ shown. (users : List User) (head : HeadParts) (last : Bool)
-        → Turned (record { next = D.Kind.next; answer = D.Kind.answer; number = D.Kind.number; call = D.Kind.call; wire = wire_of D.Kind.user D.Kind.least D.Kind.closes }) users head last (reads user.now least question.now) (D.known pass.old) (D.words desk.old) (reply_text shown last) (D.known pass.new) (D.words desk.new)) }
+        → Turned (record {
+          next = D.Kind.next;
+          answer = D.Kind.answer;
+          number = D.Kind.number;
+          call = D.Kind.call;
+          wire = wire_of D.Kind.user D.Kind.least D.Kind.closes;
+        }) users head last (reads user.now least question.now)
+        (D.known pass.old) (D.words desk.old) (reply_text shown last) (D.known pass.new) (D.words desk.new)) }
     ensures starved { OnErr result (Stays (D.known pass.old) (D.known pass.new) (D.words desk.old) (D.words desk.new)) }
 {
     match read_turn(alloc, leave, desk, pass, user, least, question) {
@@ -125,7 +139,21 @@ where
     ensures aside { D.aside desk.new ≡ D.aside desk.old }
     ensures place { D.place pass.new ≡ D.place pass.old }
     ensures turned { IfOk result (λ shown. (last : Bool)
-        → Turned (record { next = D.Kind.next; answer = D.Kind.answer; number = D.Kind.number; call = D.Kind.call; wire = wire_of D.Kind.user D.Kind.least D.Kind.closes }) users.now request.now.head last (ask_of (record { next = D.Kind.next; answer = D.Kind.answer; number = D.Kind.number; call = D.Kind.call; wire = wire_of D.Kind.user D.Kind.least D.Kind.closes }) users.now request.now) (D.known pass.old) (D.words desk.old) (reply_text shown last) (D.known pass.new) (D.words desk.new)) }
+        → Turned (record {
+          next = D.Kind.next;
+          answer = D.Kind.answer;
+          number = D.Kind.number;
+          call = D.Kind.call;
+          wire = wire_of D.Kind.user D.Kind.least D.Kind.closes;
+        }) users.now request.now.head last
+        (ask_of (record {
+          next = D.Kind.next;
+          answer = D.Kind.answer;
+          number = D.Kind.number;
+          call = D.Kind.call;
+          wire = wire_of D.Kind.user D.Kind.least D.Kind.closes;
+        }) users.now request.now) (D.known pass.old)
+        (D.words desk.old) (reply_text shown last) (D.known pass.new) (D.words desk.new)) }
     ensures starved { OnErr result (Stays (D.known pass.old) (D.known pass.new) (D.words desk.old) (D.words desk.new)) }
 {
     let head = request.head();

@@ -49,8 +49,10 @@ pub trait Served: Machine<Shown = Shown, Cause = Cause> {
         ensures { result ≡ closes head.now };
 
     /// What is shown of an entry has the number of the state after it.
-    ghost entry_has_number: { (s t : Self.State) (e : Entry Self.Call) (a : Shown) → Self.next s e ≡ Ok (t, a) → a.number ≡ Some (Self.number t) };
+    ghost entry_has_number: { (s t : Self.State) (e : Entry Self.Call) (a : Shown) → Self.next s e ≡ Ok (t, a)
+        → a.number ≡ Some (Self.number t) };
 
     /// What is shown of a question has the number of the state.
-    ghost answer_has_number: { (s : Self.State) (u : List ℕ) (q : Self.Question) (a : Shown) → Self.answer s u q ≡ Ok a → a.number ≡ Some (Self.number s) };
+    ghost answer_has_number: { (s : Self.State) (u : List ℕ) (q : Self.Question) (a : Shown) → Self.answer s u q ≡ Ok a
+        → a.number ≡ Some (Self.number s) };
 }

@@ -38,8 +38,15 @@ where
     ensures is_of { D.is_of desk.new pass.new }
     ensures aside { D.aside desk.new ≡ D.aside desk.old }
     ensures place { D.place pass.new ≡ D.place pass.old }
-    ensures talked { Talked (record { next = D.Kind.next; answer = D.Kind.answer; number = D.Kind.number; call = D.Kind.call; wire = wire_of D.Kind.user D.Kind.least D.Kind.closes }) users.now
-        (D.known pass.old) (D.words desk.old) (L.Source.told link.old) (L.Sink.told link.old) (D.known pass.new) (D.words desk.new) (L.Source.told link.new) (L.Sink.told link.new) result }
+    ensures talked { Talked (record {
+      next = D.Kind.next;
+      answer = D.Kind.answer;
+      number = D.Kind.number;
+      call = D.Kind.call;
+      wire = wire_of D.Kind.user D.Kind.least D.Kind.closes;
+    }) users.now
+        (D.known pass.old) (D.words desk.old) (L.Source.told link.old) (L.Sink.told link.old) (D.known pass.new)
+        (D.words desk.new) (L.Source.told link.new) (L.Sink.told link.new) result }
     ensures stands_for { L.stands_for link.new ≡ L.stands_for link.old }
 {
     first_is_kept();

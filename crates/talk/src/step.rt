@@ -45,8 +45,16 @@ where
     ensures is_of { D.is_of desk.new pass.new }
     ensures aside { D.aside desk.new ≡ D.aside desk.old }
     ensures place { D.place pass.new ≡ D.place pass.old }
-    ensures answers { AnswersRequest (record { next = D.Kind.next; answer = D.Kind.answer; number = D.Kind.number; call = D.Kind.call; wire = wire_of D.Kind.user D.Kind.least D.Kind.closes }) users.now request.now
-        (record { known = D.known pass.old; words = D.words desk.old; count = count.old }) (L.Sink.told link.old) (record { known = D.known pass.new; words = D.words desk.new; count = count.new }) (L.Sink.told link.new) result }
+    ensures answers { AnswersRequest (record {
+      next = D.Kind.next;
+      answer = D.Kind.answer;
+      number = D.Kind.number;
+      call = D.Kind.call;
+      wire = wire_of D.Kind.user D.Kind.least D.Kind.closes;
+    }) users.now request.now
+        (record { known = D.known pass.old; words = D.words desk.old; count = count.old }) (L.Sink.told link.old)
+        (record { known = D.known pass.new; words = D.words desk.new; count = count.new })
+        (L.Sink.told link.new) result }
     ensures source { L.Source.told link.new ≡ L.Source.told link.old }
     ensures stands_for { L.stands_for link.new ≡ L.stands_for link.old }
 {
@@ -97,9 +105,23 @@ where
     ensures is_of { D.is_of desk.new pass.new }
     ensures aside { D.aside desk.new ≡ D.aside desk.old }
     ensures place { D.place pass.new ≡ D.place pass.old }
-    ensures steps { Steps (record { next = D.Kind.next; answer = D.Kind.answer; number = D.Kind.number; call = D.Kind.call; wire = wire_of D.Kind.user D.Kind.least D.Kind.closes }) users.now
-        buffer.old (L.Source.told link.old) (record { known = D.known pass.old; words = D.words desk.old; count = count.old }) (L.Sink.told link.old)
-        buffer.new (L.Source.told link.new) (record { known = D.known pass.new; words = D.words desk.new; count = count.new }) (L.Sink.told link.new) result }
+    ensures steps { Steps (record {
+      next = D.Kind.next;
+      answer = D.Kind.answer;
+      number = D.Kind.number;
+      call = D.Kind.call;
+      wire = wire_of D.Kind.user D.Kind.least D.Kind.closes;
+    }) users.now
+        buffer.old (L.Source.told link.old) (record {
+          known = D.known pass.old;
+          words = D.words desk.old;
+          count = count.old;
+        }) (L.Sink.told link.old)
+        buffer.new (L.Source.told link.new) (record {
+          known = D.known pass.new;
+          words = D.words desk.new;
+          count = count.new;
+        }) (L.Sink.told link.new) result }
     ensures stands_for { L.stands_for link.new ≡ L.stands_for link.old }
 {
     match read_next(alloc, link, buffer) {

@@ -38,8 +38,17 @@ where
     ensures aside { D.aside desk.new ≡ D.aside desk.old }
     ensures place { D.place pass.new ≡ D.place pass.old }
     ensures turned { IfOk result (λ verdict. (users : List User) (head : Head) (last : Bool)
-        → Turned (record { next = D.Kind.next; answer = D.Kind.answer; number = D.Kind.number; call = D.Kind.call; wire = wire_of D.Kind.user D.Kind.least D.Kind.closes }) users head last (writes user.now least call) (D.known pass.old) (D.words desk.old) (reply_text (verdict_shown verdict) last) (D.known pass.new) (D.words desk.new)) }
-    ensures refusal { IfOk result (λ verdict. IfRefuses verdict (Stays (D.known pass.old) (D.known pass.new) (D.words desk.old) (D.words desk.new))) }
+        → Turned (record {
+          next = D.Kind.next;
+          answer = D.Kind.answer;
+          number = D.Kind.number;
+          call = D.Kind.call;
+          wire = wire_of D.Kind.user D.Kind.least D.Kind.closes;
+        }) users head last (writes user.now least call)
+        (D.known pass.old) (D.words desk.old) (reply_text (verdict_shown verdict) last) (D.known pass.new)
+        (D.words desk.new)) }
+    ensures refusal { IfOk result (λ verdict. IfRefuses verdict
+        (Stays (D.known pass.old) (D.known pass.new) (D.words desk.old) (D.words desk.new))) }
     ensures starved { OnErr result (Stays (D.known pass.old) (D.known pass.new) (D.words desk.old) (D.words desk.new)) }
 {
     let moment = desk.moment(leave);
@@ -70,7 +79,15 @@ where
     ensures aside { D.aside desk.new ≡ D.aside desk.old }
     ensures place { D.place pass.new ≡ D.place pass.old }
     ensures turned { IfOk result (λ verdict. (users : List User) (head : Head) (last : Bool)
-        → Turned (record { next = D.Kind.next; answer = D.Kind.answer; number = D.Kind.number; call = D.Kind.call; wire = wire_of D.Kind.user D.Kind.least D.Kind.closes }) users head last (reads user.now least question.now) (D.known pass.old) (D.words desk.old) (reply_text (verdict_shown verdict) last) (D.known pass.new) (D.words desk.new)) }
+        → Turned (record {
+          next = D.Kind.next;
+          answer = D.Kind.answer;
+          number = D.Kind.number;
+          call = D.Kind.call;
+          wire = wire_of D.Kind.user D.Kind.least D.Kind.closes;
+        }) users head last (reads user.now least question.now)
+        (D.known pass.old) (D.words desk.old) (reply_text (verdict_shown verdict) last) (D.known pass.new)
+        (D.words desk.new)) }
     ensures stays { Stays (D.known pass.old) (D.known pass.new) (D.words desk.old) (D.words desk.new) }
 {
     let Ok(version) = desk.look(leave, pass) else {

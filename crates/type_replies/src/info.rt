@@ -185,7 +185,9 @@ fn capabilities_json(alloc: Global) -> Result<Json, AllocError>
 }
 
 fn put_texts_of(alloc: Global, fields: &mut Fields, host: &str) -> Result<(), AllocError>
-    ensures { OnOk result (fields_of fields.new ≡ with_fields (url_fields host.now) (with_fields principal_fields (with_fields product_fields (fields_of fields.old)))) }
+    ensures { OnOk result (fields_of fields.new
+        ≡ with_fields (url_fields host.now) (with_fields principal_fields
+        (with_fields product_fields (fields_of fields.old)))) }
 {
     put_product(alloc, fields)?;
     put_principals(alloc, fields)?;

@@ -30,7 +30,8 @@ pub fn front_is_deeper(trees: &VecDeque<Tree>, level: u64) -> bool
 }
 
 fn pop(trees: &mut VecDeque<Tree>) -> Option<Json>
-    ensures all { map (λ t. t.1) (standing trees.old.items) ≡ data_in result ++ map (λ t. t.1) (standing trees.new.items) }
+    ensures all { map (λ t. t.1) (standing trees.old.items)
+        ≡ data_in result ++ map (λ t. t.1) (standing trees.new.items) }
     ensures fewer { IfSome result (λ _. length trees.new.items + 1 ≡ length trees.old.items) }
     ensures none { IfNone result (trees.old.items ≡ []) }
 {
@@ -42,7 +43,8 @@ fn pop(trees: &mut VecDeque<Tree>) -> Option<Json>
 
 // Takes the tree in front where it stands deeper than the level.
 fn next_deeper(trees: &mut VecDeque<Tree>, level: u64) -> Option<Json>
-    ensures taken { deeper level (standing trees.old.items) ≡ data_in result ++ deeper level (standing trees.new.items) }
+    ensures taken { deeper level (standing trees.old.items)
+        ≡ data_in result ++ deeper level (standing trees.new.items) }
     ensures left { behind level (standing trees.old.items) ≡ behind level (standing trees.new.items) }
     ensures fewer { IfSome result (λ _. length trees.new.items + 1 ≡ length trees.old.items) }
     ensures none_taken { IfNone result (deeper level (standing trees.new.items) ≡ []) }
@@ -104,7 +106,8 @@ fn add_row(
     trees: &mut VecDeque<Tree>,
     row: &TypeRow,
 ) -> Result<(), AllocError>
-    ensures { OnOk result (standing trees.new.items ≡ with_row property_definitions row.now (standing trees.old.items)) }
+    ensures { OnOk result (standing trees.new.items
+        ≡ with_row property_definitions row.now (standing trees.old.items)) }
 {
     let children = take_deeper(alloc, trees, row.level)?;
     let json = node_json(alloc, property_definitions, &row.definition, children)?;

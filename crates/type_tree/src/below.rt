@@ -35,7 +35,8 @@ fn add_below<'a>(
     top: &Option<Text>,
     def: &'a TypeDef,
 ) -> Result<(), AllocError>
-    ensures { OnOk result (map pointee below.new.items ≡ map pointee below.old.items ++ filter (stands_below top.now) (def.now ∷ [])) }
+    ensures { OnOk result (map pointee below.new.items
+        ≡ map pointee below.old.items ++ filter (stands_below top.now) (def.now ∷ [])) }
 {
     if stands_below(top, def) {
         below.push(def)?;

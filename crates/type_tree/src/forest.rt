@@ -17,7 +17,9 @@ fn push_at<'a>(
     name: String,
     def: &'a TypeDef,
 ) -> Result<(), AllocError>
-    ensures { OnOk result ((id : List ℕ) → option_map_or (λ g. g.items) (get_by_text groups.new id) [] ≡ option_map_or (λ g. g.items) (get_by_text groups.old id) [] ++ (if bytes_eq id (string_bytes name) then def.entry ∷ [] else [])) }
+    ensures { OnOk result ((id : List ℕ) → option_map_or (λ g. g.items) (get_by_text groups.new id) []
+        ≡ option_map_or (λ g. g.items) (get_by_text groups.old id) []
+        ++ (if bytes_eq id (string_bytes name) then def.entry ∷ [] else [])) }
 {
     groups.entry(name)?.or_default().push(def)?;
     Ok(())
@@ -29,7 +31,8 @@ fn note<'a>(
     groups: &mut BTreeMap<String, Vec<&'a TypeDef>>,
     def: &'a TypeDef,
 ) -> Result<(), AllocError>
-    ensures { OnOk result ((id : List ℕ) → group_in (get_by_text groups.new id) ≡ group_in (get_by_text groups.old id) ++ filter (is_child_type id) (def.now ∷ [])) }
+    ensures { OnOk result ((id : List ℕ) → group_in (get_by_text groups.new id)
+        ≡ group_in (get_by_text groups.old id) ++ filter (is_child_type id) (def.now ∷ [])) }
 {
     match &def.parent {
         None => Ok(()),

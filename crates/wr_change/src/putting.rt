@@ -5,7 +5,6 @@ ghost use Rattle.cmis_spec.specs.Repository.{object_at, series_at};
 ghost use Rattle.cmis_spec.specs.Changes.{noted, edited};
 ghost use Rattle.wr_change.specs.UpdateParts.{series_renamed, with_maybe};
 
-use cm_base::copies::Copies;
 use cm_base::items::Items;
 use cm_base::log::ChangeKind;
 use cm_base::object::Object;

@@ -132,7 +132,8 @@ fn with_bytes(
     call: &AppendContent,
     x: &Object,
 ) -> Result<State, AllocError>
-    requires allowed { refusal_append_content state.now user.now moment (cost_append_content call.now) call.now ≡ Ok tt }
+    requires allowed { refusal_append_content state.now user.now moment (cost_append_content call.now) call.now
+        ≡ Ok tt }
     requires found { addressed state.now user.now call.now.place ≡ Some x.now }
     ensures { IfOk result (λ s. s
         ≡ after_append_content state.now user.now moment (cost_append_content call.now) call.now) }

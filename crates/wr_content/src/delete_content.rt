@@ -68,7 +68,8 @@ fn without_content(
     call: &DeleteContent,
     x: &Object,
 ) -> Result<State, AllocError>
-    requires allowed { refusal_delete_content state.now user.now moment (cost_delete_content call.now) call.now ≡ Ok tt }
+    requires allowed { refusal_delete_content state.now user.now moment (cost_delete_content call.now) call.now
+        ≡ Ok tt }
     requires found { addressed state.now user.now call.now.place ≡ Some x.now }
     ensures { IfOk result (λ s. s
         ≡ after_delete_content state.now user.now moment (cost_delete_content call.now) call.now) }

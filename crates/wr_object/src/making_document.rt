@@ -11,7 +11,6 @@ use crate::new_document::NewDocument;
 use call_parts::stream::GivenStream;
 use cm_base::access::{AccessList, Aces};
 use cm_base::content::Content;
-use cm_base::copies::Copies;
 use cm_base::items::Items;
 use cm_base::log::ChangeKind;
 use cm_base::number::{Moment, Oid};

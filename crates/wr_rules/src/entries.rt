@@ -58,7 +58,8 @@ fn with_permission(
     principal: &Text,
     permission: &Text,
 ) -> Result<Aces, AllocError>
-    ensures { IfOk result (λ all. all ≡ aces ++ map (λ level. record { principal = principal.now; level = level }) (option_to_list (level_named permission.now))) }
+    ensures { IfOk result (λ all. all ≡ aces ++ map (λ level. record { principal = principal.now; level = level })
+        (option_to_list (level_named permission.now))) }
 {
     let mut aces = aces;
     if let Ok(level) = read_level(permission) {

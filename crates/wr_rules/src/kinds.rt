@@ -61,7 +61,8 @@ fn is_below_one(types: &Types, kind: &Text, scalars: &[Scalar]) -> bool
 }
 
 fn bars_by(types: &Types, kind: &Text, scalars: &[Scalar]) -> bool
-    ensures { result ≡ (nat_lt 0 (length scalars.now) && not (list_any (is_below_scalar types.now kind.now) scalars.now)) }
+    ensures { result ≡ (nat_lt 0 (length scalars.now)
+        && not (list_any (is_below_scalar types.now kind.now) scalars.now)) }
 {
     scalars.len() > 0 && !is_below_one(types, kind, scalars)
 }

@@ -30,7 +30,8 @@ pub(crate) fn retyped(
     types: Types,
     cost: u64,
 ) -> Result<State, AllocError>
-    requires folders { All (λ x. is_of_base types bases.Folder x.kind ≡ is_a state.now bases.Folder x) state.now.objects }
+    requires folders { All (λ x. is_of_base types bases.Folder x.kind
+        ≡ is_a state.now bases.Folder x) state.now.objects }
     requires step { state.now.step + 1 < 2 ^ 64 }
     requires cost { state.now.cost + cost < 2 ^ 64 }
     requires well { IsWellFormed (retyped state.now types cost) }

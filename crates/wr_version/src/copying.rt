@@ -6,13 +6,11 @@ ghost use Rattle.cmis_spec.specs.Changes.{stepped, noted, edited_series};
 ghost use Rattle.cmis_spec.specs.Documents.{with_member, with_contents};
 
 use cm_base::content::Content;
-use cm_base::copies::Copies;
 use cm_base::items::Items;
 use cm_base::log::ChangeKind;
-use cm_base::number::{Moment, Oid};
+use cm_base::number::Moment;
 use cm_base::object::Object;
 use cm_base::series::Series;
-use cm_base::text::Text;
 use cm_draft::draft::Draft;
 use cm_state::state::State;
 use std::alloc::{AllocError, Global};

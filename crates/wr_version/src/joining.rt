@@ -7,13 +7,10 @@ ghost use Rattle.cmis_spec.specs.Documents.{with_contents};
 
 use crate::copying::with_content;
 use cm_base::content::Content;
-use cm_base::copies::Copies;
 use cm_base::items::Items;
 use cm_base::log::ChangeKind;
-use cm_base::number::Oid;
 use cm_base::object::Object;
 use cm_base::series::Series;
-use cm_base::text::Text;
 use cm_draft::draft::Draft;
 use cm_state::state::State;
 use std::alloc::{AllocError, Global};
