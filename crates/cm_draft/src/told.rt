@@ -1,5 +1,5 @@
 //! What the filing tells of a child.
-ghost use Rattle.std.specs.Prelude.{◌≡◌, false, IfOk};
+ghost use Rattle.std.specs.Prelude.{◌≡◌, false, true, IfOk};
 ghost use Rattle.cm_base.specs.declared.number.Oid.{Oid};
 ghost use Rattle.cm_folder.specs.Filings.{retold as told_anew, filed_with};
 ghost use Rattle.cmis_spec.specs.Repository.{same};
@@ -73,7 +73,19 @@ pub(crate) fn filed(
     Ok(filing)
 }
 
-// The filing with what these lists tell of the entry.
+// Whether these lists tell of a child what those before told.
+fn tells_the_same(parts: &Parts, series: &Table<Series>, objects: &Objects, n: Oid) -> bool
+    ensures folder { result ≡ true → folder_by parts.now.types parts.now.objects n
+        ≡ folder_by parts.now.types objects.now n }
+    ensures name { result ≡ true → name_by parts.now.series parts.now.objects n ≡ name_by series.now objects.now n }
+{
+    let types = parts.types();
+    let before = objects_of(parts);
+    is_folder(types, before, n) == is_folder(types, objects, n)
+        && name_of(series_of(parts), before, n) == name_of(series, objects, n)
+}
+
+// The filing with what these lists tell of the entry. It is shared where they tell what it tells already.
 fn retold(
     alloc: Global,
     parts: &Parts,
@@ -84,6 +96,10 @@ fn retold(
     ensures { IfOk result (λ f. f ≡ told_anew (entries_of parts.now) n (folder_by parts.now.types objects.now n)
         (name_by series.now objects.now n)) }
 {
+    if tells_the_same(parts, series, objects, n) {
+        let same = filing_of(parts).share(alloc)?;
+        return Ok(same);
+    }
     let name = Text::from_str(alloc, name_of(series, objects, n))?;
     let is_folder = is_folder(parts.types(), objects, n);
     let told = filing_of(parts).retold(alloc, n, is_folder, &name)?;
