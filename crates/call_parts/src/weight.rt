@@ -98,7 +98,8 @@ fn with_maybe_place(so_far: u64, place: &Option<Place>) -> u64
 
 // The media type, the file name where one is given, and the bytes.
 fn with_given_stream(so_far: u64, stream: &GivenStream) -> u64
-    ensures { result ≡ bounded (so_far + weight_of_texts (texts_of_stream (Some stream.now)) + bytes_of_stream (Some stream.now)) }
+    ensures { result ≡ bounded (so_far + weight_of_texts (texts_of_stream (Some stream.now))
+        + bytes_of_stream (Some stream.now)) }
 {
     let typed = so_far
         .saturating_add(stream.kind.as_str().len() as u64)

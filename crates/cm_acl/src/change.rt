@@ -27,7 +27,8 @@ fn with_all(
     aces: &[Ace],
 ) -> Result<Set<(Text, Level)>, AllocError>
     ensures keys { IfOk result (λ s. s ≡ fold (with_key key_order) start (map ace_key aces.now)) }
-    ensures has { IfOk result (λ s. (q : List ℕ × Level) → has_key key_order q s ≡ fold (λ b k. eq_by_cmp key_order q k || b) (has_key key_order q start) (map ace_key aces.now)) }
+    ensures has { IfOk result (λ s. (q : List ℕ × Level) → has_key key_order q s
+        ≡ fold (λ b k. eq_by_cmp key_order q k || b) (has_key key_order q start) (map ace_key aces.now)) }
 {
     let mut set = start;
     for ace in aces {

@@ -66,7 +66,8 @@ impl Filing {
         children: &Map<u64, Oid>,
     ) -> bool
         requires target { target < 50 }
-        ensures value { result ≡ list_any (λ e. is_first_in self.now folder e.1 && has_far levels self.now target moved e.1) children.now }
+        ensures value { result ≡ list_any (λ e. is_first_in self.now folder e.1
+            && has_far levels self.now target moved e.1) children.now }
         ensures sorted { T (is_sorted nat_cmp children.now) }
     {
         let mut found = false;

@@ -96,7 +96,9 @@ impl Names {
         name: &Text,
         children: Map<u64, Oid>,
     ) -> Result<Names, AllocError>
-        ensures { IfOk result (λ m. (k : ℕ × List ℕ) → names_under m k ≡ (if eq_by_cmp nat_cmp k.0 folder && eq_by_cmp (slice_cmp nat_cmp) k.1 name.now then children else names_under self.now k)) }
+        ensures { IfOk result (λ m. (k : ℕ × List ℕ) → names_under m k
+            ≡ (if eq_by_cmp nat_cmp k.0 folder && eq_by_cmp
+            (slice_cmp nat_cmp) k.1 name.now then children else names_under self.now k)) }
     {
         if children.is_empty() {
             let maps = self.maps.without(alloc, folder, name)?;
@@ -116,7 +118,9 @@ impl Names {
         place: u64,
         child: Oid,
     ) -> Result<Names, AllocError>
-        ensures { IfOk result (λ m. (k : ℕ × List ℕ) (p : ℕ) → find_named m k p ≡ (if eq_by_cmp name_order k (folder, name.now) && eq_by_cmp nat_cmp p place then Some child else find_named self.now k p)) }
+        ensures { IfOk result (λ m. (k : ℕ × List ℕ) (p : ℕ) → find_named m k p
+            ≡ (if eq_by_cmp name_order k (folder, name.now)
+            && eq_by_cmp nat_cmp p place then Some child else find_named self.now k p)) }
     {
         let children = self.more_under(alloc, folder, name, place, child)?;
         let names = self.with_under(alloc, folder, name, children)?;
@@ -131,7 +135,9 @@ impl Names {
         name: &Text,
         place: u64,
     ) -> Result<Names, AllocError>
-        ensures { IfOk result (λ m. (k : ℕ × List ℕ) (p : ℕ) → find_named m k p ≡ (if eq_by_cmp name_order k (folder, name.now) && eq_by_cmp nat_cmp p place then None else find_named self.now k p)) }
+        ensures { IfOk result (λ m. (k : ℕ × List ℕ) (p : ℕ) → find_named m k p
+            ≡ (if eq_by_cmp name_order k (folder, name.now)
+            && eq_by_cmp nat_cmp p place then None else find_named self.now k p)) }
     {
         let children = self.fewer_under(alloc, folder, name, place)?;
         let names = self.with_under(alloc, folder, name, children)?;

@@ -124,7 +124,8 @@ impl Parts {
     // The first place of the child.
     fn first_place_of(&self, child: Oid) -> Option<u64>
         requires indexed { IsIndexed self.now.entries self.now.by_child self.now.by_folder self.now.by_name }
-        ensures { result ≡ option_map (λ d. d.0) (find_by (λ d. true) (placed nat_cmp child_key (λ e. e.folder) child.0 self.now.entries)) }
+        ensures { result ≡ option_map (λ d. d.0)
+            (find_by (λ d. true) (placed nat_cmp child_key (λ e. e.folder) child.0 self.now.entries)) }
     {
         match self.by_child.bucket(&child.0) {
             Some(folders) => first_place(folders),
@@ -146,7 +147,8 @@ impl Parts {
     // The place of the child in the folder.
     fn place_under(&self, folder: Oid, child: Oid) -> Option<u64>
         requires indexed { IsIndexed self.now.entries self.now.by_child self.now.by_folder self.now.by_name }
-        ensures { result ≡ option_map (λ d. d.0) (find_by (λ d. same d.1 folder) (placed nat_cmp child_key (λ e. e.folder) child.0 self.now.entries)) }
+        ensures { result ≡ option_map (λ d. d.0)
+            (find_by (λ d. same d.1 folder) (placed nat_cmp child_key (λ e. e.folder) child.0 self.now.entries)) }
     {
         match self.by_child.bucket(&child.0) {
             Some(folders) => place_of(folders, folder),
@@ -211,7 +213,8 @@ impl Parts {
         requires indexed { IsIndexed self.now.entries self.now.by_child self.now.by_folder self.now.by_name }
         requires there { find nat_cmp place self.now.entries ≡ Some entry.now }
         ensures indexed { IfOk result (λ s. IsIndexed s.entries s.by_child s.by_folder s.by_name) }
-        ensures found { IfOk result (λ s. (p : ℕ) → find nat_cmp p s.entries ≡ (if p == place then None else find nat_cmp p self.now.entries)) }
+        ensures found { IfOk result (λ s. (p : ℕ) → find nat_cmp p s.entries
+            ≡ (if p == place then None else find nat_cmp p self.now.entries)) }
     {
         let by_child = self.by_child.without(alloc, entry.child.0, &place)?;
         let by_folder = self.by_folder.without(alloc, entry.folder.0, &place)?;
@@ -231,7 +234,8 @@ impl Parts {
     fn cleared(&self, alloc: Global, place: u64) -> Result<Parts, AllocError>
         requires indexed { IsIndexed self.now.entries self.now.by_child self.now.by_folder self.now.by_name }
         ensures indexed { IfOk result (λ s. IsIndexed s.entries s.by_child s.by_folder s.by_name) }
-        ensures found { IfOk result (λ s. (p : ℕ) → find nat_cmp p s.entries ≡ (if p == place then None else find nat_cmp p self.now.entries)) }
+        ensures found { IfOk result (λ s. (p : ℕ) → find nat_cmp p s.entries
+            ≡ (if p == place then None else find nat_cmp p self.now.entries)) }
     {
         match self.entries.get(&place) {
             Some(entry) => {
@@ -254,7 +258,8 @@ impl Parts {
     ) -> Result<Parts, AllocError>
         requires indexed { IsIndexed self.now.entries self.now.by_child self.now.by_folder self.now.by_name }
         ensures indexed { IfOk result (λ s. IsIndexed s.entries s.by_child s.by_folder s.by_name) }
-        ensures found { IfOk result (λ s. (p : ℕ) → find nat_cmp p s.entries ≡ (if p == place then new else find nat_cmp p self.now.entries)) }
+        ensures found { IfOk result (λ s. (p : ℕ) → find nat_cmp p s.entries
+            ≡ (if p == place then new else find nat_cmp p self.now.entries)) }
     {
         let cleared = self.cleared(alloc, place)?;
         match new {
@@ -294,7 +299,9 @@ impl Parts {
     ) -> Result<Parts, AllocError>
         requires indexed { IsIndexed parts.now.entries parts.now.by_child parts.now.by_folder parts.now.by_name }
         ensures indexed { IfOk result (λ s. IsIndexed s.entries s.by_child s.by_folder s.by_name) }
-        ensures found { IfOk result (λ s. (p : ℕ) → find nat_cmp p s.entries ≡ (if p == place then option_and_then (edit_of edit.now) (find nat_cmp place self.now.entries) else find nat_cmp p parts.now.entries)) }
+        ensures found { IfOk result (λ s. (p : ℕ) → find nat_cmp p s.entries
+            ≡ (if p == place then option_and_then (edit_of edit.now)
+            (find nat_cmp place self.now.entries) else find nat_cmp p parts.now.entries)) }
     {
         let new = self.edit_at(alloc, place, edit)?;
         let changed = parts.with_at(alloc, place, new)?;
@@ -310,7 +317,9 @@ impl Parts {
     ) -> Result<Parts, AllocError>
         requires indexed { IsIndexed self.now.entries self.now.by_child self.now.by_folder self.now.by_name }
         ensures indexed { IfOk result (λ s. IsIndexed s.entries s.by_child s.by_folder s.by_name) }
-        ensures found { IfOk result (λ s. (p : ℕ) → find nat_cmp p s.entries ≡ (if list_any (λ e. p == e.0) places.now then option_and_then (edit_of edit.now) (find nat_cmp p self.now.entries) else find nat_cmp p self.now.entries)) }
+        ensures found { IfOk result (λ s. (p : ℕ) → find nat_cmp p s.entries
+            ≡ (if list_any (λ e. p == e.0) places.now then option_and_then (edit_of edit.now)
+            (find nat_cmp p self.now.entries) else find nat_cmp p self.now.entries)) }
     {
         let begin = self.share(alloc)?;
         let mut parts = begin;
@@ -325,7 +334,8 @@ impl Parts {
     pub fn edited(&self, alloc: Global, child: Oid, edit: &Edit) -> Result<Parts, AllocError>
         requires indexed { IsIndexed self.now.entries self.now.by_child self.now.by_folder self.now.by_name }
         ensures indexed { IfOk result (λ s. IsIndexed s.entries s.by_child s.by_folder s.by_name) }
-        ensures found { IfOk result (λ s. (p : ℕ) → find nat_cmp p s.entries ≡ option_and_then (edit_child edit.now child) (find nat_cmp p self.now.entries)) }
+        ensures found { IfOk result (λ s. (p : ℕ) → find nat_cmp p s.entries
+            ≡ option_and_then (edit_child edit.now child) (find nat_cmp p self.now.entries)) }
     {
         match self.by_child.bucket(&child.0) {
             Some(places) => {

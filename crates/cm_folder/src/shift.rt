@@ -72,7 +72,8 @@ impl Filing {
     ///
     /// It is refused as NotFiled where the child is not in the source, as AlreadyFiled where it is in the target, as Below where the target is the child or stands below it, as Deep where the child or a folder below it would stand more than 48 entries below the root, and as NameTaken where another child of the target has the name.
     pub fn shift(&self, alloc: Global, child: Oid, source: Oid, target: Oid) -> Result<Filing, Fail>
-        ensures answer { Leaves result (refusal_shift self.now child source target) (shifted self.now child source target) }
+        ensures answer { Leaves result (refusal_shift self.now child source target)
+            (shifted self.now child source target) }
         ensures tree { IsTree self.now → IsFolderAt self.now target → IfOk result IsTree }
     {
         let filing = self.shift_judged(alloc, child, source, target);
@@ -96,7 +97,8 @@ impl Filing {
 
     // In one of the child's folders another child has the name.
     fn is_name_taken(&self, child: Oid, name: &Text) -> bool
-        ensures { result ≡ list_any (λ e. same e.child child && is_name_taken self.now e.folder child name.now) self.now }
+        ensures { result ≡ list_any (λ e. same e.child child
+            && is_name_taken self.now e.folder child name.now) self.now }
     {
         match self.parts.by_child.bucket(&child.0) {
             Some(folders) => self.is_taken_in_one(child, folders, name),

@@ -46,7 +46,8 @@ pub trait Block<K: Key, V: Drop>: Headed<K> {
         requires whole { whole self.now }
         requires sorted { T (is_sorted K.cmp (entries self.now)) }
         requires at_key { IfSome new (λ e. (arc_value e).0 ≡ key.now) }
-        ensures entries { IfOk result (λ p. flat_map entries (blocks_of p) ≡ change K.cmp key.now (option_map arc_value new) (entries self.now)) }
+        ensures entries { IfOk result (λ p. flat_map entries (blocks_of p)
+            ≡ change K.cmp key.now (option_map arc_value new) (entries self.now)) }
         ensures whole { IfOk result (λ p. AllByRecursion whole (blocks_of p)) }
         ensures spaced { IfOk result (λ p. Spaced (map count (blocks_of p))) };
 
@@ -65,7 +66,9 @@ pub trait Block<K: Key, V: Drop>: Headed<K> {
     ) -> Result<(), AllocError>
         requires whole { whole self.now }
         requires sorted { T (is_sorted K.cmp (entries self.now)) }
-        ensures { IfOk result (λ _. map pointee out.new.items ≡ map pointee out.old.items ++ where_key K.cmp (within K.cmp least.now most.now) (entries self.now)) };
+        ensures { IfOk result (λ _. map pointee out.new.items
+            ≡ map pointee out.old.items ++ where_key K.cmp (within K.cmp least.now most.now) (entries self.now)) };
 
-    ghost heads: { (b : Self) → whole b → (Self.first b ≡ first_of (entries b)) × IsSome (Self.first b) × (1 ≤ count b) × (count b ≤ full) };
+    ghost heads: { (b : Self) → whole b → (Self.first b ≡ first_of (entries b)) × IsSome (Self.first b) × (1 ≤ count b)
+        × (count b ≤ full) };
 }

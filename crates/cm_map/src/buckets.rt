@@ -73,8 +73,11 @@ impl<K: Key, J: Key, V: Drop> Buckets<K, J, V> {
         inner: J,
         value: V,
     ) -> Result<Buckets<K, J, V>, AllocError>
-        ensures bucket { IfOk result (λ m. m ≡ put K.cmp outer (put J.cmp inner value (bucket_of K.cmp self.now outer)) self.now) }
-        ensures found { IfOk result (λ m. (n : K) (k : J) → find_in K.cmp J.cmp m n k ≡ (if eq_by_cmp K.cmp n outer && eq_by_cmp J.cmp k inner then Some value else find_in K.cmp J.cmp self.now n k)) }
+        ensures bucket { IfOk result (λ m. m ≡ put K.cmp outer
+            (put J.cmp inner value (bucket_of K.cmp self.now outer)) self.now) }
+        ensures found { IfOk result (λ m. (n : K) (k : J) → find_in K.cmp J.cmp m n k
+            ≡ (if eq_by_cmp K.cmp n outer && eq_by_cmp J.cmp k inner then Some value else find_in K.cmp J.cmp self.now n
+            k)) }
     {
         let map = self.bucket_with(alloc, &outer, inner, value)?;
         let maps = self.maps.with(alloc, outer, map)?;
@@ -113,8 +116,11 @@ impl<K: Key, J: Key, V: Drop> Buckets<K, J, V> {
         outer: K,
         inner: &J,
     ) -> Result<Buckets<K, J, V>, AllocError>
-        ensures bucket { IfOk result (λ m. m ≡ with_bucket K.cmp outer (without_key J.cmp inner.now (bucket_of K.cmp self.now outer)) self.now) }
-        ensures found { IfOk result (λ m. (n : K) (k : J) → find_in K.cmp J.cmp m n k ≡ (if eq_by_cmp K.cmp n outer && eq_by_cmp J.cmp k inner.now then None else find_in K.cmp J.cmp self.now n k)) }
+        ensures bucket { IfOk result (λ m. m ≡ with_bucket K.cmp outer
+            (without_key J.cmp inner.now (bucket_of K.cmp self.now outer)) self.now) }
+        ensures found { IfOk result (λ m. (n : K) (k : J) → find_in K.cmp J.cmp m n k
+            ≡ (if eq_by_cmp K.cmp n outer && eq_by_cmp J.cmp k inner.now then None else find_in K.cmp J.cmp self.now n
+            k)) }
     {
         let map = self.bucket_without(alloc, &outer, inner)?;
         let maps = self.maps_with(alloc, outer, map)?;

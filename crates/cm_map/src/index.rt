@@ -46,7 +46,8 @@ impl Index {
     /// The index with the pair. Where it is there, all stays.
     pub fn with_pair(&self, alloc: Global, key: IndexKey, x: Oid) -> Result<Index, AllocError>
         ensures pairs { IfOk result (λ s. s ≡ with_key pair_order self.now (key, x)) }
-        ensures has { IfOk result (λ s. (q : IndexKey × Oid) → has_pair q s ≡ (same_pair q (key, x) || has_pair q self.now)) }
+        ensures has { IfOk result (λ s. (q : IndexKey × Oid) → has_pair q s
+            ≡ (same_pair q (key, x) || has_pair q self.now)) }
     {
         let number = same_number(x.0);
         let pairs = self.pairs.with(alloc, (key, Oid(number)))?;
@@ -56,7 +57,8 @@ impl Index {
     /// The index without the pair. Where it isn't there, all stays.
     pub fn without_pair(&self, alloc: Global, key: IndexKey, x: Oid) -> Result<Index, AllocError>
         ensures pairs { IfOk result (λ s. s ≡ all_but_key pair_order (key, x) self.now) }
-        ensures has { IfOk result (λ s. (q : IndexKey × Oid) → has_pair q s ≡ (has_pair q self.now && not (same_pair q (key, x)))) }
+        ensures has { IfOk result (λ s. (q : IndexKey × Oid) → has_pair q s
+            ≡ (has_pair q self.now && not (same_pair q (key, x)))) }
     {
         let pair = (key, x);
         let pairs = self.pairs.without(alloc, &pair)?;

@@ -17,9 +17,12 @@ pub fn gap<K: Key, V: Drop>(xs: &[Arc<(K, V)>], key: &K) -> (usize, usize)
     requires { T (is_sorted K.cmp (map arc_value xs.now)) }
     ensures from_in { result.0 ≤ length xs.now }
     ensures to_in { result.1 ≤ length xs.now }
-    ensures puts { (v : V) → put K.cmp key.now v (map arc_value xs.now) ≡ take result.0 (map arc_value xs.now) ++ (key.now, v) ∷ drop result.1 (map arc_value xs.now) }
-    ensures removes { without_key K.cmp key.now (map arc_value xs.now) ≡ take result.0 (map arc_value xs.now) ++ drop result.1 (map arc_value xs.now) }
-    ensures found { result.0 < result.1 → HeadIs (λ e. find K.cmp key.now (map arc_value xs.now) ≡ Some e.1) (drop result.0 (map arc_value xs.now)) }
+    ensures puts { (v : V) → put K.cmp key.now v (map arc_value xs.now)
+        ≡ take result.0 (map arc_value xs.now) ++ (key.now, v) ∷ drop result.1 (map arc_value xs.now) }
+    ensures removes { without_key K.cmp key.now (map arc_value xs.now)
+        ≡ take result.0 (map arc_value xs.now) ++ drop result.1 (map arc_value xs.now) }
+    ensures found { result.0 < result.1 → HeadIs (λ e. find K.cmp key.now (map arc_value xs.now)
+        ≡ Some e.1) (drop result.0 (map arc_value xs.now)) }
     ensures absent { result.1 ≤ result.0 → find K.cmp key.now (map arc_value xs.now) ≡ None }
 {
     if xs.is_empty() {
@@ -58,7 +61,8 @@ pub fn range_in<'a, K: Key, V: Drop>(
     most: &K,
 ) -> Result<(), AllocError>
     requires { T (is_sorted K.cmp (map arc_value xs.now)) }
-    ensures { IfOk result (λ _. map pointee out.new.items ≡ map pointee out.old.items ++ where_key K.cmp (within K.cmp least.now most.now) (map arc_value xs.now)) }
+    ensures { IfOk result (λ _. map pointee out.new.items
+        ≡ map pointee out.old.items ++ where_key K.cmp (within K.cmp least.now most.now) (map arc_value xs.now)) }
 {
     if xs.is_empty() {
         return Ok(());
@@ -74,7 +78,8 @@ fn push_within<'a, K: Key, V: Drop>(
     least: &K,
     most: &K,
 ) -> Result<(), AllocError>
-    ensures { IfOk result (λ _. map pointee out.new.items ≡ map pointee out.old.items ++ where_key K.cmp (within K.cmp least.now most.now) (map arc_value xs.now)) }
+    ensures { IfOk result (λ _. map pointee out.new.items
+        ≡ map pointee out.old.items ++ where_key K.cmp (within K.cmp least.now most.now) (map arc_value xs.now)) }
 {
     for x in xs {
         let entry: &'a (K, V) = x;

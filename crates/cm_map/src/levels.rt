@@ -30,7 +30,8 @@ fn change_in<K: Key, V: Drop>(
 ) -> Result<Vec<Arc<(K, V)>>, AllocError>
     requires sorted { T (is_sorted K.cmp (map arc_value xs.now)) }
     requires at_key { IfSome new (λ e. (arc_value e).0 ≡ key.now) }
-    ensures { IfOk result (λ v. map arc_value v.items ≡ change K.cmp key.now (option_map arc_value new) (map arc_value xs.now)) }
+    ensures { IfOk result (λ v. map arc_value v.items
+        ≡ change K.cmp key.now (option_map arc_value new) (map arc_value xs.now)) }
 {
     let (from, to) = gap(xs, key);
     match new {
@@ -82,7 +83,8 @@ pub fn group_of<K: Key, V: Drop, B: Block<K, V>>(
     requires few { length members.items ≤ full }
     requires whole { AllByRecursion B.whole (map arc_value members.items) }
     requires spaced { Spaced (map B.count (map arc_value members.items)) }
-    ensures entries { IfOk result (λ g. group_entries B.entries (arc_value g) ≡ flat_map B.entries (map arc_value members.items)) }
+    ensures entries { IfOk result (λ g. group_entries B.entries (arc_value g)
+        ≡ flat_map B.entries (map arc_value members.items)) }
     ensures whole { IfOk result (λ g. IsGroup B.whole B.count (arc_value g)) }
     ensures count { IfOk result (λ g. group_count (arc_value g) ≡ length members.items) }
 {
@@ -127,7 +129,8 @@ pub fn group_pieces<K: Key, V: Drop, B: Block<K, V>>(
     requires most { cut ≤ full }
     requires whole { AllByRecursion B.whole (map arc_value members.items) }
     requires spaced { Spaced (map B.count (map arc_value members.items)) }
-    ensures entries { IfOk result (λ p. flat_map (group_entries B.entries) (blocks_of p) ≡ flat_map B.entries (map arc_value members.items)) }
+    ensures entries { IfOk result (λ p. flat_map (group_entries B.entries) (blocks_of p)
+        ≡ flat_map B.entries (map arc_value members.items)) }
     ensures whole { IfOk result (λ p. AllByRecursion (IsGroup B.whole B.count) (blocks_of p)) }
     ensures spaced { IfOk result (λ p. Spaced (map group_count (blocks_of p))) }
 {
@@ -180,7 +183,8 @@ impl<K: Key, V: Drop> Block<K, V> for Leaf<K, V> {
         requires whole { IsLeaf self.now }
         requires sorted { T (is_sorted K.cmp (leaf_entries self.now)) }
         requires at_key { IfSome new (λ e. (arc_value e).0 ≡ key.now) }
-        ensures entries { IfOk result (λ p. flat_map leaf_entries (blocks_of p) ≡ change K.cmp key.now (option_map arc_value new) (leaf_entries self.now)) }
+        ensures entries { IfOk result (λ p. flat_map leaf_entries (blocks_of p)
+            ≡ change K.cmp key.now (option_map arc_value new) (leaf_entries self.now)) }
         ensures whole { IfOk result (λ p. AllByRecursion IsLeaf (blocks_of p)) }
         ensures spaced { IfOk result (λ p. Spaced (map leaf_count (blocks_of p))) }
     {
@@ -206,7 +210,8 @@ impl<K: Key, V: Drop> Block<K, V> for Leaf<K, V> {
     ) -> Result<(), AllocError>
         requires whole { IsLeaf self.now }
         requires sorted { T (is_sorted K.cmp (leaf_entries self.now)) }
-        ensures { IfOk result (λ _. map pointee out.new.items ≡ map pointee out.old.items ++ where_key K.cmp (within K.cmp least.now most.now) (leaf_entries self.now)) }
+        ensures { IfOk result (λ _. map pointee out.new.items
+            ≡ map pointee out.old.items ++ where_key K.cmp (within K.cmp least.now most.now) (leaf_entries self.now)) }
     {
         range_in(out, &self.entries, least, most)?;
         Ok(())
@@ -253,7 +258,8 @@ impl<K: Key, V: Drop, B: Block<K, V>> Block<K, V> for Group<B> {
         requires whole { IsGroup B.whole B.count self.now }
         requires sorted { T (is_sorted K.cmp (group_entries B.entries self.now)) }
         requires at_key { IfSome new (λ e. (arc_value e).0 ≡ key.now) }
-        ensures entries { IfOk result (λ p. flat_map (group_entries B.entries) (blocks_of p) ≡ change K.cmp key.now (option_map arc_value new) (group_entries B.entries self.now)) }
+        ensures entries { IfOk result (λ p. flat_map (group_entries B.entries) (blocks_of p)
+            ≡ change K.cmp key.now (option_map arc_value new) (group_entries B.entries self.now)) }
         ensures whole { IfOk result (λ p. AllByRecursion (IsGroup B.whole B.count) (blocks_of p)) }
         ensures spaced { IfOk result (λ p. Spaced (map group_count (blocks_of p))) }
     {
@@ -279,7 +285,9 @@ impl<K: Key, V: Drop, B: Block<K, V>> Block<K, V> for Group<B> {
     ) -> Result<(), AllocError>
         requires whole { IsGroup B.whole B.count self.now }
         requires sorted { T (is_sorted K.cmp (group_entries B.entries self.now)) }
-        ensures { IfOk result (λ _. map pointee out.new.items ≡ map pointee out.old.items ++ where_key K.cmp (within K.cmp least.now most.now) (group_entries B.entries self.now)) }
+        ensures { IfOk result (λ _. map pointee out.new.items
+            ≡ map pointee out.old.items ++ where_key K.cmp (within K.cmp least.now most.now)
+            (group_entries B.entries self.now)) }
     {
         row_ranged::<K, V, B>(out, &self.members, least, most)?;
         Ok(())

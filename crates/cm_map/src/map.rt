@@ -54,7 +54,8 @@ impl<K: Key, V: Drop> Model for Map<K, V> {
 
     ghost Value = { List (K × V) };
 
-    ghost view = { λ m. tree_entries (option_map arc_value m.body.tree) ++ tail_entries (option_map arc_value m.body.tail) };
+    ghost view = { λ m. tree_entries (option_map arc_value m.body.tree)
+        ++ tail_entries (option_map arc_value m.body.tail) };
 
     ghost invariant = { λ m. IsMap K.cmp m.len (option_map arc_value m.body.tree) (option_map arc_value m.body.tail) };
 }

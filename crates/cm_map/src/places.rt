@@ -18,8 +18,10 @@ pub fn place<K: Key, B: Headed<K>>(xs: &[Arc<B>], key: &K) -> usize
     requires some { 0 < length xs.now }
     requires heads { AllByRecursion (λ b. IsSome (B.first b)) (map arc_value xs.now) }
     ensures in_range { result < length xs.now }
-    ensures low { 0 < result → HeadIs (λ b. IfSome (B.first b) (λ x. is_gt (K.cmp x key.now) ≡ false)) (drop result (map arc_value xs.now)) }
-    ensures high { HeadIs (λ b. IfSome (B.first b) (λ x. K.cmp x key.now ≡ Greater)) (drop (result + 1) (map arc_value xs.now)) }
+    ensures low { 0 < result → HeadIs (λ b. IfSome (B.first b) (λ x. is_gt (K.cmp x key.now) ≡ false))
+        (drop result (map arc_value xs.now)) }
+    ensures high { HeadIs (λ b. IfSome (B.first b) (λ x. K.cmp x key.now ≡ Greater))
+        (drop (result + 1) (map arc_value xs.now)) }
 {
     let mut lo = 0;
     let mut hi = xs.len();

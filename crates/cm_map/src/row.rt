@@ -26,7 +26,8 @@ pub fn joined<K: Key, V: Drop, B: Block<K, V>>(
     requires right_whole { AllByRecursion B.whole (map arc_value right.now) }
     requires left_spaced { Spaced (map B.count (map arc_value left.items)) }
     requires right_spaced { Spaced (map B.count (map arc_value right.now)) }
-    ensures entries { IfOk result (λ v. flat_map B.entries (map arc_value v.items) ≡ flat_map B.entries (map arc_value left.items) ++ flat_map B.entries (map arc_value right.now)) }
+    ensures entries { IfOk result (λ v. flat_map B.entries (map arc_value v.items)
+        ≡ flat_map B.entries (map arc_value left.items) ++ flat_map B.entries (map arc_value right.now)) }
     ensures whole { IfOk result (λ v. AllByRecursion B.whole (map arc_value v.items)) }
     ensures spaced { IfOk result (λ v. Spaced (map B.count (map arc_value v.items))) }
     ensures most { IfOk result (λ v. length v.items ≤ length left.items + length right.now) }
@@ -100,7 +101,9 @@ pub fn replaced<K: Key, V: Drop, B: Block<K, V>>(
     requires spaced { Spaced (map B.count (map arc_value xs.now)) }
     requires pieces_whole { AllByRecursion B.whole (blocks_of pieces) }
     requires pieces_spaced { Spaced (map B.count (blocks_of pieces)) }
-    ensures entries { IfOk result (λ v. flat_map B.entries (map arc_value v.items) ≡ flat_map B.entries (take i (map arc_value xs.now)) ++ (flat_map B.entries (blocks_of pieces) ++ flat_map B.entries (drop (i + 1) (map arc_value xs.now)))) }
+    ensures entries { IfOk result (λ v. flat_map B.entries (map arc_value v.items)
+        ≡ flat_map B.entries (take i (map arc_value xs.now))
+        ++ (flat_map B.entries (blocks_of pieces) ++ flat_map B.entries (drop (i + 1) (map arc_value xs.now)))) }
     ensures whole { IfOk result (λ v. AllByRecursion B.whole (map arc_value v.items)) }
     ensures spaced { IfOk result (λ v. Spaced (map B.count (map arc_value v.items))) }
     ensures most { IfOk result (λ v. length v.items ≤ length xs.now + 1) }
@@ -124,7 +127,8 @@ pub fn row_changed<K: Key, V: Drop, B: Block<K, V>>(
     requires spaced { Spaced (map B.count (map arc_value xs.now)) }
     requires sorted { T (is_sorted K.cmp (flat_map B.entries (map arc_value xs.now))) }
     requires at_key { IfSome new (λ e. (arc_value e).0 ≡ key.now) }
-    ensures entries { IfOk result (λ v. flat_map B.entries (map arc_value v.items) ≡ change K.cmp key.now (option_map arc_value new) (flat_map B.entries (map arc_value xs.now))) }
+    ensures entries { IfOk result (λ v. flat_map B.entries (map arc_value v.items)
+        ≡ change K.cmp key.now (option_map arc_value new) (flat_map B.entries (map arc_value xs.now))) }
     ensures whole { IfOk result (λ v. AllByRecursion B.whole (map arc_value v.items)) }
     ensures spaced { IfOk result (λ v. Spaced (map B.count (map arc_value v.items))) }
     ensures few { IfOk result (λ v. length v.items ≤ length xs.now + 1) }
@@ -162,7 +166,9 @@ pub fn row_ranged<'a, K: Key, V: Drop, B: Block<K, V>>(
 ) -> Result<(), AllocError>
     requires whole { AllByRecursion B.whole (map arc_value xs.now) }
     requires sorted { T (is_sorted K.cmp (flat_map B.entries (map arc_value xs.now))) }
-    ensures { IfOk result (λ _. map pointee out.new.items ≡ map pointee out.old.items ++ where_key K.cmp (within K.cmp least.now most.now) (flat_map B.entries (map arc_value xs.now))) }
+    ensures { IfOk result (λ _. map pointee out.new.items
+        ≡ map pointee out.old.items ++ where_key K.cmp (within K.cmp least.now most.now)
+        (flat_map B.entries (map arc_value xs.now))) }
 {
     if xs.is_empty() {
         return Ok(());
@@ -181,7 +187,9 @@ fn push_ranged<'a, K: Key, V: Drop, B: Block<K, V>>(
 ) -> Result<(), AllocError>
     requires whole { AllByRecursion B.whole (map arc_value xs.now) }
     requires sorted { T (is_sorted K.cmp (flat_map B.entries (map arc_value xs.now))) }
-    ensures { IfOk result (λ _. map pointee out.new.items ≡ map pointee out.old.items ++ where_key K.cmp (within K.cmp least.now most.now) (flat_map B.entries (map arc_value xs.now))) }
+    ensures { IfOk result (λ _. map pointee out.new.items
+        ≡ map pointee out.old.items ++ where_key K.cmp (within K.cmp least.now most.now)
+        (flat_map B.entries (map arc_value xs.now))) }
 {
     for x in xs {
         let inner: &'a B = x;

@@ -51,7 +51,8 @@ impl<K: Key> Set<K> {
     /// The set with the key. Where it is there, all stays.
     pub fn with(&self, alloc: Global, key: K) -> Result<Self, AllocError>
         ensures keys { IfOk result (λ s. s ≡ with_key K.cmp self.now key) }
-        ensures has { IfOk result (λ s. (q : K) → has_key K.cmp q s ≡ (eq_by_cmp K.cmp q key || has_key K.cmp q self.now)) }
+        ensures has { IfOk result (λ s. (q : K) → has_key K.cmp q s
+            ≡ (eq_by_cmp K.cmp q key || has_key K.cmp q self.now)) }
     {
         let _count = self.entries.len();
         let entries = self.entries.with(alloc, key, ())?;
@@ -61,7 +62,8 @@ impl<K: Key> Set<K> {
     /// The set without the key. Where it isn't there, all stays.
     pub fn without(&self, alloc: Global, key: &K) -> Result<Self, AllocError>
         ensures keys { IfOk result (λ s. s ≡ all_but_key K.cmp key.now self.now) }
-        ensures has { IfOk result (λ s. (q : K) → has_key K.cmp q s ≡ (has_key K.cmp q self.now && not (eq_by_cmp K.cmp q key.now))) }
+        ensures has { IfOk result (λ s. (q : K) → has_key K.cmp q s
+            ≡ (has_key K.cmp q self.now && not (eq_by_cmp K.cmp q key.now))) }
     {
         let entries = self.entries.without(alloc, key)?;
         Ok(Set { entries })

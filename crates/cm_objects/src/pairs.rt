@@ -34,7 +34,8 @@ pub(crate) fn without_pairs(
     keys: &Keys,
     n: Oid,
 ) -> Result<Index, AllocError>
-    ensures { IfOk result (λ s. (p : IndexKey × Oid) → has_pair p s ≡ (has_pair p index && not (is_pair_of n keys.now p))) }
+    ensures { IfOk result (λ s. (p : IndexKey × Oid) → has_pair p s
+        ≡ (has_pair p index && not (is_pair_of n keys.now p))) }
 {
     let mut all = index;
     for key in keys.as_slice() {

@@ -36,7 +36,8 @@ impl Model for People {
 // Takes the names of the user's groups out of the map.
 fn taken(alloc: Global, by_member: &mut BTreeMap<String, Texts>, member: &Text) -> Texts
     ensures names { result ≡ names_at by_member.old member.now }
-    ensures others { (u : List ℕ) → names_at by_member.new u ≡ (if bytes_eq member.now u then [] else names_at by_member.old u) }
+    ensures others { (u : List ℕ) → names_at by_member.new u
+        ≡ (if bytes_eq member.now u then [] else names_at by_member.old u) }
 {
     match by_member.remove(member.as_str()) {
         Some(names) => names,
@@ -68,7 +69,8 @@ fn note_group(
     group: &Group,
 ) -> Result<(), AllocError>
     requires differ { all_differ group.now.members ≡ true }
-    ensures { IfOk result (λ _. (u : List ℕ) → names_at by_member.new u ≡ names_at by_member.old u ++ names_of (group.now ∷ []) u) }
+    ensures { IfOk result (λ _. (u : List ℕ) → names_at by_member.new u
+        ≡ names_at by_member.old u ++ names_of (group.now ∷ []) u) }
 {
     for member in group.members.as_slice() {
         note(alloc, by_member, member, &group.name)?;

@@ -33,7 +33,8 @@ fn with_number(
     all: &Map<u64, ()>,
     x: Option<&Object>,
 ) -> Result<Map<u64, ()>, AllocError>
-    ensures { IfOk result (λ m. (n : ℕ) → is_some (find nat_cmp n m) ≡ (has_number n (option_copied x.entry) || is_some (find nat_cmp n all.now))) }
+    ensures { IfOk result (λ m. (n : ℕ) → is_some (find nat_cmp n m)
+        ≡ (has_number n (option_copied x.entry) || is_some (find nat_cmp n all.now))) }
 {
     match x {
         Some(x) => {
@@ -50,7 +51,8 @@ fn numbers_among(
     parts: &Parts,
     entries: &Map<u64, Oid>,
 ) -> Result<Map<u64, ()>, AllocError>
-    ensures { IfOk result (λ m. (n : ℕ) → is_some (find nat_cmp n m) ≡ list_any (λ e. has_number n (standing_at parts.now e.1)) entries.now) }
+    ensures { IfOk result (λ m. (n : ℕ) → is_some (find nat_cmp n m)
+        ≡ list_any (λ e. has_number n (standing_at parts.now e.1)) entries.now) }
 {
     let mut all = Map::empty(alloc);
     for entry in entries.iter() {
@@ -62,7 +64,8 @@ fn numbers_among(
 
 // Adds the number of the object, if there is one.
 fn push_number(numbers: &mut Oids, x: Option<&Object>) -> Result<(), AllocError>
-    ensures { OnOk result ((n : Oid) → list_any (same n) numbers.new ≡ (has_number n.0 (option_copied x.entry) || list_any (same n) numbers.old)) }
+    ensures { OnOk result ((n : Oid) → list_any (same n) numbers.new
+        ≡ (has_number n.0 (option_copied x.entry) || list_any (same n) numbers.old)) }
 {
     match x {
         Some(x) => numbers.push(x.id),
@@ -72,7 +75,8 @@ fn push_number(numbers: &mut Oids, x: Option<&Object>) -> Result<(), AllocError>
 
 // The numbers of what stands for these entries, in the order of the entries.
 fn gathered(alloc: Global, parts: &Parts, entries: &Map<u64, Oid>) -> Result<Oids, AllocError>
-    ensures { IfOk result (λ ns. (n : Oid) → list_any (same n) ns ≡ list_any (λ e. has_number n.0 (standing_at parts.now e.1)) entries.now) }
+    ensures { IfOk result (λ ns. (n : Oid) → list_any (same n) ns
+        ≡ list_any (λ e. has_number n.0 (standing_at parts.now e.1)) entries.now) }
 {
     let mut numbers = Items::new(alloc);
     for entry in entries.iter() {
@@ -99,7 +103,8 @@ fn are_rising(numbers: &[Oid]) -> bool
 // The numbers of what stands for these entries, put in order by a set.
 fn sorted_among(alloc: Global, parts: &Parts, entries: &Map<u64, Oid>) -> Result<Oids, AllocError>
     ensures rising { IfOk result (λ ns. Rises (λ n. n.0) ns) }
-    ensures members { IfOk result (λ ns. (n : Oid) → list_any (same n) ns ≡ list_any (λ e. has_number n.0 (standing_at parts.now e.1)) entries.now) }
+    ensures members { IfOk result (λ ns. (n : Oid) → list_any (same n) ns
+        ≡ list_any (λ e. has_number n.0 (standing_at parts.now e.1)) entries.now) }
 {
     let all = numbers_among(alloc, parts, entries)?;
     let _sorted = all.len();
@@ -114,7 +119,8 @@ pub(crate) fn standing_among(
     entries: &Map<u64, Oid>,
 ) -> Result<Oids, AllocError>
     ensures rising { IfOk result (λ ns. Rises (λ n. n.0) ns) }
-    ensures members { IfOk result (λ ns. (n : Oid) → list_any (same n) ns ≡ list_any (λ e. has_number n.0 (standing_at parts.now e.1)) entries.now) }
+    ensures members { IfOk result (λ ns. (n : Oid) → list_any (same n) ns
+        ≡ list_any (λ e. has_number n.0 (standing_at parts.now e.1)) entries.now) }
 {
     let numbers = gathered(alloc, parts, entries)?;
     if are_rising(numbers.as_slice()) {

@@ -271,7 +271,8 @@ impl State {
 
     /// The object that stands in the folder under the name.
     pub fn child_standing(&self, folder: Oid, name: &Text) -> Option<&Object>
-        ensures { (keep : Object → Bool) → find (λ x. (is_filed self.now folder (entry_of x) && stands self.now x && keep x) && bytes_eq (entry_name self.now (entry_of x)) name.now) self.now.objects
+        ensures { (keep : Object → Bool) → find (λ x. (is_filed self.now folder (entry_of x) && stands self.now x
+            && keep x) && bytes_eq (entry_name self.now (entry_of x)) name.now) self.now.objects
             ≡ option_and_then (λ x. if keep x then Some x else None) (option_copied result) }
     {
         match self.parts.child_named(folder, name) {

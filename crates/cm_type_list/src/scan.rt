@@ -27,7 +27,8 @@ fn has_name(def: &TypeDef, id: &Text, query_name: &Text) -> bool
 
 /// Whether a type has the id or the query name.
 pub(crate) fn is_name_taken(types: &Map<Text, TypeDef>, id: &Text, query_name: &Text) -> bool
-    ensures { result ≡ list_any (λ t. bytes_eq t.id id.now || bytes_eq t.query_name query_name.now) (values_of types.now) }
+    ensures { result ≡ list_any (λ t. bytes_eq t.id id.now || bytes_eq t.query_name query_name.now)
+        (values_of types.now) }
 {
     let mut found = false;
     for entry in types.iter() {

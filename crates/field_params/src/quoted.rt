@@ -39,7 +39,8 @@ fn step_of(escaped: bool, b: u8) -> Step
 
 /// A quoted value, from behind its first quote; none where no quote ends it.
 pub fn read_quoted(alloc: Global, text: &[u8]) -> Result<Option<Quoted>, AllocError>
-    ensures value { IfOk result (λ r. option_map (λ t. (t.value.items, drop t.len text.now)) r ≡ quoted false text.now) }
+    ensures value { IfOk result (λ r. option_map (λ t. (t.value.items, drop t.len text.now)) r
+        ≡ quoted false text.now) }
     ensures within { IfOk result (λ r. IfSome r (λ t. t.len ≤ length text.now)) }
 {
     let mut value = Vec::new(alloc);

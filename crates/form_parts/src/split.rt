@@ -14,7 +14,8 @@ use std::alloc::Global;
 
 /// Where the parts of a body stand. It goes through the body once. A body that is none in parts is BadBody.
 pub fn split(alloc: Global, boundary: &[u8], body: &[u8]) -> Result<Vec<Span>, Fail>
-    ensures parts { Meets (λ v. map (bytes_of body.now) v.items) result (find_or causes.BadBody (split_of boundary.now body.now)) }
+    ensures parts { Meets (λ v. map (bytes_of body.now) v.items) result
+        (find_or causes.BadBody (split_of boundary.now body.now)) }
     ensures within { IfOk result (λ v. All (IsWithin body.now) v.items) }
 {
     let Some(first) = scan(boundary, body, 0) else {

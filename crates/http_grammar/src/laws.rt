@@ -59,5 +59,6 @@ pub fn held_head_has_bytes()
 
 /// Where a fault stands at the front, the head that more bytes hold is held already.
 pub fn fault_holds_its_head()
-    ensures { (bytes more : List ℕ) (fault : HttpFault) (h : Head) → First bytes (Fault fault) → HoldsHead (bytes ++ more) h → HoldsHead bytes h }
+    ensures { (bytes more : List ℕ) (fault : HttpFault) (h : Head) → First bytes (Fault fault)
+        → HoldsHead (bytes ++ more) h → HoldsHead bytes h }
 {}

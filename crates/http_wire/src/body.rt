@@ -80,7 +80,8 @@ pub fn fill<S: Source>(
     count: usize,
 ) -> Result<(), WireStop>
     requires { length body.old.items + count ≤ body_limit }
-    ensures fills { Fills (held window.old) (held window.new) body.old.items body.new.items count (S.told source.old) (S.told source.new) result }
+    ensures fills { Fills (held window.old) (held window.new) body.old.items body.new.items count (S.told source.old)
+        (S.told source.new) result }
     ensures aside { S.aside source.new ≡ S.aside source.old }
 {
     let Ok(had) = take_front(window, body, count) else {

@@ -29,7 +29,8 @@ fn read_data<S: Source>(
 ) -> Result<(), WireStop>
     requires room { length spans.old ≡ field_room }
     requires short { length body.old.items + size ≤ body_limit }
-    ensures reads { ReadsData (held window.old) (held window.new) body.old.items body.new.items size (S.told source.old) (S.told source.new) result }
+    ensures reads { ReadsData (held window.old) (held window.new) body.old.items body.new.items size (S.told source.old)
+        (S.told source.new) result }
     ensures aside { S.aside source.new ≡ S.aside source.old }
 {
     match fill(source, window, body, size) {
@@ -72,7 +73,8 @@ fn read_chunk<S: Source>(
     requires room { length spans.old ≡ field_room }
     requires short { length body.old.items ≤ body_limit }
     requires within { form ≤ 134217728 }
-    ensures reads { ReadsChunk (held window.old) (held window.new) body.old.items body.new.items form (S.told source.old) (S.told source.new) result }
+    ensures reads { ReadsChunk (held window.old) (held window.new) body.old.items body.new.items form
+        (S.told source.old) (S.told source.new) result }
     ensures aside { S.aside source.new ≡ S.aside source.old }
 {
     let budget = CHUNKED_LIMIT - form;
@@ -104,7 +106,8 @@ pub fn read_chunks<S: Source>(
 ) -> Result<(), WireStop>
     requires room { length spans.old ≡ field_room }
     requires empty { body.old.items ≡ [] }
-    ensures reads { ReadsBody Framing.Chunked (held window.old) (held window.new) body.new.items (S.told source.old) (S.told source.new) result }
+    ensures reads { ReadsBody Framing.Chunked (held window.old) (held window.new) body.new.items (S.told source.old)
+        (S.told source.new) result }
     ensures aside { S.aside source.new ≡ S.aside source.old }
 {
     let mut form = 0;

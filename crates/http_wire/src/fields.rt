@@ -177,7 +177,8 @@ fn by_coding(value: &[u8]) -> Result<Framing, HttpFault>
 #[tactic(auto, unfolding(http_grammar::specs::Fields::head_framing))]
 pub fn framing_of(text: &[u8], minor: u8, fields: &[HeaderSpan]) -> Result<Framing, HttpFault>
     requires { All (IsHeaderWithin (length text.now)) fields.now }
-    ensures { (head : Head) → head.minor ≡ minor → head.fields ≡ fields_at text.now fields.now → result ≡ head_framing head }
+    ensures { (head : Head) → head.minor ≡ minor → head.fields ≡ fields_at text.now fields.now → result
+        ≡ head_framing head }
 {
     if has_good_host(text, minor, fields) {
         framing(text, minor, fields)
@@ -261,7 +262,8 @@ fn promises_body(framing: Framing) -> bool
 #[tactic(auto, unfolding(http_grammar::specs::Fields::expects_continue))]
 pub fn expects_continue(text: &[u8], minor: u8, fields: &[HeaderSpan], framing: Framing) -> bool
     requires { All (IsHeaderWithin (length text.now)) fields.now }
-    ensures { (head : Head) → head.minor ≡ minor → head.fields ≡ fields_at text.now fields.now → head_framing head ≡ Ok framing → result ≡ expects_continue head }
+    ensures { (head : Head) → head.minor ≡ minor → head.fields ≡ fields_at text.now fields.now → head_framing head
+        ≡ Ok framing → result ≡ expects_continue head }
 {
     minor != 0 && promises_body(framing) && has_expect(text, fields)
 }

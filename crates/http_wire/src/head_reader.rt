@@ -62,7 +62,8 @@ pub fn read_head<S: Source>(
     window: &mut Window,
     spans: &mut Vec<HeaderSpan>,
 ) -> Result<Option<Framed>, WireStop>
-    ensures reads { ReadsHead (held window.old) (held window.new) spans.new.items (S.told source.old) (S.told source.new) result }
+    ensures reads { ReadsHead (held window.old) (held window.new) spans.new.items (S.told source.old)
+        (S.told source.new) result }
     ensures aside { S.aside source.new ≡ S.aside source.old }
 {
     let mut pace = Pace::for_head();

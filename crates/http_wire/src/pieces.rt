@@ -171,7 +171,8 @@ pub fn read_piece<S: Source>(
     budget: usize,
 ) -> Result<PieceEnd, WireStop>
     requires { length spans.old ≡ field_room }
-    ensures reads { ReadsPiece (held window.old) (held window.new) piece budget (S.told source.old) (S.told source.new) result }
+    ensures reads { ReadsPiece (held window.old) (held window.new) piece budget (S.told source.old)
+        (S.told source.new) result }
     ensures aside { S.aside source.new ≡ S.aside source.old }
 {
     let mut pace = pace_of(piece);

@@ -60,7 +60,8 @@ fn read_chunked<S: Source>(
     body: &mut Vec<u8>,
 ) -> Result<(), WireStop>
     requires { body.old.items ≡ [] }
-    ensures reads { ReadsBody Framing.Chunked (held window.old) (held window.new) body.new.items (S.told source.old) (S.told source.new) result }
+    ensures reads { ReadsBody Framing.Chunked (held window.old) (held window.new) body.new.items (S.told source.old)
+        (S.told source.new) result }
     ensures aside { S.aside source.new ≡ S.aside source.old }
 {
     match widen(spans) {
@@ -79,7 +80,8 @@ fn read_body<S: Source>(
 ) -> Result<(), WireStop>
     requires short { (n : ℕ) → framing ≡ Framing.Sized n → n ≤ body_limit }
     requires empty { body.old.items ≡ [] }
-    ensures reads { ReadsBody framing (held window.old) (held window.new) body.new.items (S.told source.old) (S.told source.new) result }
+    ensures reads { ReadsBody framing (held window.old) (held window.new) body.new.items (S.told source.old)
+        (S.told source.new) result }
     ensures aside { S.aside source.new ≡ S.aside source.old }
 {
     match framing {
@@ -105,7 +107,8 @@ fn take_head(
 
 // The request of a head and the body that was collected.
 fn with_body(head: Head, body: Vec<u8>) -> Result<Incoming, WireStop>
-    ensures { MatchResult result (λ incoming. incoming ≡ Incoming.Body (record { head = head; body = body.items })) (λ stop. stop ≡ WireStop.Memory) }
+    ensures { MatchResult result (λ incoming. incoming ≡ Incoming.Body (record { head = head; body = body.items }))
+        (λ stop. stop ≡ WireStop.Memory) }
 {
     match Bytes::from_vec(body) {
         Ok(body) => Ok(Incoming::Body(Request::new(head, body))),
@@ -121,7 +124,8 @@ fn read_into<S: Source>(
     spans: &mut Vec<HeaderSpan>,
     answered: &mut bool,
 ) -> Result<Incoming, WireStop>
-    ensures reads { ReadsRequest (record { bytes = held window.old; answered = answered.old }) (record { bytes = held window.new; answered = answered.new }) (S.told source.old) (S.told source.new) result }
+    ensures reads { ReadsRequest (record { bytes = held window.old; answered = answered.old })
+        (record { bytes = held window.new; answered = answered.new }) (S.told source.old) (S.told source.new) result }
     ensures aside { S.aside source.new ≡ S.aside source.old }
 {
     narrow(spans);

@@ -101,7 +101,8 @@ pub fn members_at<'a>(
     key: &str,
 ) -> Result<Option<&'a Map<String, Value>>, WrongKind>
     ensures { MatchResult result
-        (λ o. of_kind as_object (value_at key.now (view value.now)) ≡ Some (option_map (λ m. members_view m.now.entries) o))
+        (λ o. of_kind as_object (value_at key.now (view value.now))
+        ≡ Some (option_map (λ m. members_view m.now.entries) o))
         (λ _. of_kind as_object (value_at key.now (view value.now)) ≡ None) }
 {
     match value.get(key) {

@@ -29,7 +29,8 @@ impl Model for Drip {
 impl Drip {
     /// A source with these bytes left, whose reads give so many at most, and one where that is 0. No read fails.
     pub fn new(alloc: Global, left: &[u8], most: usize) -> Result<Drip, AllocError>
-        ensures source { IfOk result (λ drip. drip.source ≡ record { left = left.now; given = []; ended = false; faults = 0; failing = []; calls = 0 }) }
+        ensures source { IfOk result (λ drip. drip.source
+            ≡ record { left = left.now; given = []; ended = false; faults = 0; failing = []; calls = 0 }) }
         ensures most { IfOk result (λ drip. drip.most ≡ max most 1) }
     {
         let source = MemSource::new(alloc, left, &[])?;

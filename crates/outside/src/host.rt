@@ -24,7 +24,8 @@ pub trait Host {
 
     /// The next link, once it comes. None: as many were given as may be, or none is left.
     fn accept(&mut self) -> Result<Option<Self::Link>, Failed>
-        ensures accepts { Accepts (λ l. IsNew (Self.Link.Source.told l) (Self.Link.Sink.told l)) (told self.old) (left self.old) result (told self.new) (left self.new) }
+        ensures accepts { Accepts (λ l. IsNew (Self.Link.Source.told l) (Self.Link.Sink.told l)) (told self.old)
+            (left self.old) result (told self.new) (left self.new) }
         ensures port { (told self.new).port ≡ (told self.old).port }
         ensures bound { (told self.new).bound ≡ (told self.old).bound }
         ensures cause { HasCause (told self.old).faults (told self.new).faults result };

@@ -32,7 +32,8 @@ impl MemLink {
         reads: &[u64],
         writes: &[u64],
     ) -> Result<MemLink, AllocError>
-        ensures source { IfOk result (λ link. link.source ≡ record { left = left.now; given = []; ended = false; faults = 0; failing = reads.now; calls = 0 }) }
+        ensures source { IfOk result (λ link. link.source
+            ≡ record { left = left.now; given = []; ended = false; faults = 0; failing = reads.now; calls = 0 }) }
         ensures sink { IfOk result (λ link. IsNewSink writes.now link.sink) }
     {
         let source = MemSource::new(alloc, left, reads)?;
@@ -87,7 +88,8 @@ impl Sink for MemLink {
         ensures bytes { Writes (sink_told self.old.sink) (sink_told self.new.sink) result piece.now }
         ensures cause { HasCause self.old.sink.faults self.new.sink.faults result }
         ensures fails { is_listed self.old.sink.failing self.old.sink.calls ≡ true → is_err result ≡ true }
-        ensures wants { OnErr result ((is_listed self.old.sink.failing self.old.sink.calls ≡ true) ⊎ (self.old.sink.room < length self.old.sink.held + length piece.now)) }
+        ensures wants { OnErr result ((is_listed self.old.sink.failing self.old.sink.calls
+            ≡ true) ⊎ (self.old.sink.room < length self.old.sink.held + length piece.now)) }
         ensures whole { IfOk result (λ n. n ≡ length piece.now) }
         ensures calls { self.new.sink.calls ≡ counted self.old.sink.calls }
         ensures failing { self.new.sink.failing ≡ self.old.sink.failing }

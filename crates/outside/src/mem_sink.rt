@@ -66,7 +66,8 @@ impl Sink for MemSink {
         ensures bytes { Writes (sink_told self.old) (sink_told self.new) result piece.now }
         ensures cause { HasCause self.old.faults self.new.faults result }
         ensures fails { is_listed self.old.failing self.old.calls ≡ true → is_err result ≡ true }
-        ensures wants { OnErr result ((is_listed self.old.failing self.old.calls ≡ true) ⊎ (self.old.room < length self.old.held + length piece.now)) }
+        ensures wants { OnErr result ((is_listed self.old.failing self.old.calls
+            ≡ true) ⊎ (self.old.room < length self.old.held + length piece.now)) }
         ensures whole { IfOk result (λ n. n ≡ length piece.now) }
         ensures faults { self.new.faults ≡ (if is_err result then counted self.old.faults else self.old.faults) }
         ensures calls { self.new.calls ≡ counted self.old.calls }

@@ -39,7 +39,14 @@ impl Model for MemSource {
 impl MemSource {
     /// A source with these bytes left, whose reads with these numbers fail, counted from 0.
     pub fn new(alloc: Global, left: &[u8], reads: &[u64]) -> Result<MemSource, AllocError>
-        ensures { IfOk result (λ source. source ≡ record { left = left.now; given = []; ended = false; faults = 0; failing = reads.now; calls = 0 }) }
+        ensures { IfOk result (λ source. source ≡ record {
+          left = left.now;
+          given = [];
+          ended = false;
+          faults = 0;
+          failing = reads.now;
+          calls = 0;
+        }) }
     {
         let bytes = Vec::from_slice(alloc, left)?;
         let failing = Vec::from_slice(alloc, reads)?;
@@ -87,7 +94,8 @@ impl Source for MemSource {
         ensures cause { HasCause self.old.faults self.new.faults result }
         ensures fails { is_err result ≡ is_listed self.old.failing self.old.calls }
         ensures whole { IfOk result (λ n. n ≡ min (length room.old) (length self.old.left)) }
-        ensures faults { self.new.faults ≡ (if is_listed self.old.failing self.old.calls then counted self.old.faults else self.old.faults) }
+        ensures faults { self.new.faults ≡ (if is_listed self.old.failing self.old.calls then counted self.old.faults
+            else self.old.faults) }
         ensures calls { self.new.calls ≡ counted self.old.calls }
         ensures failing { self.new.failing ≡ self.old.failing }
     {

@@ -61,16 +61,22 @@ pub trait Link: Source + Sink {
         ensures stands_for { stands_for self.new ≡ stands_for self.old };
 
     /// A read changes neither what the sink tells nor the references.
-    ghost reads_keep: { (link : Self) → Self.Source.aside link ≡ record { sink = Self.Sink.told link; stands_for = stands_for link } };
+    ghost reads_keep: { (link : Self) → Self.Source.aside link
+        ≡ record { sink = Self.Sink.told link; stands_for = stands_for link } };
 
     /// A write changes neither what the source tells nor the references.
-    ghost writes_keep: { (link : Self) → Self.Sink.aside link ≡ record { source = Self.Source.told link; stands_for = stands_for link } };
+    ghost writes_keep: { (link : Self) → Self.Sink.aside link
+        ≡ record { source = Self.Source.told link; stands_for = stands_for link } };
 }
 
 impl<S: Source> Source for &mut S {
     ghost told = { λ s. S.told s.now };
 
-    ghost aside = { λ s. record { sink = (S.aside s.now).sink; stands_for = s.ghost_name ∷ (S.aside s.now).stands_for } };
+    ghost aside = { λ s. record {
+      sink = (S.aside s.now).sink;
+      stands_for = s.ghost_name
+          ∷ (S.aside s.now).stands_for;
+    } };
 
     ghost end_is_empty = { λ s. S.end_is_empty s.now };
 
@@ -82,7 +88,11 @@ impl<S: Source> Source for &mut S {
 impl<K: Sink> Sink for &mut K {
     ghost told = { λ s. K.told s.now };
 
-    ghost aside = { λ s. record { source = (K.aside s.now).source; stands_for = s.ghost_name ∷ (K.aside s.now).stands_for } };
+    ghost aside = { λ s. record {
+      source = (K.aside s.now).source;
+      stands_for = s.ghost_name
+          ∷ (K.aside s.now).stands_for;
+    } };
 
     ghost offered = { λ s. K.offered s.now };
 

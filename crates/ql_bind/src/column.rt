@@ -33,7 +33,10 @@ impl<'a> Model for Scope<'a> {
 
     ghost Value = { Seen };
 
-    ghost view = { λ s. record { names = names_of s.name.now (option_copied s.alias); columns = map pointee s.columns.items } };
+    ghost view = { λ s. record {
+      names = names_of s.name.now (option_copied s.alias);
+      columns = map pointee s.columns.items;
+    } };
 }
 
 fn unknown(alloc: Global, name: &Text) -> Result<Cause, AllocError>

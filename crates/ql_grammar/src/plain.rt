@@ -44,14 +44,16 @@ fn run_len(text: &str) -> usize
     ensures cut { IsCharBoundary text.now result }
     ensures run { unescaped false text.now ≡ take result text.now ++ unescaped false (drop result text.now) }
     ensures behind { result < length text.now → IsCharBoundary text.now (result + 1) }
-    ensures next { result < length text.now → unescaped false (drop result text.now) ≡ unescaped true (drop (result + 1) text.now) }
+    ensures next { result < length text.now → unescaped false (drop result text.now)
+        ≡ unescaped true (drop (result + 1) text.now) }
 {
     run_bytes(text.as_bytes())
 }
 
 /// Writes what a backslash before these bytes stands for, as far as they don't stand for themselves, and gives the rest.
 fn push_escape<'a>(out: &mut String, rest: &'a str) -> Result<&'a str, AllocError>
-    ensures same { IfOk result (λ left. string_bytes out.new ++ unescaped false left.now ≡ string_bytes out.old ++ unescaped true rest.now) }
+    ensures same { IfOk result (λ left. string_bytes out.new ++ unescaped false left.now
+        ≡ string_bytes out.old ++ unescaped true rest.now) }
     ensures shorter { IfOk result (λ left. length left.now ≤ length rest.now) }
 {
     let b = byte_at(rest, 0);

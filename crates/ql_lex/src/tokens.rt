@@ -103,5 +103,6 @@ pub fn tokens<'a>(alloc: Global, text: &'a str, limit: usize) -> Result<Vec<Toke
 
 /// A text has one list of tokens.
 pub fn tokens_are_one()
-    ensures { (limit n : ℕ) (text : List ℕ) (ts us : List Token) → spec.Lexes limit n text ts → spec.Lexes limit n text us → ts ≡ us }
+    ensures { (limit n : ℕ) (text : List ℕ) (ts us : List Token) → spec.Lexes limit n text ts
+        → spec.Lexes limit n text us → ts ≡ us }
 {}

@@ -114,7 +114,8 @@ fn is_written(bytes: &[u8], word: &str) -> bool
 }
 
 fn written_in<'a>(words: &'a [Word], bytes: &[u8]) -> Option<&'a Word>
-    ensures { option_copied result ≡ find (λ word. Rattle.ql_lex.specs.Words.is_written bytes.now (word_text word)) words.now }
+    ensures { option_copied result ≡ find (λ word. Rattle.ql_lex.specs.Words.is_written bytes.now
+        (word_text word)) words.now }
 {
     words.iter().find(|word| is_written(bytes, word.text()))
 }

@@ -68,7 +68,8 @@ fn negation(out: &mut Printer, negated: bool) -> Result<(), AllocError>
 }
 
 fn more_literals(out: &mut Printer, xs: &[Literal]) -> Result<(), AllocError>
-    ensures { OnOk result (out.new ≡ out.old ++ printed.spaced (flat_map (λ x. printed.word words.Comma ++ printed.literal_tokens x) xs.now)) }
+    ensures { OnOk result (out.new ≡ out.old
+        ++ printed.spaced (flat_map (λ x. printed.word words.Comma ++ printed.literal_tokens x) xs.now)) }
 {
     for x in xs {
         out.word(Word::Comma)?;
@@ -121,7 +122,9 @@ fn place(out: &mut Printer, table: &Option<Text>, text: &Text) -> Result<(), All
 }
 
 fn compare(out: &mut Printer, c: &Column, by: Comparison, x: &Literal) -> Result<(), AllocError>
-    ensures { OnOk result (out.new ≡ out.old ++ printed.spaced (printed.column_tokens c.now ++ (printed.word (printed.comparison_word by) ++ printed.literal_tokens x.now))) }
+    ensures { OnOk result (out.new ≡ out.old
+        ++ printed.spaced (printed.column_tokens c.now
+        ++ (printed.word (printed.comparison_word by) ++ printed.literal_tokens x.now))) }
 {
     column(out, c)?;
     out.word(comparison_word(by))?;
@@ -129,7 +132,9 @@ fn compare(out: &mut Printer, c: &Column, by: Comparison, x: &Literal) -> Result
 }
 
 fn equal_any(out: &mut Printer, x: &Literal, c: &Column) -> Result<(), AllocError>
-    ensures { OnOk result (out.new ≡ out.old ++ printed.spaced (printed.literal_tokens x.now ++ (printed.word words.Equal ++ (printed.word words.Any ++ printed.column_tokens c.now)))) }
+    ensures { OnOk result (out.new ≡ out.old
+        ++ printed.spaced (printed.literal_tokens x.now
+        ++ (printed.word words.Equal ++ (printed.word words.Any ++ printed.column_tokens c.now)))) }
 {
     literal(out, x)?;
     out.word(Word::Equal)?;
@@ -138,7 +143,9 @@ fn equal_any(out: &mut Printer, x: &Literal, c: &Column) -> Result<(), AllocErro
 }
 
 fn like(out: &mut Printer, c: &Column, negated: bool, text: &Text) -> Result<(), AllocError>
-    ensures { OnOk result (out.new ≡ out.old ++ printed.spaced (printed.column_tokens c.now ++ (printed.negation negated ++ (printed.word words.Like ++ (kinds.Quoted text.now ∷ []))))) }
+    ensures { OnOk result (out.new ≡ out.old
+        ++ printed.spaced (printed.column_tokens c.now
+        ++ (printed.negation negated ++ (printed.word words.Like ++ (kinds.Quoted text.now ∷ []))))) }
 {
     column(out, c)?;
     negation(out, negated)?;
@@ -147,7 +154,9 @@ fn like(out: &mut Printer, c: &Column, negated: bool, text: &Text) -> Result<(),
 }
 
 fn null(out: &mut Printer, c: &Column, negated: bool) -> Result<(), AllocError>
-    ensures { OnOk result (out.new ≡ out.old ++ printed.spaced (printed.column_tokens c.now ++ (printed.word words.Is ++ (printed.negation negated ++ printed.word words.Null)))) }
+    ensures { OnOk result (out.new ≡ out.old
+        ++ printed.spaced (printed.column_tokens c.now
+        ++ (printed.word words.Is ++ (printed.negation negated ++ printed.word words.Null)))) }
 {
     column(out, c)?;
     out.word(Word::Is)?;
@@ -243,7 +252,8 @@ fn item(out: &mut Printer, item: &Item) -> Result<(), AllocError>
 }
 
 fn more_items(out: &mut Printer, xs: &[Item]) -> Result<(), AllocError>
-    ensures { OnOk result (out.new ≡ out.old ++ printed.spaced (flat_map (λ x. printed.word words.Comma ++ printed.item_tokens x) xs.now)) }
+    ensures { OnOk result (out.new ≡ out.old
+        ++ printed.spaced (flat_map (λ x. printed.word words.Comma ++ printed.item_tokens x) xs.now)) }
 {
     for x in xs {
         out.word(Word::Comma)?;
@@ -304,7 +314,8 @@ fn key(out: &mut Printer, key: &Key) -> Result<(), AllocError>
 }
 
 fn more_keys(out: &mut Printer, xs: &[Key]) -> Result<(), AllocError>
-    ensures { OnOk result (out.new ≡ out.old ++ printed.spaced (flat_map (λ x. printed.word words.Comma ++ printed.key_tokens x) xs.now)) }
+    ensures { OnOk result (out.new ≡ out.old
+        ++ printed.spaced (flat_map (λ x. printed.word words.Comma ++ printed.key_tokens x) xs.now)) }
 {
     for x in xs {
         out.word(Word::Comma)?;

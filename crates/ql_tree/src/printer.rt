@@ -45,7 +45,8 @@ fn plain_len(text: &str) -> usize
     ensures run { texts.escaped text.now ≡ take result text.now ++ texts.escaped (drop result text.now) }
     ensures special { result < length text.now → slice_index text.now result < 128 }
     ensures behind { result < length text.now → IsCharBoundary text.now (result + 1) }
-    ensures next { result < length text.now → texts.escaped (drop result text.now) ≡ 92 ∷ slice_index text.now result ∷ texts.escaped (drop (result + 1) text.now) }
+    ensures next { result < length text.now → texts.escaped (drop result text.now)
+        ≡ 92 ∷ slice_index text.now result ∷ texts.escaped (drop (result + 1) text.now) }
 {
     plain_bytes(text.as_bytes())
 }

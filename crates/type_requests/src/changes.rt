@@ -157,7 +157,9 @@ fn changes_prop_kind(def: &PropDef, request: &PropRequest) -> bool
 }
 
 fn changes_prop_limits(def: &PropDef, request: &PropRequest) -> bool
-    ensures { result ≡ (changes_limit (of_kind kinds.String def.now.kind request.now.max_length) def.now.max_length || changes_limit (of_kind kinds.Integer def.now.kind request.now.min_value) def.now.min_value || changes_limit (of_kind kinds.Integer def.now.kind request.now.max_value) def.now.max_value) }
+    ensures { result ≡ (changes_limit (of_kind kinds.String def.now.kind request.now.max_length) def.now.max_length
+        || changes_limit (of_kind kinds.Integer def.now.kind request.now.min_value) def.now.min_value
+        || changes_limit (of_kind kinds.Integer def.now.kind request.now.max_value) def.now.max_value) }
 {
     changes_limit(
         limit_of(PropertyKind::String, def.kind, request.max_length),
@@ -272,7 +274,8 @@ fn changes_own(def: &TypeDef, request: &TypeRequest) -> bool
 
 /// Whether a request changes an attribute of the type but the display name and the description.
 pub fn changes_attributes(def: &TypeDef, request: &TypeRequest) -> bool
-    ensures { result ≡ (changes_texts def.now request.now || changes_flags def.now request.now || changes_mutability def.now.mutability request.now.mutability || changes_own def.now request.now) }
+    ensures { result ≡ (changes_texts def.now request.now || changes_flags def.now request.now
+        || changes_mutability def.now.mutability request.now.mutability || changes_own def.now request.now) }
 {
     changes_texts(def, request)
         || changes_flags(def, request)

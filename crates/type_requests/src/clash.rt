@@ -24,7 +24,8 @@ fn has_name(names: &Map<Text, ()>, name: &Text) -> bool
 }
 
 fn with_name(alloc: Global, names: &Map<Text, ()>, name: &Text) -> Result<Map<Text, ()>, AllocError>
-    ensures { IfOk result (λ m. (q : List ℕ) → is_some (entries.find (slice_cmp nat_cmp) q m) ≡ (bytes_eq name.now q || is_some (entries.find (slice_cmp nat_cmp) q names.now))) }
+    ensures { IfOk result (λ m. (q : List ℕ) → is_some (entries.find (slice_cmp nat_cmp) q m)
+        ≡ (bytes_eq name.now q || is_some (entries.find (slice_cmp nat_cmp) q names.now))) }
 {
     let name = name.copied(alloc)?;
     let next = names.with(alloc, name, ())?;

@@ -19,7 +19,8 @@ use std::alloc::{AllocError, Global};
 pub fn type_text(alloc: Global, def: &definition::TypeDef) -> Result<Vec<u8>, AllocError>
     ensures text { IfOk result (λ b. b.items ≡ compact_text (type_data true def.now)) }
     ensures asked { IfOk result (λ b. IsSoundType def.now → judge_type_text b.items ≡ Ok (asked_type def.now)) }
-    ensures made { IfOk result (λ b. (parent : TypeDef) (q : TypeRequest) → IsSoundType def.now → IsMadeBelow parent def.now
+    ensures made { IfOk result (λ b. (parent : TypeDef) (q : TypeRequest) → IsSoundType def.now
+        → IsMadeBelow parent def.now
         → judge_type_text b.items ≡ Ok q → made_type parent q ≡ def.now) }
 {
     let json = type_value(alloc, def, true)?;

@@ -138,7 +138,8 @@ fn put_bounds(alloc: Global, fields: &mut Fields, def: &PropDef) -> Result<(), A
 }
 
 fn put_limits(alloc: Global, fields: &mut Fields, def: &PropDef) -> Result<(), AllocError>
-    ensures { OnOk result (fields_of fields.new ≡ fold with_field (fields_of fields.old) (limit_fields def.now.kind def.now)) }
+    ensures { OnOk result (fields_of fields.new
+        ≡ fold with_field (fields_of fields.old) (limit_fields def.now.kind def.now)) }
 {
     match def.kind {
         PropertyKind::String => fields.put(alloc, "maxLength", limit_json(def.max_length)),
@@ -230,7 +231,8 @@ fn put_content(alloc: Global, fields: &mut Fields, def: &TypeDef) -> Result<(), 
 }
 
 fn put_ends(alloc: Global, fields: &mut Fields, def: &TypeDef) -> Result<(), AllocError>
-    ensures { OnOk result (fields_of fields.new ≡ fold with_field (fields_of fields.old) (relationship_fields def.now)) }
+    ensures { OnOk result (fields_of fields.new
+        ≡ fold with_field (fields_of fields.old) (relationship_fields def.now)) }
 {
     let sources = texts_json(alloc, def.allowed_source_types.as_slice())?;
     let targets = texts_json(alloc, def.allowed_target_types.as_slice())?;
@@ -240,7 +242,8 @@ fn put_ends(alloc: Global, fields: &mut Fields, def: &TypeDef) -> Result<(), All
 }
 
 fn put_of_base(alloc: Global, fields: &mut Fields, def: &TypeDef) -> Result<(), AllocError>
-    ensures { OnOk result (fields_of fields.new ≡ fold with_field (fields_of fields.old) (base_fields def.now.base def.now)) }
+    ensures { OnOk result (fields_of fields.new
+        ≡ fold with_field (fields_of fields.old) (base_fields def.now.base def.now)) }
 {
     match def.base {
         BaseType::Document => put_content(alloc, fields, def),
@@ -255,7 +258,8 @@ fn put_props(
     with_properties: bool,
     defs: &[PropDef],
 ) -> Result<(), AllocError>
-    ensures { OnOk result (fields_of fields.new ≡ fold with_field (fields_of fields.old) (props_fields with_properties defs.now)) }
+    ensures { OnOk result (fields_of fields.new
+        ≡ fold with_field (fields_of fields.old) (props_fields with_properties defs.now)) }
 {
     if with_properties {
         let json = props_json(alloc, defs)?;
