@@ -10,7 +10,7 @@ use Rattle.std.proofs.lemmas.List.Concat.{flat_map-append}
 use Rattle.cm_map.specs.Parts.{HeadIs, first_of, without_key}
 use Rattle.cm_map.proofs.Parting.{Below, Above, put_below, put_above, find_below, find_above, without_key_below, without_key_above, parted, Parted, split_at, drop_at_split, sorted_left, sorted_right}
 use Rattle.cm_map.specs.Rows.{Spaced, change}
-use Rattle.cm_map.specs.Sizes.{full, half}
+use Rattle.cm_map.specs.Sizes.{full, few}
 
 pub all_left : {X : Type 0} (P : X → Type 0) (xs ys : List X) → AllByRecursion P (xs ++ ys) → AllByRecursion P xs
 all_left P [] ys h = tt
@@ -44,15 +44,15 @@ head_meet : (P : ℕ → Type 0) (L : List ℕ) (l : ℕ) (R : List ℕ) → Hea
 head_meet P [] l R h = h
 head_meet P (x ∷ L) l R h = h
 
-pub spaced_meet : (L : List ℕ) (l r : ℕ) (R : List ℕ) → Spaced (L ++ l ∷ []) → Spaced (r ∷ R) → half < l + r → Spaced (L ++ l ∷ r ∷ R)
+pub spaced_meet : (L : List ℕ) (l r : ℕ) (R : List ℕ) → Spaced (L ++ l ∷ []) → Spaced (r ∷ R) → few < l + r → Spaced (L ++ l ∷ r ∷ R)
 spaced_meet [] l r R h k m = (h.0, h.1, m, k)
 spaced_meet (x ∷ L) l r R h k m = (h.0, h.1, head_meet _ L l (r ∷ R) h.2, spaced_meet L l r R h.3 k m)
 
-head_merge : (x : ℕ) (L : List ℕ) (l b : ℕ) (R : List ℕ) → l ≤ b → HeadIs (λ y. half < x + y) (L ++ l ∷ []) → HeadIs (λ y. half < x + y) (L ++ b ∷ R)
+head_merge : (x : ℕ) (L : List ℕ) (l b : ℕ) (R : List ℕ) → l ≤ b → HeadIs (λ y. few < x + y) (L ++ l ∷ []) → HeadIs (λ y. few < x + y) (L ++ b ∷ R)
 head_merge x [] l b R le h = omega (arith, h)
 head_merge x (y ∷ L) l b R le h = h
 
-head_more : (r b : ℕ) (R : List ℕ) → r ≤ b → HeadIs (λ y. half < r + y) R → HeadIs (λ y. half < b + y) R
+head_more : (r b : ℕ) (R : List ℕ) → r ≤ b → HeadIs (λ y. few < r + y) R → HeadIs (λ y. few < b + y) R
 head_more r b [] le h = tt
 head_more r b (y ∷ R) le h = omega (arith, h)
 
@@ -75,7 +75,7 @@ module _ {B : Type 0} (count : B → ℕ) (left L : List B) (l : B) (right : Lis
   right_counts : Spaced (count r ∷ map count (drop 1 right))
   right_counts = subst (λ x. Spaced (map count x)) (drop_one right r lt is) k
 
-  pub meet_rows : half < count l + count r → Spaced (map count ((L ++ l ∷ []) ++ right))
+  pub meet_rows : few < count l + count r → Spaced (map count ((L ++ l ∷ []) ++ right))
   meet_rows m =
       let s = spaced_meet (map count L) (count l) (count r) (map count (drop 1 right)) left_counts right_counts m in
       subst Spaced

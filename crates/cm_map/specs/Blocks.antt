@@ -35,7 +35,7 @@ group_first first g = first_block first (map arc_value g.members.items)
 abbrev pub IsGroup : {B : Type 0} → (B → Type 0) → (B → ℕ) → Group B → Type 0
 IsGroup Whole count g = (1 ≤ group_count g) × (group_count g ≤ full) × AllByRecursion Whole (map arc_value g.members.items) × Spaced (map count (map arc_value g.members.items))
 
--- ---- the two levels above leaves
+-- ---- the three levels above leaves
 
 module _ {K V : Type 0} where
   abbrev pub middle_entries : Group (Leaf K V) → List (K × V)
@@ -49,3 +49,9 @@ module _ {K V : Type 0} where
 
   abbrev pub IsBranch : Group (Group (Leaf K V)) → Type 0
   IsBranch b = IsGroup IsMiddle group_count b
+
+  abbrev pub limb_entries : Group (Group (Group (Leaf K V))) → List (K × V)
+  limb_entries l = group_entries branch_entries l
+
+  abbrev pub IsLimb : Group (Group (Group (Leaf K V))) → Type 0
+  IsLimb l = IsGroup IsBranch group_count l

@@ -3,12 +3,12 @@ use Rattle.std.specs.Prelude.{ℕ, ◌+◌, ◌<◌, ◌≤◌, List, [], ◌∷
 use Rattle.core.specs.declared.cmp.Ordering.{Ordering}
 use Rattle.core.specs.FinMap.Entries.{put}
 use Rattle.cm_map.specs.Parts.{HeadIs, without_key}
-use Rattle.cm_map.specs.Sizes.{full, half}
+use Rattle.cm_map.specs.Sizes.{full, few}
 
--- no block of these sizes is empty or more than full, and two neighbours have more than half together
+-- no block of these sizes is empty or more than full, and two neighbours have more than few together
 abbrev pub Spaced : List ℕ → Type 0
 Spaced [] = Unit {0}
-Spaced (x ∷ xs) = (1 ≤ x) × (x ≤ full) × HeadIs (λ y. half < x + y) xs × Spaced xs
+Spaced (x ∷ xs) = (1 ≤ x) × (x ≤ full) × HeadIs (λ y. few < x + y) xs × Spaced xs
 
 -- what f gives for the first
 abbrev pub first_block : {B K : Type 0} → (B → Option K) → List B → Option K

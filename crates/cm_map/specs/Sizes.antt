@@ -3,8 +3,8 @@ use Rattle.std.specs.Prelude.{ℕ}
 
 -- the most members of a block
 abbrev pub full : ℕ
-full = 40
+full = 16
 
 -- two neighbouring blocks have together more members than this
-abbrev pub half : ℕ
-half = 20
+abbrev pub few : ℕ
+few = 12

@@ -6,7 +6,7 @@ ghost use Rattle.core.specs.FinMap.Entries.{find, is_sorted, where_key};
 ghost use Rattle.cm_map.specs.Parts.{first_of, pointee, within};
 ghost use Rattle.cm_map.specs.Rows.{Spaced, change};
 ghost use Rattle.cm_map.specs.Pieces.{blocks_of};
-ghost use Rattle.cm_map.specs.Sizes.{full, half};
+ghost use Rattle.cm_map.specs.Sizes.{full, few};
 
 use crate::key::{Headed, Key};
 use crate::pieces::Pieces;
@@ -29,12 +29,12 @@ pub trait Block<K: Key, V: Drop>: Headed<K> {
     fn join(&self, other: &Self, alloc: Global) -> Result<Arc<Self>, AllocError>
         requires one { whole self.now }
         requires two { whole other.now }
-        requires small { count self.now + count other.now ≤ half }
+        requires small { count self.now + count other.now ≤ few }
         ensures entries { IfOk result (λ b. entries (arc_value b) ≡ entries self.now ++ entries other.now) }
         ensures whole { IfOk result (λ b. whole (arc_value b)) }
         ensures first { IfOk result (λ b. count self.now ≤ count (arc_value b)) }
         ensures second { IfOk result (λ b. count other.now ≤ count (arc_value b)) }
-        ensures small { IfOk result (λ b. count (arc_value b) ≤ half) };
+        ensures small { IfOk result (λ b. count (arc_value b) ≤ few) };
 
     /// The block with another entry at the key, or none.
     fn changed(

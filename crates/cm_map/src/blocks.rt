@@ -21,3 +21,6 @@ pub type Middle<K, V> = Group<Leaf<K, V>>;
 
 /// A block of blocks of leaves.
 pub type Branch<K, V> = Group<Middle<K, V>>;
+
+/// A block of blocks of blocks of leaves.
+pub type Limb<K, V> = Group<Branch<K, V>>;

@@ -3,7 +3,7 @@ ghost use Rattle.std.specs.Prelude.{◌≡◌, ℕ, ◌+◌, ◌<◌, ◌⊎◌,
 ghost use Rattle.std.specs.Iterator.{YieldsFirstRef, item_count};
 ghost use Rattle.cm_map.specs.Rests.{rest};
 
-use crate::blocks::{Branch, Leaf, Middle};
+use crate::blocks::{Branch, Leaf, Limb, Middle};
 use crate::key::Key;
 use std::sync::Arc;
 
@@ -18,8 +18,10 @@ pub struct Iter<'a, K: Key, V: Drop> {
     pub leaves: &'a [Arc<Leaf<K, V>>],
     /// The blocks of leaves after that one in theirs.
     pub middles: &'a [Arc<Middle<K, V>>],
+    /// The blocks of these after that one in theirs.
+    pub branches: &'a [Arc<Branch<K, V>>],
     /// The top blocks after that one.
-    pub blocks: &'a [Arc<Branch<K, V>>],
+    pub blocks: &'a [Arc<Limb<K, V>>],
     /// The entries behind all blocks.
     pub tail: &'a [Arc<(K, V)>],
 }
@@ -32,6 +34,7 @@ fn filled<'a, K: Key, V: Drop>(it: Iter<'a, K, V>) -> Iter<'a, K, V>
     let mut entries = it.entries;
     let mut leaves = it.leaves;
     let mut middles = it.middles;
+    let mut branches = it.branches;
     let mut blocks = it.blocks;
     let mut tail = it.tail;
     while entries.is_empty() {
@@ -43,9 +46,13 @@ fn filled<'a, K: Key, V: Drop>(it: Iter<'a, K, V>) -> Iter<'a, K, V>
             let middle: &'a Middle<K, V> = middle;
             leaves = &middle.members;
             middles = others;
+        } else if let Some((branch, others)) = branches.split_first() {
+            let branch: &'a Branch<K, V> = branch;
+            middles = &branch.members;
+            branches = others;
         } else if let Some((block, others)) = blocks.split_first() {
-            let block: &'a Branch<K, V> = block;
-            middles = &block.members;
+            let block: &'a Limb<K, V> = block;
+            branches = &block.members;
             blocks = others;
         } else if !tail.is_empty() {
             entries = tail;
@@ -58,6 +65,7 @@ fn filled<'a, K: Key, V: Drop>(it: Iter<'a, K, V>) -> Iter<'a, K, V>
         entries,
         leaves,
         middles,
+        branches,
         blocks,
         tail,
     }
@@ -75,12 +83,14 @@ impl<'a, K: Key, V: Drop> Iterator for Iter<'a, K, V> {
             entries: self.entries,
             leaves: self.leaves,
             middles: self.middles,
+            branches: self.branches,
             blocks: self.blocks,
             tail: self.tail,
         });
         self.entries = it.entries;
         self.leaves = it.leaves;
         self.middles = it.middles;
+        self.branches = it.branches;
         self.blocks = it.blocks;
         self.tail = it.tail;
         let (first, others) = it.entries.split_first()?;

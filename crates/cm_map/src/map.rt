@@ -8,12 +8,12 @@ ghost use Rattle.core.specs.FinMap.Entries.{put, find, is_sorted, where_key};
 ghost use Rattle.cm_map.specs.Parts.{without_key, pointee, within};
 ghost use Rattle.cm_map.specs.Pieces.{blocks_of};
 ghost use Rattle.cm_map.specs.Rows.{Spaced, change};
-ghost use Rattle.cm_map.specs.Blocks.{leaf_entries, IsLeaf, branch_entries, group_count, IsBranch};
+ghost use Rattle.cm_map.specs.Blocks.{leaf_entries, IsLeaf, limb_entries, group_count, IsLimb};
 ghost use Rattle.cm_map.specs.Maps.{tree_entries, tail_entries, IsCut, IsWidth};
 ghost use Rattle.cm_map.specs.Rests.{rest};
 
 use crate::block::Block;
-use crate::blocks::{Branch, Leaf};
+use crate::blocks::{Leaf, Limb};
 use crate::iter::Iter;
 use crate::key::{Headed, Key};
 use crate::leaf::{find_in, range_in};
@@ -225,10 +225,10 @@ fn with_pieces<K: Key, V: Drop>(
 }
 
 // The top blocks.
-fn blocks_in<K: Key, V: Drop>(tree: &Option<Arc<Tree<K, V>>>) -> &[Arc<Branch<K, V>>]
-    ensures entries { flat_map branch_entries (map arc_value result.now)
+fn blocks_in<K: Key, V: Drop>(tree: &Option<Arc<Tree<K, V>>>) -> &[Arc<Limb<K, V>>]
+    ensures entries { flat_map limb_entries (map arc_value result.now)
         ≡ tree_entries (option_map arc_value tree.now) }
-    ensures bounded { AllByRecursion IsBranch (map arc_value result.now) }
+    ensures bounded { AllByRecursion IsLimb (map arc_value result.now) }
     ensures spaced { Spaced (map group_count (map arc_value result.now)) }
 {
     match tree {
@@ -399,9 +399,9 @@ impl<K: Key, V: Drop> Map<K, V> {
         blocks_in(&self.body.tree).len() as u64
     }
 
-    /// The top blocks. Each has 1 to `FULL` blocks, each of these as many leaves, and each leaf as many entries; two neighbours in a row
-    /// have together more than `HALF` members. Behind them stand at most `FULL` entries more.
-    pub fn blocks(&self) -> &[Arc<Branch<K, V>>]
+    /// The top blocks. Each has 1 to `FULL` blocks, each of these as many, each of these as many leaves, and each leaf as many entries; two
+    /// neighbours in a row have together more than `FEW` members. Behind them stand at most `FULL` entries more.
+    pub fn blocks(&self) -> &[Arc<Limb<K, V>>]
         ensures { IsCut (map arc_value result.now) self.now }
     {
         blocks_in(&self.body.tree)
@@ -504,6 +504,7 @@ impl<K: Key, V: Drop> Map<K, V> {
             entries: &[],
             leaves: &[],
             middles: &[],
+            branches: &[],
             blocks: blocks_in(&self.body.tree),
             tail: entries_in(&self.body.tail),
         }

@@ -12,7 +12,7 @@ use crate::key::Key;
 use crate::pieces::Pieces;
 use crate::places::{between, place};
 use crate::rows::push_all;
-use crate::sizes::HALF;
+use crate::sizes::FEW;
 use std::alloc::{AllocError, Global};
 use std::sync::Arc;
 
@@ -44,7 +44,7 @@ pub fn joined<K: Key, V: Drop, B: Block<K, V>>(
             Ok(out)
         }
         Some(first) => {
-            if first.size() + second.size() > HALF {
+            if first.size() + second.size() > FEW {
                 out.push(first)?;
                 push_all(&mut out, right)?;
                 Ok(out)

@@ -1,7 +1,10 @@
 //! How many members a block has.
 
 /// The most members of a block.
-pub const FULL: usize = 40;
+pub const FULL: usize = 16;
 
-/// Two neighbouring blocks have together more members than this, which is half of a full block.
-pub const HALF: usize = 20;
+/// How many members stay in a block that is split in the middle.
+pub const HALF: usize = 8;
+
+/// Two neighbouring blocks have together more members than this.
+pub const FEW: usize = 12;

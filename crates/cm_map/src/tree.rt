@@ -5,10 +5,10 @@ ghost use Rattle.core.specs.List.{AllByRecursion, flat_map};
 ghost use Rattle.core.specs.FinMap.Entries.{find, is_sorted, where_key};
 ghost use Rattle.cm_map.specs.Parts.{pointee, within};
 ghost use Rattle.cm_map.specs.Rows.{Spaced, change};
-ghost use Rattle.cm_map.specs.Blocks.{leaf_entries, IsLeaf, branch_entries, group_count, IsBranch};
+ghost use Rattle.cm_map.specs.Blocks.{leaf_entries, IsLeaf, limb_entries, group_count, IsLimb};
 ghost use Rattle.cm_map.specs.Maps.{IsTree};
 
-use crate::blocks::{Branch, Leaf, Middle};
+use crate::blocks::{Branch, Leaf, Limb, Middle};
 use crate::key::Key;
 use crate::levels::{group_of, shared};
 use crate::row::{joined, row_changed, row_found, row_ranged};
@@ -16,16 +16,16 @@ use std::alloc::{AllocError, Global};
 use std::marker::Model;
 use std::sync::Arc;
 
-/// Entries in the order of their keys, in four levels of blocks: leaves, blocks of leaves, blocks of these, and the top row.
+/// Entries in the order of their keys, in five levels of blocks: leaves, blocks of leaves, blocks of these, blocks of those, and the top row.
 #[derive(Drop)]
 pub struct Tree<K: Key, V: Drop> {
-    blocks: Vec<Arc<Branch<K, V>>>,
+    blocks: Vec<Arc<Limb<K, V>>>,
 }
 
 impl<K: Key, V: Drop> Model for Tree<K, V> {
     ghost Value = { List (K × V) };
 
-    ghost view = { λ t. flat_map branch_entries (map arc_value t.blocks.items) };
+    ghost view = { λ t. flat_map limb_entries (map arc_value t.blocks.items) };
 
     ghost invariant = { λ t. IsTree K.cmp (map arc_value t.blocks.items) };
 }
@@ -56,35 +56,37 @@ pub fn leaf_of<K: Key, V: Drop>(
 fn over<K: Key, V: Drop>(
     alloc: Global,
     leaf: Arc<Leaf<K, V>>,
-) -> Result<Vec<Arc<Branch<K, V>>>, AllocError>
+) -> Result<Vec<Arc<Limb<K, V>>>, AllocError>
     requires { IsLeaf (arc_value leaf) }
-    ensures entries { IfOk result (λ v. flat_map branch_entries (map arc_value v.items)
+    ensures entries { IfOk result (λ v. flat_map limb_entries (map arc_value v.items)
         ≡ leaf_entries (arc_value leaf)) }
-    ensures whole { IfOk result (λ v. AllByRecursion IsBranch (map arc_value v.items)) }
+    ensures whole { IfOk result (λ v. AllByRecursion IsLimb (map arc_value v.items)) }
     ensures spaced { IfOk result (λ v. Spaced (map group_count (map arc_value v.items))) }
 {
     let leaves = alone(alloc, leaf)?;
     let middle = group_of::<K, V, Leaf<K, V>>(alloc, leaves)?;
     let middles = alone(alloc, middle)?;
     let branch = group_of::<K, V, Middle<K, V>>(alloc, middles)?;
-    let row = alone(alloc, branch)?;
+    let branches = alone(alloc, branch)?;
+    let limb = group_of::<K, V, Branch<K, V>>(alloc, branches)?;
+    let row = alone(alloc, limb)?;
     Ok(row)
 }
 
 // The top blocks with a new entry in place of the key's, or with none.
 fn blocks_changed<K: Key, V: Drop>(
     alloc: Global,
-    xs: &[Arc<Branch<K, V>>],
+    xs: &[Arc<Limb<K, V>>],
     key: &K,
     new: Option<Arc<(K, V)>>,
-) -> Result<Vec<Arc<Branch<K, V>>>, AllocError>
-    requires whole { AllByRecursion IsBranch (map arc_value xs.now) }
+) -> Result<Vec<Arc<Limb<K, V>>>, AllocError>
+    requires whole { AllByRecursion IsLimb (map arc_value xs.now) }
     requires spaced { Spaced (map group_count (map arc_value xs.now)) }
-    requires sorted { T (is_sorted K.cmp (flat_map branch_entries (map arc_value xs.now))) }
+    requires sorted { T (is_sorted K.cmp (flat_map limb_entries (map arc_value xs.now))) }
     requires at_key { IfSome new (λ e. (arc_value e).0 ≡ key.now) }
-    ensures entries { IfOk result (λ v. flat_map branch_entries (map arc_value v.items)
-        ≡ change K.cmp key.now (option_map arc_value new) (flat_map branch_entries (map arc_value xs.now))) }
-    ensures whole { IfOk result (λ v. AllByRecursion IsBranch (map arc_value v.items)) }
+    ensures entries { IfOk result (λ v. flat_map limb_entries (map arc_value v.items)
+        ≡ change K.cmp key.now (option_map arc_value new) (flat_map limb_entries (map arc_value xs.now))) }
+    ensures whole { IfOk result (λ v. AllByRecursion IsLimb (map arc_value v.items)) }
     ensures spaced { IfOk result (λ v. Spaced (map group_count (map arc_value v.items))) }
 {
     if xs.is_empty() {
@@ -99,7 +101,7 @@ fn blocks_changed<K: Key, V: Drop>(
             }
         }
     }
-    let blocks = row_changed::<K, V, Branch<K, V>>(alloc, xs, key, new)?;
+    let blocks = row_changed::<K, V, Limb<K, V>>(alloc, xs, key, new)?;
     Ok(blocks)
 }
 
@@ -122,7 +124,7 @@ impl<K: Key, V: Drop> Tree<K, V> {
     {
         let left = shared(alloc, &self.blocks)?;
         let right = over(alloc, leaf)?;
-        let blocks = joined::<K, V, Branch<K, V>>(alloc, left, &right)?;
+        let blocks = joined::<K, V, Limb<K, V>>(alloc, left, &right)?;
         Ok(Tree { blocks })
     }
 
@@ -130,7 +132,7 @@ impl<K: Key, V: Drop> Tree<K, V> {
     pub fn get(&self, key: &K) -> Option<&V>
         ensures { option_copied result ≡ find K.cmp key.now self.now }
     {
-        row_found::<K, V, Branch<K, V>>(&self.blocks, key)
+        row_found::<K, V, Limb<K, V>>(&self.blocks, key)
     }
 
     /// The entries with a new one in place of the key's, or with none.
@@ -157,15 +159,15 @@ impl<K: Key, V: Drop> Tree<K, V> {
         ensures { IfOk result (λ _. map pointee out.new.items ≡ map pointee out.old.items
             ++ where_key K.cmp (within K.cmp least.now most.now) self.now) }
     {
-        row_ranged::<K, V, Branch<K, V>>(out, &self.blocks, least, most)?;
+        row_ranged::<K, V, Limb<K, V>>(out, &self.blocks, least, most)?;
         Ok(())
     }
 
-    /// The top blocks. Each has 1 to `FULL` blocks, each of these as many leaves, and each leaf as many entries; two neighbours in a row
-    /// have together more than `HALF` members.
-    pub fn blocks(&self) -> &[Arc<Branch<K, V>>]
-        ensures entries { flat_map branch_entries (map arc_value result.now) ≡ self.now }
-        ensures bounded { AllByRecursion IsBranch (map arc_value result.now) }
+    /// The top blocks. Each has 1 to `FULL` blocks, each of these as many, each of these as many leaves, and each leaf as many entries; two
+    /// neighbours in a row have together more than `FEW` members.
+    pub fn blocks(&self) -> &[Arc<Limb<K, V>>]
+        ensures entries { flat_map limb_entries (map arc_value result.now) ≡ self.now }
+        ensures bounded { AllByRecursion IsLimb (map arc_value result.now) }
         ensures spaced { Spaced (map group_count (map arc_value result.now)) }
     {
         &self.blocks
