@@ -61,12 +61,12 @@ impl Queue {
         }
     }
 
-    /// Wakes the next one that sleeps, unless another one looks at the word already.
+    /// Wakes the next one that sleeps. Who looks at the word has it meanwhile, and the one that wakes looks for the next.
     pub(crate) fn call<M: Machine>(&self, top: &Top<M>, word: usize)
         requires sized { IsSized top.now.table_id }
         requires word { word < 4 }
     {
-        if self.looking.load(Ordering::SeqCst) == 0 && self.sleeping.load(Ordering::SeqCst) != 0 {
+        if self.sleeping.load(Ordering::SeqCst) != 0 {
             top.wake_one(word);
         }
     }

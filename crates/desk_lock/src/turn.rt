@@ -16,7 +16,7 @@ use crate::shelf::show;
 use desk_model::{Machine, Version};
 use std::sync::{Arc, Wait};
 
-// Takes the turn. The next one wakes meanwhile.
+// Takes the turn.
 fn claim<M: Machine, R: Wait>(rt: &R, top: &Top<M>, queues: &Queues, place: &mut Place<M>)
     requires table { (place.old.table_id ≡ top.now.table_id) × IsSized top.now.table_id }
     requires ready { (place.old.me.0.live ≡ 1) × IsIdle place.old.me.0 × (place.old.me.1 ≡ []) }
@@ -25,7 +25,6 @@ fn claim<M: Machine, R: Wait>(rt: &R, top: &Top<M>, queues: &Queues, place: &mut
 {
     for _ in rt.forever() {
         if top.compare_exchange::<Claim<M>>(place, TURN, 0, 1) == 0 {
-            queues.turn.call(top, TURN);
             return;
         }
         queues.turn.wait(rt, top, TURN);
