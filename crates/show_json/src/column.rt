@@ -1,10 +1,10 @@
 //! Columns: the definitions that are shown of the objects of a page, in byte order of their ids.
-ghost use Rattle.std.specs.Prelude.{◌≡◌, ◌≤◌, ◌<◌, length, map, true, IfOk, OnOk};
+ghost use Rattle.std.specs.Prelude.{◌≡◌, ◌≤◌, ◌<◌, ◌++◌, ◌∷◌, [], length, map, true, IfOk, OnOk};
 ghost use Rattle.core.specs.Ordering.{nat_cmp};
 ghost use Rattle.core.specs.Cmp.Lexicographic.{slice_cmp};
 ghost use Rattle.cm_types.specs.declared.property.PropDef.{PropDef};
 ghost use Rattle.cm_map.specs.Parts.{pointee};
-ghost use Rattle.show_json.specs.Ordered.{in_key_order, placed, put_at};
+ghost use Rattle.show_json.specs.Ordered.{AreRising, in_key_order, placed, put_at};
 ghost use Rattle.show_json.specs.Columns.{columns_of, id_of, setting_of};
 
 use call_parts::readings::PropertyFilter;
@@ -74,6 +74,17 @@ fn order(a: &Column, b: &Column) -> Ordering
     a.def.id.cmp(&b.def.id)
 }
 
+// Whether the column comes behind all others.
+fn is_behind(columns: &[Column], column: &Column) -> bool
+    requires rising { AreRising id_of columns.now }
+    ensures { result ≡ true → placed id_of column.now columns.now ≡ columns.now ++ column.now ∷ [] }
+{
+    match columns.split_last() {
+        Some((last, _)) => order(column, last).is_gt(),
+        None => true,
+    }
+}
+
 // The place of the column among others, and whether one with its id stands there.
 #[tactic(auto, using(crate::proofs::Placed::put_before, crate::proofs::Placed::put_over, crate::proofs::Placed::put_later))]
 fn place_of(columns: &[Column], column: &Column) -> (usize, bool)
@@ -94,10 +105,15 @@ fn place_of(columns: &[Column], column: &Column) -> (usize, bool)
     }
 }
 
-// Puts the column at its place, or in place of the one with its id.
+// Puts the column at its place, or in place of the one with its id. Most come behind all others, since a type's definitions are in order.
 fn put<'a>(columns: &mut Vec<Column<'a>>, column: Column<'a>) -> Result<(), AllocError>
+    requires rising { AreRising id_of columns.old.items }
     ensures { OnOk result (columns.new.items ≡ placed id_of column.entry columns.old.items) }
 {
+    if is_behind(columns, &column) {
+        columns.push(column)?;
+        return Ok(());
+    }
     let (at, is_held) = place_of(columns, &column);
     if is_held {
         columns.remove(at);
