@@ -1,5 +1,5 @@
 -- What an index of a list of objects has, after an object more, one less, and one in the place of another.
-use Rattle.std.specs.Prelude.{◌≡◌, ℕ, ◌+◌, ◌==◌, ◌<◌, length, take, Bool, true, false, ◌||◌, ◌&&◌, not, if◌then◌else◌, List, [], ◌∷◌, ◌++◌, map, filter, find, All, is_some}
+use Rattle.std.specs.Prelude.{◌≡◌, ℕ, ◌+◌, ◌<◌, length, take, Bool, true, false, ◌||◌, ◌&&◌, not, if◌then◌else◌, List, [], ◌∷◌, ◌++◌, map, filter, find, All, is_some}
 use Rattle.std.specs.List.{list_any}
 use Rattle.std.proofs.Common.{suc, get_or, refl, sym, ap, subst, ◌∙◌, arith}
 use lib.Seq.{take-suc}
@@ -65,6 +65,20 @@ keyed_without n p xs rises = by_test (same n p.1)
   where
     never : (a b : Bool) → (a && not a) ≡ (b && false)
     never a b = grind arith
+
+-- the index of all has the pairs of the others, and those of the one under this number
+pub keyed_apart : (n : Oid) (p : IndexKey × Oid) (xs : List Object) → Rises (λ x. x.id.0) xs
+    → is_keyed xs p ≡ (is_keyed (filter (λ x. not (same x.id n)) xs) p || is_pair_of n (keys_at xs n) p)
+keyed_apart n p xs rises = by_test (same n p.1)
+    (λ e. let k = keyed_at n p xs rises e in
+    rw e (split (is_keyed xs p) (list_any (same_key p.0) (keys_at xs n)) (is_keyed (filter (λ x. not (same x.id n)) xs) p) k (keyed_less n p xs ∙ ap (λ b. is_keyed xs p && not b) e)))
+    (λ e. rw e (alone (is_keyed xs p) (is_keyed (filter (λ x. not (same x.id n)) xs) p) (keyed_less n p xs ∙ ap (λ b. is_keyed xs p && not b) e)))
+  where
+    split : (all at rest : Bool) → all ≡ at → rest ≡ (all && not true) → all ≡ (rest || at)
+    split all at rest e f = grind (arith, e, f)
+
+    alone : (all rest : Bool) → rest ≡ (all && not false) → all ≡ (rest || false)
+    alone all rest f = grind (arith, f)
 
 -- ---- one in the place of another
 

@@ -1,3 +1,4 @@
 mod Indexing
 mod Ends
 mod Rising
+mod Sameness

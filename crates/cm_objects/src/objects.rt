@@ -3,6 +3,8 @@ ghost use Rattle.std.specs.Prelude.{◌≡◌, ◌==◌, ◌<◌, ◌||◌, ◌&
 ghost use Rattle.std.specs.Option.{option_copied};
 ghost use Rattle.std.specs.List.{list_any};
 ghost use Rattle.cm_map.specs.Keyed.{Rises};
+ghost use Rattle.cm_map.specs.declared.index_key.IndexKey.{IndexKey};
+ghost use Rattle.cm_base.specs.declared.number.Oid.{Oid};
 ghost use Rattle.cm_map.specs.Pairs.{has_pair};
 ghost use Rattle.cmis_spec.specs.Repository.{is_of_type};
 ghost use Rattle.cmis_spec.specs.Removal.{ends_of, is_id_of};
@@ -89,6 +91,22 @@ impl Objects {
         Ok(less)
     }
 
+    // The index with these keys of the object with this number, in place of the old ones. Where they are the same, it is shared.
+    fn index_with(&self, alloc: Global, n: Oid, keys: &Keys) -> Result<Index, AllocError>
+        ensures { IfOk result (λ s. (p : IndexKey × Oid) → has_pair p s
+            ≡ (is_keyed (filter (λ x. not (x.id.0 == n.0)) self.now) p || is_pair_of n keys.now p)) }
+    {
+        let _rising = self.table.len();
+        let old = self.keys_at(alloc, n)?;
+        if old.as_slice() == keys.as_slice() {
+            let same = self.index.share(alloc)?;
+            return Ok(same);
+        }
+        let less = self.index_without(alloc, n)?;
+        let index = with_pairs(alloc, less, keys, n)?;
+        Ok(index)
+    }
+
     /// The list with an object at its end, whose number is above all others.
     pub fn with_last(&self, alloc: Global, member: Object) -> Result<Objects, AllocError>
         requires above { All (λ x. x.id.0 < member.id.0) self.now }
@@ -107,8 +125,7 @@ impl Objects {
         ensures { IfOk result (λ t. t ≡ map (λ x. if x.id.0 == member.id.0 then member else x) self.now) }
     {
         let keys = keys_of(alloc, &member)?;
-        let less = self.index_without(alloc, member.id)?;
-        let index = with_pairs(alloc, less, &keys, member.id)?;
+        let index = self.index_with(alloc, member.id, &keys)?;
         let table = self.table.with_member(alloc, member)?;
         Ok(Objects { table, index })
     }
