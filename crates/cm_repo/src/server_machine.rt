@@ -16,6 +16,7 @@ ghost use Rattle.cm_repo.specs.Sent.{sent_write, sent_children, sent_default, se
 
 use crate::calls::{read, write};
 use bind_json::replies::text_of;
+use call_parts::changes::UpdateProperties;
 use call_parts::place::Place;
 use call_parts::readings::PropertyFilter;
 use call_parts::versions::CreateDocument;
@@ -41,12 +42,14 @@ use object_json::sent::shown_json;
 use rd_version::content::stream;
 use show_json::one::text_of_object;
 use std::alloc::{AllocError, Global};
+use wr_change::update::properties_updated;
 use wr_object::create_document::document_created;
 use wr_object::create_folder::folder_created;
 
-// What is sent of an object that was just made, whose text is written from the state.
+// What is sent of an object that was just made or changed, whose text is written from the state.
 fn sent_made(
     alloc: Global,
+    status: u16,
     made: &State,
     user: &Text,
     succinct: bool,
@@ -54,12 +57,12 @@ fn sent_made(
 ) -> Result<Shown, AllocError>
     requires there { is_some (object_at made.now number) ≡ true }
     ensures { IfOk result (λ s. (x : Object) → object_at made.now number ≡ Some x
-        → s ≡ shown_json 201
+        → s ≡ shown_json status
         (compact_text (shown_data (shown_object made.now user.now filters.All succinct x))) made.now.step) }
 {
     let x = made.object(number).unwrap();
     let text = text_of_object(alloc, made, user, &PropertyFilter::All, succinct, x)?;
-    let shown = shown_json(alloc, 201, text, made.step())?;
+    let shown = shown_json(alloc, status, text, made.step())?;
     Ok(shown)
 }
 
@@ -78,7 +81,7 @@ fn sent_folder(
 {
     let number = Oid(state.next_number());
     let made = folder_created(alloc, state, user, moment, call)?;
-    let shown = sent_made(alloc, &made, user, call.succinct, number)?;
+    let shown = sent_made(alloc, 201, &made, user, call.succinct, number)?;
     Ok((made, shown))
 }
 
@@ -97,7 +100,25 @@ fn sent_document(
 {
     let number = Oid(state.next_number());
     let made = document_created(alloc, state, user, moment, call)?;
-    let shown = sent_made(alloc, &made, user, call.succinct, number)?;
+    let shown = sent_made(alloc, 201, &made, user, call.succinct, number)?;
+    Ok((made, shown))
+}
+
+// An object whose properties are changed, and what is sent of it.
+fn sent_update(
+    alloc: Global,
+    state: &State,
+    user: &Text,
+    moment: Moment,
+    call: &UpdateProperties,
+) -> Result<(State, Shown), Fail>
+    ensures { Writes result
+        (refusal_of state.now user.now moment (writes.Update call.now))
+        (after state.now user.now moment (writes.Update call.now))
+        (sent_write state.now user.now moment (writes.Update call.now)) }
+{
+    let (made, number) = properties_updated(alloc, state, user, moment, call)?;
+    let shown = sent_made(alloc, 200, &made, user, call.succinct, number)?;
     Ok((made, shown))
 }
 
@@ -134,6 +155,7 @@ fn sent_write(
     match call {
         Write::CreateFolder(call) => sent_folder(alloc, state, user, moment, call),
         Write::CreateDocument(call) => sent_document(alloc, state, user, moment, call),
+        Write::Update(call) => sent_update(alloc, state, user, moment, call),
         _ => sent_acknowledgement(alloc, state, user, moment, call),
     }
 }

@@ -105,7 +105,7 @@ change_found r u m call x there =
 pub after_is : (r : Repository) (u : List ℕ) (m : Moment) (cost : ℕ) (call : UpdateProperties) (x : Object) → addressed r u call.place ≡ Some x → after_update r u m cost call ≡ changed_in (stepped r cost) u m call x
 after_is r u m cost call x at = ap (λ o. unwrap_or (option_map (changed_in (stepped r cost) u m call) o) r) at
 
-object_after : (r : Repository) (u : List ℕ) (m : Moment) (cost : ℕ) (call : UpdateProperties) (x : Object) → addressed r u call.place ≡ Some x → object_updated r u m cost call ≡ updated_object (stepped r cost) u m call x
+pub object_after : (r : Repository) (u : List ℕ) (m : Moment) (cost : ℕ) (call : UpdateProperties) (x : Object) → addressed r u call.place ≡ Some x → object_updated r u m cost call ≡ updated_object (stepped r cost) u m call x
 object_after r u m cost call x at = ap (λ o. updated_object (stepped r cost) u m call (unwrap_or o (root_folder u m r.step))) at
 
 -- the changed object is found

@@ -1,11 +1,11 @@
 //! updateProperties (CMIS 1.1, section 2.2.4.13).
-ghost use Rattle.std.specs.Prelude.{◌≡◌, ◌&&◌, not, Ok, IfOk, map};
+ghost use Rattle.std.specs.Prelude.{◌≡◌, ◌&&◌, not, Ok, Some, IfOk, map};
 ghost use Rattle.cm_map.specs.Parts.{pointee};
 ghost use Rattle.cm_base.specs.Judged.{Meets, Leaves, Writes, first_cause};
 ghost use Rattle.cm_types.specs.declared.given.PropertyCall.TheVariants as calls;
 ghost use Rattle.cm_types.specs.Properties.{judge_properties};
 ghost use Rattle.cmis_spec.specs.Values.{values_kept};
-ghost use Rattle.cmis_spec.specs.Repository.{same, root};
+ghost use Rattle.cmis_spec.specs.Repository.{same, root, object_at};
 ghost use Rattle.cmis_spec.specs.Changes.{stepped};
 ghost use Rattle.cmis_spec.specs.Documents.{is_working_copy};
 ghost use Rattle.cmis_spec.specs.Retention.{judge_retention};
@@ -14,7 +14,7 @@ ghost use Rattle.cm_see.specs.Addressed.{addressed};
 ghost use Rattle.wr_rules.specs.Rules.{judge_storage, unknown_type, has_other_secondary};
 ghost use Rattle.wr_rules.specs.Documents.{form_slots, name_after};
 ghost use Rattle.wr_rules.specs.Found.{FindsWith};
-ghost use Rattle.wr_change.specs.Update.{cost_update, secondary_named, secondary_updated, props_updated, gives_name, takes_name, judge_new_name, judge_allowed, judge_update, refusal_one, refusal_update, values_updated, changed_in, after_update, acknowledgement_update};
+ghost use Rattle.wr_change.specs.Update.{cost_update, secondary_named, secondary_updated, props_updated, gives_name, takes_name, judge_new_name, judge_allowed, judge_update, refusal_one, refusal_update, values_updated, changed_in, object_updated, after_update, acknowledgement_update};
 ghost use Rattle.wr_change.specs.UpdateParts.{MayChange};
 
 use crate::change::{begun, changed_in};
@@ -26,7 +26,7 @@ use cm_base::access::Level;
 use cm_base::cause::Cause;
 use cm_base::fail::Fail;
 use cm_base::name::name_ok;
-use cm_base::number::Moment;
+use cm_base::number::{Moment, Oid};
 use cm_base::object::Object;
 use cm_base::text::Text;
 use cm_base::value::Values;
@@ -295,7 +295,30 @@ fn with_update(
 
 /// Changes the properties of an object, a working copy's or the latest version's among them. The cost is the weight of the call.
 ///
-/// The answer is the first cause that refuses the call, or the repository after it and the object as the caller sees it there.
+/// The answer is the first cause that refuses the call, or the repository after it and the number of the object.
+pub fn properties_updated(
+    alloc: Global,
+    state: &State,
+    user: &Text,
+    moment: Moment,
+    call: &UpdateProperties,
+) -> Result<(State, Oid), Fail>
+    ensures updated { Writes result
+        (refusal_update state.now user.now moment (cost_update call.now) call.now)
+        (after_update state.now user.now moment (cost_update call.now) call.now)
+        (object_updated state.now user.now moment (cost_update call.now) call.now).id }
+    ensures there { IfOk result (λ a. object_at a.0 a.1
+        ≡ Some (object_updated state.now user.now moment (cost_update call.now) call.now)) }
+    ensures well { IfOk result (λ a. IsWellFormed a.0) }
+{
+    let _step = state.step();
+    let (x, values) = judge(alloc, state, user, moment, call)?;
+    let made = with_update(alloc, state, user, moment, call, (x, values))?;
+    let _made_step = made.step();
+    Ok((made, x.id))
+}
+
+/// Changes the properties of an object, as `properties_updated` does, and shows it as the caller sees it after the step.
 pub fn update(
     alloc: Global,
     state: &State,
@@ -309,10 +332,8 @@ pub fn update(
         (acknowledgement_update state.now user.now moment (cost_update call.now) call.now) }
     ensures well { IfOk result (λ x. IsWellFormed x.0) }
 {
-    let _step = state.step();
-    let (x, values) = judge(alloc, state, user, moment, call)?;
-    let made = with_update(alloc, state, user, moment, call, (x, values))?;
-    let (next, reply) = with_changed(alloc, made, user, call.succinct, x.id)?;
+    let (made, number) = properties_updated(alloc, state, user, moment, call)?;
+    let (next, reply) = with_changed(alloc, made, user, call.succinct, number)?;
     let _next_step = next.step();
     Ok((next, reply))
 }
