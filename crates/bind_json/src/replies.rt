@@ -8,6 +8,7 @@ use call_json::left::left_json;
 use call_json::renditions::reply_json;
 use call_json::updated::updated_objects_json;
 use call_parts::replies::ContentReply;
+use cm_base::body::Body;
 use cm_base::copies::Copies;
 use cm_base::shown::Shown;
 use cm_call::reply::Reply;
@@ -39,8 +40,8 @@ fn shown_content(alloc: Global, reply: &ContentReply, number: u64) -> Result<Sho
         ≡ record { status = 200; kind = reply.now.kind; body = reply.now.body; number = Some number }) }
 {
     let kind = reply.kind.copied(alloc)?;
-    let body = reply.body.clone()?;
-    Ok(shown_as(200, kind, body, number))
+    let body = reply.body.copied(alloc)?;
+    Ok(shown_as(200, kind, Body::stream(body), number))
 }
 
 // What is sent of the removal of a tree: the ids that are left, if there are any.

@@ -1,4 +1,5 @@
 pub mod Arguments
+pub mod Bodies
 pub mod Causes
 pub mod Decimals
 pub mod Exceptions
@@ -7,6 +8,8 @@ pub mod Moments
 pub mod Names
 pub mod OrderLaws
 pub mod Orders
+pub mod Parted
+pub mod Placed
 pub mod States
 pub mod UserLists
 pub mod Whole
