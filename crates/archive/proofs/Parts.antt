@@ -48,4 +48,4 @@ pub stands_cut : (told : Option (List ℕ)) (place from to : ℕ) (whole part : 
     → part ≡ slice_range whole from to → Stands told (place + from) (to - from) part
 stands_cut told place from to whole part s ordered within is =
     subst (λ (p : List ℕ). Stands told (place + from) (to - from) p) (sym is)
-      (subst (λ (n : ℕ). Stands told (place + from) n (slice_range whole from to)) (part_length from to whole ordered within) (stands_part told place from to whole s ordered within))
+    (subst (λ (n : ℕ). Stands told (place + from) n (slice_range whole from to)) (part_length from to whole ordered within) (stands_part told place from to whole s ordered within))

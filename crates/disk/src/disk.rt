@@ -40,7 +40,8 @@ pub trait Disk {
     /// Fills room with the bytes from `at` on.
     fn read(&mut self, at: u64, room: &mut [u8]) -> Result<(), Failed>
         requires { IsTrue tells → at + length room.old ≤ length (told self.old).file.seen }
-        ensures bytes { IsTrue tells → OnOk result (room.new ≡ take (length room.old) (drop at (told self.old).file.seen)) }
+        ensures bytes { IsTrue tells
+            → OnOk result (room.new ≡ take (length room.old) (drop at (told self.old).file.seen)) }
         ensures file { IsTrue tells → IsUnchanged (told self.old) (told self.new) }
         ensures stands_for { stands_for self.new ≡ stands_for self.old }
         ensures cause { HasCause (told self.old).faults (told self.new).faults result };
@@ -56,7 +57,8 @@ pub trait Disk {
     fn write_at(&mut self, at: u64, piece: &[u8]) -> Result<(), Failed>
         requires { IsTrue tells → at ≤ length (told self.old).file.seen }
         ensures ok { IsTrue tells → OnOk result (Writes at piece.now (told self.old) (told self.new)) }
-        ensures err { IsTrue tells → OnErr result (FailsToWrite at (length piece.now) (told self.old) (told self.new)) }
+        ensures err { IsTrue tells
+            → OnErr result (FailsToWrite at (length piece.now) (told self.old) (told self.new)) }
         ensures fits { OnOk result (at + length piece.now < 2 ^ 63) }
         ensures stands_for { stands_for self.new ≡ stands_for self.old }
         ensures cause { HasCause (told self.old).faults (told self.new).faults result };

@@ -113,7 +113,8 @@ fn write_and_keep(
 ) -> Result<(), AllocError>
     requires { at ≤ length file.old.items }
     ensures file { OnOk result (file.new.items ≡ overwritten file.old.items at piece.now) }
-    ensures call { OnOk result ((kept : _) × (kept.items ≡ piece.now) × (calls.new.items ≡ calls.old.items ++ Call.Wrote at kept ∷ [])) }
+    ensures call { OnOk result ((kept : _) × (kept.items ≡ piece.now)
+        × (calls.new.items ≡ calls.old.items ++ Call.Wrote at kept ∷ [])) }
     ensures err { OnErr result ((file.new.items ≡ file.old.items) × (calls.new.items ≡ calls.old.items)) }
 {
     let new = overwritten_file(alloc, file, at, piece)?;

@@ -18,8 +18,10 @@ fn send_part<K: Sink>(
     room: &mut [u8],
 ) -> Result<(), Failed>
     requires { from + length room.old ≤ length extent.now }
-    ensures ok { OnOk result (Took (K.told sink.old) (K.told sink.new) (take (length room.old) (drop from extent.now))) }
-    ensures front { OnErr result (TookFront (K.told sink.old) (K.told sink.new) (take (length room.old) (drop from extent.now))) }
+    ensures ok { OnOk result (Took (K.told sink.old) (K.told sink.new)
+        (take (length room.old) (drop from extent.now))) }
+    ensures front { OnErr result (TookFront (K.told sink.old) (K.told sink.new)
+        (take (length room.old) (drop from extent.now))) }
     ensures aside { K.aside sink.new ≡ K.aside sink.old }
     ensures cause { HasCause (K.told sink.old).faults (K.told sink.new).faults result }
 {

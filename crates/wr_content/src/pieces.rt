@@ -110,7 +110,12 @@ fn shared(alloc: Global, pieces: &[Piece]) -> Result<Pieces, AllocError>
 }
 
 // The first pieces, so many, and then the bytes of one that was made of the others and more.
-fn before(alloc: Global, pieces: &[Piece], count: usize, behind: &Pieces) -> Result<Pieces, AllocError>
+fn before(
+    alloc: Global,
+    pieces: &[Piece],
+    count: usize,
+    behind: &Pieces,
+) -> Result<Pieces, AllocError>
     requires among { count ≤ length pieces.now }
     requires fits { length (whole (take count pieces.now)) + length behind.now < 2 ^ 64 }
     ensures { IfOk result (λ p. p ≡ whole (take count pieces.now) ++ behind.now) }
