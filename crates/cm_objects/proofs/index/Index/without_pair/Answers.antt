@@ -1,7 +1,7 @@
 use Rattle.std.proofs.Common.{◌&&◌, not, sym, ap, subst, ◌∙◌}
-use Rattle.cm_map.specs.Pairs.{has_pair, AreNumbers}
-use Rattle.cm_map.proofs.Pairing.{numbers_without, has_same, pair_same}
-use Rattle.cm_map.proofs.index.Index.without_pair.Goals as goal
+use Rattle.cm_objects.specs.Pairs.{has_pair, AreNumbers}
+use Rattle.cm_objects.proofs.Pairing.{numbers_without, has_same, pair_same}
+use Rattle.cm_objects.proofs.index.Index.without_pair.Goals as goal
 
 pub invariant_of-result : goal.invariant_of-result
 invariant_of-result c = subst AreNumbers (sym c.in_ok-pairs.ensures.keys) (numbers_without c.self.inside.pairs (c.args.key, c.args.x) c.self.invariant)

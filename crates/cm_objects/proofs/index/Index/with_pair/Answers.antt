@@ -1,9 +1,9 @@
 use Rattle.std.proofs.Common.{◌≡◌, ◌<◌, ◌||◌, sym, ap, subst, ◌∙◌}
 use Rattle.core.specs.Ordering.{eq_by_cmp}
 use Rattle.cm_map.specs.Sets.{has_key, with_key}
-use Rattle.cm_map.specs.Pairs.{has_pair, pair_order, AreNumbers}
-use Rattle.cm_map.proofs.Pairing.{numbers_with, has_same, pair_same}
-use Rattle.cm_map.proofs.index.Index.with_pair.Goals as goal
+use Rattle.cm_objects.specs.Pairs.{has_pair, pair_order, AreNumbers}
+use Rattle.cm_objects.proofs.Pairing.{numbers_with, has_same, pair_same}
+use Rattle.cm_objects.proofs.index.Index.with_pair.Goals as goal
 
 keys_added : (c : goal.In_ok-pairs) → c.in_ok-pairs.pairs ≡ with_key pair_order c.self.inside.pairs (c.args.key, c.args.x)
 keys_added c = c.in_ok-pairs.ensures.keys ∙ (λ i. with_key pair_order c.self.inside.pairs (c.args.key, record { 0 = c.same_number-number.ensures.same i }))

@@ -5,14 +5,13 @@ use Rattle.core.specs.List.{AllByRecursion}
 use Rattle.core.specs.Ordering.{nat_cmp, ordering_then}
 use Rattle.core.specs.declared.cmp.Ordering.{Ordering}
 use Rattle.cm_base.specs.declared.number.Oid.{Oid}
-use Rattle.cm_map.specs.declared.index_key.IndexKey.{IndexKey}
-use Rattle.cm_map.specs.declared.index_key.IndexKey.TheVariants as keys
-use Rattle.cm_map.specs.contracts.index_key.IndexKeyOrd.TheImpl.{ghosts}
+use Rattle.cm_objects.specs.declared.index_key.IndexKey.{IndexKey}
+use Rattle.cm_objects.specs.declared.index_key.IndexKey.TheVariants as keys
+use Rattle.cm_objects.specs.contracts.index_key.IndexKeyOrd.TheImpl.{ghosts}
 
 abbrev pub same_key : IndexKey → IndexKey → Bool
 same_key (keys.Kind s) (keys.Kind t) = bytes_eq s t
 same_key (keys.End x) (keys.End y) = x.0 == y.0
-same_key (keys.Series x) (keys.Series y) = x.0 == y.0
 same_key _ _ = false
 
 abbrev pub same_pair : IndexKey × Oid → IndexKey × Oid → Bool

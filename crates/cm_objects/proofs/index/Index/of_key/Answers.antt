@@ -3,9 +3,9 @@ use Rattle.std.specs.List.{list_any}
 use Rattle.core.specs.Ordering.{nat_cmp}
 use Rattle.cm_map.specs.Parts.{pointee, within}
 use Rattle.cm_map.specs.Sets.{IsRising}
-use Rattle.cm_map.specs.Pairs.{ids_of, pair_order}
-use Rattle.cm_map.proofs.Pairing.{range_same, ids_have, ids_rise}
-use Rattle.cm_map.proofs.index.Index.of_key.Goals as goal
+use Rattle.cm_objects.specs.Pairs.{ids_of, pair_order}
+use Rattle.cm_objects.proofs.Pairing.{range_same, ids_have, ids_rise}
+use Rattle.cm_objects.proofs.index.Index.of_key.Goals as goal
 
 pub returns-clause-ids : goal.returns-clause-ids
 returns-clause-ids c =

@@ -8,11 +8,11 @@ use Rattle.std.proofs.lemmas.Map.Text.{is_eq-slice_cmp}
 use Rattle.cm_base.specs.declared.number.Oid.{Oid}
 use Rattle.cm_map.specs.Parts.{within}
 use Rattle.cm_map.specs.Sets.{IsRising, has_key, with_key, all_but_key}
-use Rattle.cm_map.specs.declared.index_key.IndexKey.{IndexKey}
-use Rattle.cm_map.specs.declared.index_key.IndexKey.TheVariants as keys
-use Rattle.cm_map.specs.contracts.index_key.IndexKeyOrd.TheImpl.{ghosts}
-use Rattle.cm_map.specs.IndexKeyFacts.{index_exact}
-use Rattle.cm_map.specs.Pairs.{same_key, same_pair, has_pair, ids_of, pair_order, AreNumbers}
+use Rattle.cm_objects.specs.declared.index_key.IndexKey.{IndexKey}
+use Rattle.cm_objects.specs.declared.index_key.IndexKey.TheVariants as keys
+use Rattle.cm_objects.specs.contracts.index_key.IndexKeyOrd.TheImpl.{ghosts}
+use Rattle.cm_objects.specs.IndexKeyFacts.{index_exact}
+use Rattle.cm_objects.specs.Pairs.{same_key, same_pair, has_pair, ids_of, pair_order, AreNumbers}
 
 tied_then : (a b : Ordering) → is_eq (ordering_then a b) ≡ (is_eq a && is_eq b)
 tied_then Less b = refl
@@ -22,13 +22,8 @@ tied_then Greater b = refl
 key_same : (k l : IndexKey) → is_eq (ghosts.cmp k l) ≡ same_key k l
 key_same (keys.Kind s) (keys.Kind t) = is_eq-slice_cmp s t
 key_same (keys.Kind s) (keys.End y) = refl
-key_same (keys.Kind s) (keys.Series y) = refl
 key_same (keys.End x) (keys.Kind t) = refl
 key_same (keys.End x) (keys.End y) = unsigned_tied x.0 y.0
-key_same (keys.End x) (keys.Series y) = refl
-key_same (keys.Series x) (keys.Kind t) = refl
-key_same (keys.Series x) (keys.End y) = refl
-key_same (keys.Series x) (keys.Series y) = unsigned_tied x.0 y.0
 
 equal_of : (r : Ordering) → is_eq r ≡ true → r ≡ Equal
 equal_of Less e = absurd (true≢false (sym e))

@@ -1,11 +1,11 @@
 //! What objects are looked up by.
 ghost use Rattle.std.specs.Prelude.{◌≡◌};
-ghost use Rattle.cm_map.specs.IndexKeyFacts.{index_exact};
+ghost use Rattle.cm_objects.specs.IndexKeyFacts.{index_exact};
 
-use crate::key::Key;
 use cm_base::copies::Copies;
 use cm_base::number::Oid;
 use cm_base::text::Text;
+use cm_map::key::Key;
 use std::alloc::{AllocError, Global};
 
 /// A key of an index. Keys are ordered by their kind first, then by their parts, texts by bytes.
@@ -15,8 +15,6 @@ pub enum IndexKey {
     Kind(Text),
     /// An object: those that name it as an end, as relationships do (CMIS 1.1, section 2.1.6).
     End(Oid),
-    /// A version series: its documents.
-    Series(Oid),
 }
 
 impl Key for IndexKey {
@@ -28,7 +26,6 @@ impl Copies for IndexKey {
         match self {
             IndexKey::Kind(kind) => Ok(IndexKey::Kind(kind.copied(alloc)?)),
             IndexKey::End(end) => Ok(IndexKey::End(*end)),
-            IndexKey::Series(series) => Ok(IndexKey::Series(*series)),
         }
     }
 }

@@ -4,13 +4,13 @@ ghost use Rattle.std.specs.List.{list_any};
 ghost use Rattle.cm_map.specs.Parts.{pointee};
 ghost use Rattle.cm_map.specs.Sets.{IsRising, with_key, all_but_key};
 ghost use Rattle.core.specs.Ordering.{nat_cmp};
-ghost use Rattle.cm_map.specs.Pairs.{same_pair, has_pair, ids_of, pair_order, AreNumbers};
+ghost use Rattle.cm_objects.specs.Pairs.{same_pair, has_pair, ids_of, pair_order, AreNumbers};
 
 use crate::index_key::IndexKey;
-use crate::set::Set;
 use cm_base::copies::Copies;
 use cm_base::items::Items;
 use cm_base::number::{Oid, Oids};
+use cm_map::set::Set;
 use std::alloc::{AllocError, Global};
 use std::marker::Model;
 
@@ -22,9 +22,9 @@ pub struct Index {
 
 impl Model for Index {
     ghost use Rattle.std.specs.Prelude.{List};
-    ghost use Rattle.cm_map.specs.Pairs.{AreNumbers};
+    ghost use Rattle.cm_objects.specs.Pairs.{AreNumbers};
     ghost use Rattle.cm_base.specs.declared.number.Oid.{Oid};
-    ghost use Rattle.cm_map.specs.declared.index_key.IndexKey.{IndexKey};
+    ghost use Rattle.cm_objects.specs.declared.index_key.IndexKey.{IndexKey};
 
     ghost Value = { List (IndexKey × Oid) };
 
