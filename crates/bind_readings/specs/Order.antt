@@ -1,11 +1,10 @@
 -- The argument orderBy: a comma list of query names, each with a direction perhaps (CMIS 1.1, section 2.2.1.2.7).
-use Rattle.std.specs.Prelude.{ℕ, List, [], ◌∷◌, Bool, true, false, if◌then◌else◌, Option, Some, None, option_and_then, Ok}
+use Rattle.std.specs.Prelude.{ℕ, List, [], ◌∷◌, Bool, true, false, if◌then◌else◌, Option, Some, None, option_and_then, Ok, codes}
 use Rattle.std.specs.List.{flat_map}
-use Rattle.cm_base.specs.declared.argument.Argument.TheVariants as args
 use Rattle.cm_base.specs.declared.cause.Cause.TheVariants as causes
 use Rattle.cm_base.specs.Judged.{Judged, find_or}
 use Rattle.form_args.specs.declared.pairs.Pair.{Pair}
-use Rattle.form_args.specs.Pairs.{value_of}
+use Rattle.form_args.specs.Pairs.{first_of}
 use Rattle.form_args.specs.Filter.{commas, spaces, tabs, has_bytes, each_onto}
 use Rattle.ql_lex.specs.declared.word.Word.{Word}
 use Rattle.ql_lex.specs.declared.word.Word.TheVariants as words
@@ -51,7 +50,7 @@ specification_in [] = None
 specification_in (name ∷ more) = specification_by name more
 
 abbrev pub read_specification : List ℕ → Judged SortSpecification
-read_specification text = find_or (causes.BadArgument args.OrderBy) (specification_in (between_blanks text))
+read_specification text = find_or (causes.BadArgument (codes "orderBy")) (specification_in (between_blanks text))
 
 -- none where nothing is said; an empty text is one item without a name
 abbrev pub order_by : Option (List ℕ) → Judged (List SortSpecification)
@@ -59,4 +58,4 @@ order_by None = Ok []
 order_by (Some text) = each_onto read_specification [] (commas text)
 
 abbrev pub order_of : List Pair → Judged (List SortSpecification)
-order_of pairs = order_by (value_of pairs args.OrderBy)
+order_of pairs = order_by (first_of pairs (codes "orderBy"))

@@ -11,7 +11,7 @@ use cm_base::fail::Fail;
 use cm_base::items::Items;
 use cm_base::text::Text;
 use form_args::pairs::Pairs;
-use order_parts::readings::{SortSpecification, SortSpecifications};
+use order_parts::readings::{ORDER_BY, SortSpecification, SortSpecifications};
 use ql_lex::word::{Word, keyword_of};
 use std::alloc::{AllocError, Global};
 use type_keys::word::is_query_name;
@@ -162,7 +162,7 @@ fn read_specification(alloc: Global, text: &str) -> Result<SortSpecification, Fa
     let found = specification_of(alloc, text)?;
     match found {
         Some(specification) => Ok(specification),
-        None => Err(Fail::Refused(Cause::BadArgument(Argument::OrderBy))),
+        None => Err(Fail::Refused(Cause::BadArgument(Argument::named(ORDER_BY)))),
     }
 }
 
@@ -199,5 +199,5 @@ fn order_by(alloc: Global, given: Option<&Text>) -> Result<SortSpecifications, F
 pub fn order_of(alloc: Global, pairs: &Pairs) -> Result<SortSpecifications, Fail>
     ensures { Meets (λ all. all) result (order_of pairs.now) }
 {
-    order_by(alloc, pairs.first(Argument::OrderBy.word()))
+    order_by(alloc, pairs.first(ORDER_BY))
 }

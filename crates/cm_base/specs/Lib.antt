@@ -1,4 +1,3 @@
-pub mod Arguments
 pub mod Bodies
 pub mod Causes
 pub mod Decimals

@@ -8,12 +8,13 @@ ghost use Rattle.form_args.specs.Filter.{commas, spaces, tabs, has_bytes, words,
 use crate::pairs::Pairs;
 use call_parts::names::Names;
 use call_parts::readings::PropertyFilter;
-use cm_base::argument::Argument;
 use cm_base::cause::Cause;
 use cm_base::fail::Fail;
 use cm_base::items::Items;
 use cm_base::text::{Text, Texts};
 use std::alloc::{AllocError, Global};
+
+const FILTER: &str = "filter";
 
 fn commas<'a>(alloc: Global, text: &'a str) -> Result<Vec<&'a str>, AllocError>
     ensures { IfOk result (λ v. map (λ x. x.now) v.items ≡ commas text.now) }
@@ -145,5 +146,5 @@ fn filter_by(alloc: Global, given: Option<&Text>) -> Result<PropertyFilter, Fail
 pub fn property_filter(alloc: Global, pairs: &Pairs) -> Result<PropertyFilter, Fail>
     ensures { Meets (λ f. f) result (filter_of pairs.now) }
 {
-    filter_by(alloc, pairs.first(Argument::Filter.word()))
+    filter_by(alloc, pairs.first(FILTER))
 }

@@ -15,6 +15,12 @@ use cm_base::text::{Text, Texts};
 use cm_types::given::{Given, Givens};
 use std::alloc::{AllocError, Global};
 
+const OBJECT_TYPE_ID: &str = "cmis:objectTypeId";
+
+const PROPERTY_ID: &str = "propertyId";
+
+const PROPERTY_VALUE: &str = "propertyValue";
+
 // A call gives at most so many properties.
 #[tactic(auto, unfolding(crate::specs::Properties::most_properties))]
 fn most_properties() -> usize
@@ -51,7 +57,7 @@ fn one(alloc: Global, value: &Text) -> Result<Texts, AllocError>
 fn given_at(alloc: Global, pairs: &Pairs, i: usize, id: &Text) -> Result<Given, AllocError>
     ensures { IfOk result (λ g. g ≡ given_at pairs.now i id.now) }
 {
-    let key = indexed(alloc, Argument::PropertyValue.word(), i)?;
+    let key = indexed(alloc, PROPERTY_VALUE, i)?;
     let id = id.copied(alloc)?;
     match pairs.first(key.as_str()) {
         Some(value) => Ok(Given {
@@ -109,16 +115,16 @@ fn has_long(givens: &[Given]) -> bool
 pub fn properties(alloc: Global, pairs: &Pairs) -> Result<Givens, Fail>
     ensures { Meets (λ g. g) result (properties_of pairs.now) }
 {
-    let ids = texts(alloc, pairs, Argument::PropertyId.word())?;
+    let ids = texts(alloc, pairs, PROPERTY_ID)?;
     if most_properties() < ids.len() {
-        return Err(Fail::Refused(Cause::BadArgument(Argument::PropertyId)));
+        return Err(Fail::Refused(Cause::BadArgument(Argument::named(PROPERTY_ID))));
     }
     if repeats(ids.as_slice()) {
-        return Err(Fail::Refused(Cause::BadArgument(Argument::PropertyId)));
+        return Err(Fail::Refused(Cause::BadArgument(Argument::named(PROPERTY_ID))));
     }
     let givens = givens(alloc, pairs, ids.as_slice())?;
     if has_long(givens.as_slice()) {
-        return Err(Fail::Refused(Cause::BadArgument(Argument::PropertyValue)));
+        return Err(Fail::Refused(Cause::BadArgument(Argument::named(PROPERTY_VALUE))));
     }
     Ok(givens)
 }
@@ -142,6 +148,6 @@ pub fn typed(properties: &[Given]) -> Result<(), Cause>
     if names_types(properties) {
         Ok(())
     } else {
-        Err(Cause::MissingArgument(Argument::ObjectTypeId))
+        Err(Cause::MissingArgument(Argument::named(OBJECT_TYPE_ID)))
     }
 }

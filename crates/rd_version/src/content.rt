@@ -6,7 +6,7 @@ ghost use Rattle.cmis_spec.specs.Repository.{same};
 ghost use Rattle.rd_version.specs.Content.{answer_content, answer_stream, content_in, content_reply, rendition_named, rendition_of, rendition_reply, stream_of};
 
 use call_parts::place::Place;
-use call_parts::readings::ReadContent;
+use call_parts::readings::{ReadContent, STREAM_ID};
 use call_parts::replies::ContentReply;
 use cm_base::argument::Argument;
 use cm_base::cause::Cause;
@@ -82,9 +82,9 @@ fn stream_of(
 {
     match stream {
         Some(id) => {
-            let rendition = rendition_named(state, x, id).ok_or(Cause::BadArgument(
-                Argument::StreamId,
-            ))?;
+            let rendition = rendition_named(state, x, id).ok_or(Cause::BadArgument(Argument::named(
+                STREAM_ID,
+            )))?;
             let reply = rendition_reply(alloc, rendition)?;
             Ok(reply)
         }
