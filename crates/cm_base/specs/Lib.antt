@@ -3,6 +3,7 @@ pub mod Causes
 pub mod Decimals
 pub mod Exceptions
 pub mod Judged
+pub mod Limits
 pub mod Moments
 pub mod Names
 pub mod OrderLaws

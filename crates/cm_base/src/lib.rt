@@ -15,6 +15,7 @@ pub mod exception;
 pub mod fail;
 pub mod filing;
 pub mod items;
+pub mod limits;
 pub mod log;
 pub mod media;
 pub mod name;

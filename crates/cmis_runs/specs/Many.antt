@@ -16,14 +16,15 @@ use Rattle.desk_serve.specs.Sessions.{Taken, EndsFor, Closed}
 use Rattle.cmis_words.specs.declared.serve.Serve.{Serve}
 use Rattle.talk.specs.Served.{Kind}
 use Rattle.cmis_runs.specs.Alike.{RepliesOfSeen}
+use Rattle.cmis_runs.specs.Starts.{start_at}
 
 -- The links that were served, over one history of the repository with the root alone, which was made at the clock's first word. What a reading is replied
 -- is that of every well-formed repository in which its caller sees the same.
 pub record ServedAll {C Q L : Type 0} (kind : Kind Repository C Q) (source : L → SourceTold) (sink : L → SinkTold) (users : List User) (groups : List Group) (clock : Option Words) (links : Option (List L)) (last : History Repository C) (ended : List (Ended L)) : Type 0 where
   pub root : Moment
   pub begins : IfSome clock (λ w. root ≡ moment_of (first_word w))
-  pub closed : Closed (record { kind = kind; source = source; sink = sink; users = users; links = links }) (opening base_types users groups root 0) last ended
-  pub alike : RepliesOfSeen kind (opening base_types users groups root 0)
+  pub closed : Closed (record { kind = kind; source = source; sink = sink; users = users; links = links }) (opening base_types users groups (start_at root 0)) last ended
+  pub alike : RepliesOfSeen kind (opening base_types users groups (start_at root 0))
 
 -- a host that began with these words, and then gave n links, until this end
 pub record Hosted {L : Type 0} (asked : Serve) (host : HostTold) (links : Option (List L)) (host' : HostTold) (links' : Option (List L)) (n : ℕ) (end : HostEnd) : Type 0 where

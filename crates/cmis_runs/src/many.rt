@@ -6,7 +6,7 @@ ghost use Rattle.cmis_runs.specs.Kinds.{kind_of};
 ghost use Rattle.cmis_runs.specs.Many.{ServedAll};
 
 use crate::program::Program;
-use cm_opening::open::open;
+use crate::start::open_at;
 use cmis_words::serve::Serve;
 use desk_model::{Machine, moment_of_word};
 use desk_serve::Closing;
@@ -16,7 +16,6 @@ use std::sync::Wait;
 use std::thread::Threads;
 
 /// Serves the host's links, which began with these words, over the repository with the root alone, each by a session of its own, at most so many at once. Where memory is wanted before the first one, the host isn't asked.
-#[tactic(auto, unfolding(cmis_spec::specs::Repository::most_steps))]
 pub fn serve<P: Program, H: Host, C: Clock + Send, G: Gate + Sync, R: Threads + Wait + Sync>(
     rt: &R,
     alloc: Global,
@@ -44,7 +43,7 @@ where
 {
     let users = asked.users;
     let root = moment_of_word(clock.now());
-    let opening = open(alloc, &users, asked.groups, root, 0)?;
+    let opening = open_at(alloc, &users, asked.groups, root, 0)?;
     P::replies_of_seen();
     let _step = opening.step();
     match desk_serve::serve::<P::Face, H, &mut C, G, R>(
