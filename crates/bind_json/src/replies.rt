@@ -21,7 +21,7 @@ use include_json::rows::query_json;
 use include_json::tree::tree_json;
 use object_json::access::acl_json;
 use object_json::lists::objects_json;
-use object_json::objects::object_json;
+use object_json::objects::{object_json, properties_alone_json};
 use object_json::sent::{sent, shown_as, shown_nothing};
 use std::alloc::{AllocError, Global};
 use type_replies::info::info_reply_json;
@@ -64,6 +64,10 @@ pub fn text_of(alloc: Global, reply: &Reply, number: u64) -> Result<Shown, Alloc
         Reply::Object(reply) => {
             let json = object_json(alloc, &reply.object)?;
             sent(alloc, status_of(reply.created), json, number)
+        }
+        Reply::Properties(reply) => {
+            let json = properties_alone_json(alloc, &reply.object)?;
+            sent(alloc, 200, json, number)
         }
         Reply::Included(reply) => {
             let json = included_json(alloc, reply)?;

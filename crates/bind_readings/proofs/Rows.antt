@@ -21,8 +21,12 @@ row_empty : order_by (Some []) ≡ Err (causes.BadArgument (codes "orderBy"))
 unfolding keyword_of
 row_empty = refl
 
--- blanks around an item
-row_blank_before : order_by (Some (codes "cmis:name, k:size")) ≡ Err (causes.BadArgument (codes "orderBy"))
+-- blanks around a comma, and none at an end
+row_blanks : order_by (Some (codes "cmis:name \t,  k:size desc")) ≡ Ok (by (codes "cmis:name") false ∷ by (codes "k:size") true ∷ [])
+unfolding keyword_of
+row_blanks = refl
+
+row_blank_before : order_by (Some (codes " cmis:name")) ≡ Err (causes.BadArgument (codes "orderBy"))
 unfolding keyword_of
 row_blank_before = refl
 

@@ -190,7 +190,7 @@ answer_default r u q = find_or causes.NotFound (addressed r u q.children.childre
 -- what the user's question is answered
 abbrev pub answer_of : Repository → List ℕ → Question → Judged Reply
 answer_of r u (questions.Object q) = answer_show_object r u q >>= λ reply. Ok (replies.Included reply)
-answer_of r u (questions.Properties q) = answer_show_properties r u q >>= λ reply. Ok (replies.Object reply)
+answer_of r u (questions.Properties q) = answer_show_properties r u q >>= λ reply. Ok (replies.Properties reply)
 answer_of r u (questions.Children q) = answer_show_children r u q >>= λ reply. Ok (replies.Children reply)
 answer_of r u (questions.Content q) = answer_content r u q >>= λ reply. Ok (replies.Content reply)
 answer_of r u (questions.Default q) = answer_default r u q

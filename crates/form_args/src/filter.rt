@@ -16,7 +16,8 @@ use std::alloc::{AllocError, Global};
 
 const FILTER: &str = "filter";
 
-fn commas<'a>(alloc: Global, text: &'a str) -> Result<Vec<&'a str>, AllocError>
+/// What stands between the commas of a text.
+pub fn commas<'a>(alloc: Global, text: &'a str) -> Result<Vec<&'a str>, AllocError>
     ensures { IfOk result (λ v. map (λ x. x.now) v.items ≡ commas text.now) }
 {
     text.split(',').collect(alloc)
@@ -66,8 +67,8 @@ fn words_in<'a>(alloc: Global, parts: &[&'a str]) -> Result<Vec<&'a str>, AllocE
     Ok(words)
 }
 
-// What stands between the blanks of a text.
-fn words<'a>(alloc: Global, text: &'a str) -> Result<Vec<&'a str>, AllocError>
+/// The words of a text: what stands between its blanks, which are spaces and tabs.
+pub fn words<'a>(alloc: Global, text: &'a str) -> Result<Vec<&'a str>, AllocError>
     ensures { IfOk result (λ v. map (λ x. x.now) v.items ≡ words text.now) }
 {
     let parts = spaces(alloc, text)?;

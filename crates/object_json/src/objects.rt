@@ -3,7 +3,7 @@ ghost use Rattle.std.specs.Prelude.{◌≡◌, [], ◌∷◌, IfOk, OnOk};
 ghost use Rattle.serde_json.specs.Data.{string};
 ghost use Rattle.json_text.specs.Shown.{data_of, fields_of};
 ghost use Rattle.json_text.specs.Build.{object_data, with_field};
-ghost use Rattle.object_json.specs.Objects.{property_data, properties_data, values_data, shown_data};
+ghost use Rattle.object_json.specs.Objects.{property_data, properties_data, properties_alone_data, values_data, shown_data};
 
 use call_parts::replies::{Properties, ShownObject, ShownProperty};
 use cm_base::value::Slot;
@@ -83,6 +83,16 @@ pub fn alone(alloc: Global, name: &str, value: Json) -> Result<Json, AllocError>
     let mut fields = Fields::new(alloc);
     fields.put(alloc, name, value)?;
     Ok(Json::object(fields))
+}
+
+/// The properties of an object alone, in full or in succinct form.
+pub fn properties_alone_json(alloc: Global, object: &ShownObject) -> Result<Json, AllocError>
+    ensures { IfOk result (λ j. data_of j ≡ properties_alone_data object.now) }
+{
+    match &object.properties {
+        Properties::Full(properties) => properties_json(alloc, properties.as_slice()),
+        Properties::Succinct(slots) => values_json(alloc, slots.as_slice()),
+    }
 }
 
 /// An object: its properties in full or in succinct form.
