@@ -115,7 +115,7 @@ refusal_of r u m (writes.CreateDocumentFromSource call) = refusal_create_documen
 refusal_of r u m (writes.DeleteTree call) = refusal_delete_tree r u (cost_delete_tree call) call
 refusal_of r u m (writes.ApplyPolicy call) = refusal_apply_policy r u (cost_apply_policy call) call
 refusal_of r u m (writes.RemovePolicy call) = refusal_remove_policy r u (cost_remove_policy call) call
-refusal_of r u m (writes.BulkUpdate call) = refusal_bulk_update r (cost_bulk_update call)
+refusal_of r u m (writes.BulkUpdate call) = refusal_bulk_update r u (cost_bulk_update call)
 refusal_of r u m (writes.AddRendition call) = refusal_add_rendition r u (cost_add_rendition call) call
 
 -- the repository after the write, where it is not refused
