@@ -1,3 +1,4 @@
 pub mod Disks
 pub mod Crashes
 pub mod Calls
+pub mod Joining

@@ -1,5 +1,5 @@
 //! Disks: the file that one has open.
-ghost use Rattle.std.specs.Prelude.{◌≡◌, ◌+◌, ◌<◌, ◌≤◌, ◌^◌, ℕ, List, ◌∷◌, Bool, IsTrue, length, take, drop, IfOk, OnOk, OnErr};
+ghost use Rattle.std.specs.Prelude.{◌≡◌, ◌↔◌, ◌+◌, ◌<◌, ◌≤◌, ◌^◌, ℕ, List, ◌∷◌, Bool, IsTrue, length, take, drop, IfOk, OnOk, OnErr};
 ghost use Rattle.std.specs.Arc.{arc_value};
 ghost use Rattle.outside.specs.Outside.{HasCause};
 ghost use Rattle.disk.specs.Disks.{DiskTold, IsUnchanged, Writes, FailsToWrite, Syncs, told_now};
@@ -11,6 +11,13 @@ use std::sync::Arc;
 
 /// The most bytes that a file may have.
 pub const LONGEST: u64 = (1 << 63) - 1;
+
+/// Whether so many bytes from `at` on end within the longest file.
+pub fn ends_within(at: u64, len: usize) -> bool
+    ensures { IsTrue result ↔ (at + len < 2 ^ 63) }
+{
+    at <= LONGEST && len as u64 <= LONGEST - at
+}
 
 /// A disk. Between two syncs that succeed, a crash may leave any bytes in what was written and behind what was synced.
 pub trait Disk {

@@ -5,5 +5,5 @@
 mod disk;
 mod mem_disk;
 
-pub use disk::{Disk, LONGEST};
+pub use disk::{Disk, LONGEST, ends_within};
 pub use mem_disk::MemDisk;

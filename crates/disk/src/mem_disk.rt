@@ -1,12 +1,12 @@
 //! A disk in memory.
-ghost use Rattle.std.specs.Prelude.{◌≡◌, ◌↔◌, ◌+◌, ◌<◌, ◌≤◌, ◌^◌, [], ◌∷◌, ◌++◌, length, Some, true, take, drop, is_err, IsTrue, IfOk, OnOk, OnErr};
+ghost use Rattle.std.specs.Prelude.{◌≡◌, ◌+◌, ◌<◌, ◌≤◌, ◌^◌, [], ◌∷◌, ◌++◌, length, Some, true, take, drop, is_err, IsTrue, IfOk, OnOk, OnErr};
 ghost use Rattle.std.specs.Arc.{arc_value};
 ghost use Rattle.outside.specs.Memory.{is_listed, counted};
 ghost use Rattle.outside.specs.Outside.{HasCause, Rose};
 ghost use Rattle.disk.specs.Disks.{IsUnchanged, Writes, Tears, FailsToWrite, Syncs, overwritten};
 ghost use Rattle.disk.specs.Calls.{at_first};
 
-use crate::disk::{Disk, LONGEST};
+use crate::disk::{Disk, LONGEST, ends_within};
 use archive::Archive;
 use cm_base::text::Text;
 use outside::Failed;
@@ -312,11 +312,4 @@ fn archived(alloc: Global, file: &[u8]) -> Result<Arc<Archive>, AllocError>
     let bytes = Arc::new(alloc, bytes)?;
     let archive = Arc::new(alloc, Archive::in_memory(bytes))?;
     Ok(archive)
-}
-
-// Whether so many bytes from `at` on end within the longest file.
-fn ends_within(at: u64, len: usize) -> bool
-    ensures { IsTrue result ↔ (at + len < 2 ^ 63) }
-{
-    at <= LONGEST && len as u64 <= LONGEST - at
 }

@@ -1,0 +1,10 @@
+pub mod Torn
+pub mod Places
+pub mod One
+pub mod Beginning
+pub mod Steps
+pub mod Kept
+pub mod Fields
+pub mod Standing
+pub mod Heads
+pub mod OneMore

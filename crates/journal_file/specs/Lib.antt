@@ -1,0 +1,9 @@
+pub mod Records
+pub mod Told
+pub mod Heads
+pub mod Readings
+pub mod Openings
+pub mod Nexts
+pub mod Stops
+pub mod Journals
+pub mod Runs
