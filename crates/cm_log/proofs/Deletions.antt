@@ -1,5 +1,5 @@
 -- The first deletion of an object, by its place.
-use Rattle.std.specs.Prelude.{◌≡◌, ℕ, ◌+◌, ◌==◌, List, [], ◌∷◌, ◌++◌, length, Option, Some, None, is_none, Bool, true, false, ◌&&◌, find, option_map, option_and_then, slice_get, if◌then◌else◌}
+use Rattle.std.specs.Prelude.{◌≡◌, ℕ, suc, ◌==◌, List, [], ◌∷◌, ◌++◌, length, Option, Some, None, is_none, Bool, true, false, ◌&&◌, find, option_map, option_and_then, slice_get, if◌then◌else◌}
 use Rattle.std.proofs.Common.{refl, ap, sym, subst, cond, ◌∙◌, arith}
 use Rattle.std.proofs.lemmas.Bool.{both_ways, eqb-true}
 use Rattle.core.specs.FinMap.Entries as entries
@@ -12,11 +12,11 @@ use Rattle.cmis_spec.specs.Seen.{is_deletion, is_deletion_of}
 use Rattle.cm_log.specs.Deletions.{AreDeletions, deletion_place, is_first_deletion}
 
 -- what stands at the place of the first deletion is that deletion
-behind_one : (c : Change) (cs : List Change) (o : Option ℕ) → option_and_then (slice_get (c ∷ cs)) (option_map (λ i. i + 1) o) ≡ option_and_then (slice_get cs) o
+behind_one : (c : Change) (cs : List Change) (o : Option ℕ) → option_and_then (slice_get (c ∷ cs)) (option_map suc o) ≡ option_and_then (slice_get cs) o
 behind_one c cs None = refl
 behind_one c cs (Some i) = refl
 
-found_first : (c : Change) (cs : List Change) (b : Bool) (o : Option ℕ) → option_and_then (slice_get (c ∷ cs)) (if b then Some 0 else option_map (λ i. i + 1) o) ≡ (if b then Some c else option_and_then (slice_get cs) o)
+found_first : (c : Change) (cs : List Change) (b : Bool) (o : Option ℕ) → option_and_then (slice_get (c ∷ cs)) (if b then Some 0 else option_map suc o) ≡ (if b then Some c else option_and_then (slice_get cs) o)
 found_first c cs true o = refl
 found_first c cs false o = behind_one c cs o
 
@@ -24,12 +24,16 @@ pub found_at : (n : Oid) (cs : List Change) → option_and_then (slice_get cs) (
 found_at n [] = refl
 found_at n (c ∷ cs) = found_first c cs (is_deletion_of n c) (deletion_place n cs) ∙ ap (λ o. if is_deletion_of n c then Some c else o) (found_at n cs)
 
+-- what is found at the place that is kept
+pub found_by : (places : List (ℕ × ℕ)) (cs : List Change) (n : Oid) → AreDeletions places cs → option_and_then (slice_get cs) (entries.find nat_cmp n.0 places) ≡ find (is_deletion_of n) cs
+found_by places cs n h = ap (option_and_then (slice_get cs)) (h n) ∙ found_at n cs
+
 -- the place kept, or that of an event behind all others
-pub or_last : Option ℕ → Bool → ℕ → Option ℕ
+abbrev pub or_last : Option ℕ → Bool → ℕ → Option ℕ
 or_last (Some i) b k = Some i
 or_last None b k = if b then Some k else None
 
-one_more : (t b : Bool) (k : ℕ) (o : Option ℕ) → (if t then Some 0 else option_map (λ i. i + 1) (or_last o b k)) ≡ or_last (if t then Some 0 else option_map (λ i. i + 1) o) b (k + 1)
+one_more : (t b : Bool) (k : ℕ) (o : Option ℕ) → (if t then Some 0 else option_map suc (or_last o b k)) ≡ or_last (if t then Some 0 else option_map suc o) b (suc k)
 one_more true b k o = refl
 one_more false b k (Some i) = refl
 one_more false true k None = refl
@@ -38,10 +42,10 @@ one_more false false k None = refl
 pub place-last : (n : Oid) (cs : List Change) (c : Change) → deletion_place n (cs ++ c ∷ []) ≡ or_last (deletion_place n cs) (is_deletion_of n c) (length cs)
 place-last n [] c = at (is_deletion_of n c)
   where
-    at : (b : Bool) → (if b then Some 0 else option_map (λ i. i + 1) None) ≡ or_last None b 0
+    at : (b : Bool) → (if b then Some 0 else option_map suc None) ≡ or_last None b 0
     at true = refl
     at false = refl
-place-last n (d ∷ cs) c = ap (λ o. if is_deletion_of n d then Some 0 else option_map (λ i. i + 1) o) (place-last n cs c) ∙ one_more (is_deletion_of n d) (is_deletion_of n c) (length cs) (deletion_place n cs)
+place-last n (d ∷ cs) c = ap (λ o. if is_deletion_of n d then Some 0 else option_map suc o) (place-last n cs c) ∙ one_more (is_deletion_of n d) (is_deletion_of n c) (length cs) (deletion_place n cs)
 
 -- ---- one event more
 

@@ -1,5 +1,5 @@
 -- Where the deletions of a log stand.
-use Rattle.std.specs.Prelude.{◌≡◌, ℕ, ◌+◌, Bool, ◌&&◌, List, [], ◌∷◌, Option, Some, None, is_none, option_map, if◌then◌else◌}
+use Rattle.std.specs.Prelude.{◌≡◌, ℕ, suc, Bool, ◌&&◌, List, [], ◌∷◌, Option, Some, None, is_none, option_map, if◌then◌else◌}
 use Rattle.core.specs.FinMap.Entries.{find}
 use Rattle.core.specs.Ordering.{nat_cmp}
 use Rattle.cm_base.specs.declared.number.Oid.{Oid}
@@ -9,7 +9,7 @@ use Rattle.cmis_spec.specs.Seen.{is_deletion, is_deletion_of}
 -- the place of the first deletion of the object, counted from 0
 abbrev pub deletion_place : Oid → List Change → Option ℕ
 deletion_place n [] = None
-deletion_place n (c ∷ cs) = if is_deletion_of n c then Some 0 else option_map (λ i. i + 1) (deletion_place n cs)
+deletion_place n (c ∷ cs) = if is_deletion_of n c then Some 0 else option_map suc (deletion_place n cs)
 
 -- the event behind these is the first deletion of its object
 abbrev pub is_first_deletion : List Change → Change → Bool
