@@ -1,7 +1,7 @@
 //! The argument orderBy.
 ghost use Rattle.std.specs.Prelude.{◌≡◌, [], map, IfOk, option_and_then, option_map};
 ghost use Rattle.cm_base.specs.Judged.{Meets};
-ghost use Rattle.form_args.specs.Filter.{each_onto, words};
+ghost use Rattle.form_args.specs.Filter.{commas, each_onto, words};
 ghost use Rattle.bind_readings.specs.Order.{direction_of, has_blank_at, has_blank_end, is_blank, is_descending, named, order_by, order_of, read_order, read_specification, specification_in};
 
 use cm_base::argument::Argument;
@@ -126,15 +126,22 @@ fn specifications_in(alloc: Global, texts: &[&str]) -> Result<SortSpecifications
     Ok(Items::from_vec(all))
 }
 
+fn read_items(alloc: Global, text: &str) -> Result<SortSpecifications, Fail>
+    ensures { Meets (λ all. all) result (each_onto read_specification [] (commas text.now)) }
+{
+    let items = commas(alloc, text)?;
+    let all = specifications_in(alloc, &items)?;
+    Ok(all)
+}
+
 fn read_order(alloc: Global, text: &str) -> Result<SortSpecifications, Fail>
     ensures { Meets (λ all. all) result (read_order text.now) }
 {
     if has_blank_end(text) {
-        return Err(Fail::Refused(Cause::BadArgument(Argument::named(ORDER_BY))));
+        Err(Fail::Refused(Cause::BadArgument(Argument::named(ORDER_BY))))
+    } else {
+        read_items(alloc, text)
     }
-    let items = commas(alloc, text)?;
-    let all = specifications_in(alloc, &items)?;
-    Ok(all)
 }
 
 fn order_by(alloc: Global, given: Option<&Text>) -> Result<SortSpecifications, Fail>
