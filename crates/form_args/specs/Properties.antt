@@ -23,8 +23,11 @@ abbrev pub given_by : List ℕ → Option (List ℕ) → List (List ℕ) → Giv
 given_by id (Some v) values = record { id = id; texts = v ∷ []; several = false }
 given_by id None values = record { id = id; texts = values; several = has_some values }
 
+abbrev pub given_under : List Pair → List ℕ → ℕ → List ℕ → Given
+given_under pairs name i id = given_by id (first_of pairs (indexed name i)) (texts_of pairs (indexed name i))
+
 abbrev pub given_at : List Pair → ℕ → List ℕ → Given
-given_at pairs i id = given_by id (first_of pairs (indexed (codes "propertyValue") i)) (texts_of pairs (indexed (codes "propertyValue") i))
+given_at pairs i id = given_under pairs (codes "propertyValue") i id
 
 -- one for each id, with the values at its place
 abbrev pub givens_from : List Pair → ℕ → List (List ℕ) → List Given

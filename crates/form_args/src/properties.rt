@@ -2,7 +2,7 @@
 ghost use Rattle.std.specs.Prelude.{◌≡◌, [], ◌∷◌, bytes_eq, IfOk};
 ghost use Rattle.std.specs.List.{list_any};
 ghost use Rattle.cm_base.specs.Judged.{Meets};
-ghost use Rattle.form_args.specs.Properties.{most_properties, most_values, has_some, given_at, givens_from, repeats, is_long, properties_of, names_type, typed};
+ghost use Rattle.form_args.specs.Properties.{most_properties, most_values, has_some, given_under, given_at, givens_from, repeats, is_long, properties_of, names_type, typed};
 
 use crate::lists::{indexed, texts};
 use crate::pairs::Pairs;
@@ -54,10 +54,16 @@ fn one(alloc: Global, value: &Text) -> Result<Texts, AllocError>
     Ok(Items::from_vec(texts))
 }
 
-fn given_at(alloc: Global, pairs: &Pairs, i: usize, id: &Text) -> Result<Given, AllocError>
-    ensures { IfOk result (λ g. g ≡ given_at pairs.now i id.now) }
+fn given_under(
+    alloc: Global,
+    pairs: &Pairs,
+    name: &str,
+    i: usize,
+    id: &Text,
+) -> Result<Given, AllocError>
+    ensures { IfOk result (λ g. g ≡ given_under pairs.now name.now i id.now) }
 {
-    let key = indexed(alloc, PROPERTY_VALUE, i)?;
+    let key = indexed(alloc, name, i)?;
     let id = id.copied(alloc)?;
     match pairs.first(key.as_str()) {
         Some(value) => Ok(Given {
@@ -71,6 +77,13 @@ fn given_at(alloc: Global, pairs: &Pairs, i: usize, id: &Text) -> Result<Given, 
             Ok(Given { id, texts, several })
         }
     }
+}
+
+fn given_at(alloc: Global, pairs: &Pairs, i: usize, id: &Text) -> Result<Given, AllocError>
+    ensures { IfOk result (λ g. g ≡ given_at pairs.now i id.now) }
+{
+    let given = given_under(alloc, pairs, PROPERTY_VALUE, i, id)?;
+    Ok(given)
 }
 
 fn givens(alloc: Global, pairs: &Pairs, ids: &[Text]) -> Result<Givens, AllocError>
