@@ -6,6 +6,43 @@ const ROOT = "/cmis/main/root";
 const PIECE = 15 * 1024 * 1024;
 // The field Authorization, in memory alone.
 let authorization = null;
+// How many changes were asked for: who keeps what was read knows by it that it may be old.
+let changes = 0;
+const names = new Set();
+
+/** How many changes were asked for since the page was loaded. */
+export const changesAsked = () => changes;
+
+/** The names of users and groups that the replies had, in order: the server tells no list of them. */
+export const namesSeen = () => [...names].sort();
+
+/**
+ * A text of JSON as data. An integer that a number of JavaScript does not hold exactly is a text of its digits; the server sends no numbers with
+ * a point. What stands between quotes is passed over as one part.
+ */
+export function exactly(text) {
+  const isHeld = (part) => part.startsWith('"') || Number.isSafeInteger(Number(part));
+  return JSON.parse(text.replace(/"(?:[^"\\]+|\\.)*"|-?\d{16,}/g, (part) => (isHeld(part) ? part : `"${part}"`)));
+}
+
+const OF_PEOPLE = ["cmis:createdBy", "cmis:lastModifiedBy", "cmis:versionSeriesCheckedOutBy", "principalId"];
+
+function notice(data) {
+  if (data === null || typeof data !== "object") return;
+  for (const [key, value] of Object.entries(data)) {
+    const name = OF_PEOPLE.includes(key) ? value?.value ?? value : null;
+    if (typeof name === "string") names.add(name);
+    else notice(value);
+  }
+}
+
+/** A reply as data, or null where it is empty. */
+function parsed(text) {
+  if (!text) return null;
+  const data = exactly(text);
+  notice(data);
+  return data;
+}
 
 /** A refusal in the words of the server. */
 export class Refusal extends Error {
@@ -22,6 +59,9 @@ export class Refusal extends Error {
 export function callAs(name, secret) {
   const bytes = new TextEncoder().encode(`${name}:${secret}`);
   authorization = name ? "Basic " + btoa(String.fromCharCode(...bytes)) : null;
+  names.clear();
+  names.add("anyone");
+  if (name) names.add(name);
 }
 
 const fields = () => ({ "X-Requested-With": "workbench", ...(authorization && { Authorization: authorization }) });
@@ -39,13 +79,13 @@ function target(address, selector, args) {
 }
 
 /** Reads from the repository: types, queries, changes, working copies. */
-export const readRepository = async (selector, args = {}) => (await fetched(target(REPOSITORY, selector, args))).json();
+export const readRepository = async (selector, args = {}) => parsed(await (await fetched(target(REPOSITORY, selector, args))).text());
 
 /** Reads an object by its id. Names are no part of the address, so that a folder named ".." can be shown too. */
-export const read = async (objectId, selector, args = {}) => (await fetched(target(ROOT, selector, { objectId, ...args }))).json();
+export const read = async (objectId, selector, args = {}) => parsed(await (await fetched(target(ROOT, selector, { objectId, ...args }))).text());
 
-/** The bytes of a document. */
-export const content = async (objectId) => (await fetched(target(ROOT, "content", { objectId }))).blob();
+/** The bytes of a document, or of its rendition with this stream id. */
+export const content = async (objectId, streamId) => (await fetched(target(ROOT, "content", { objectId, streamId }))).blob();
 
 /** Properties as a form has them; null and a list without members unset. */
 export function propertyArguments(values) {
@@ -58,24 +98,34 @@ export function propertyArguments(values) {
   return args;
 }
 
-function form(action, args, file, fileName) {
-  const made = new FormData();
-  made.append("cmisaction", action);
-  made.append("succinct", "true");
-  for (const [name, value] of Object.entries(args)) if (value !== undefined && value !== null) made.append(name, value);
-  if (file) made.append("content", file, fileName);
-  return made;
+/** A list as arguments that count from 0: `objectId[0]` and so on. */
+export const listArguments = (name, values) => Object.fromEntries(values.map((value, at) => [`${name}[${at}]`, value]));
+
+const given = (action, args) =>
+  Object.entries({ cmisaction: action, succinct: true, ...args }).filter(([, value]) => value !== undefined && value !== null);
+
+// Without bytes a form is encoded in the address's way: in parts, browsers would make two signs of each end of a line.
+async function asked(address, action, args) {
+  changes += 1;
+  return parsed(await (await fetched(address, { method: "POST", body: new URLSearchParams(given(action, args)) })).text());
 }
 
-const parsed = (text) => (text ? JSON.parse(text) : null);
-
 /** Changes an object; the answer, or null where there is none. */
-export async function write(objectId, action, args = {}) {
-  return parsed(await (await fetched(ROOT, { method: "POST", body: form(action, { objectId, ...args }) })).text());
+export const write = (objectId, action, args = {}) => asked(ROOT, action, { objectId, ...args });
+
+/** Changes types, or several objects. */
+export const writeRepository = (action, args = {}) => asked(REPOSITORY, action, args);
+
+function form(action, args, file, fileName) {
+  const made = new FormData();
+  for (const [name, value] of given(action, args)) made.append(name, value);
+  made.append("content", file, fileName);
+  return made;
 }
 
 /** A change with bytes: by XMLHttpRequest, which alone tells how much is sent. */
 function sent(body, progress) {
+  changes += 1;
   return new Promise((resolve, reject) => {
     const request = new XMLHttpRequest();
     request.open("POST", ROOT);
@@ -112,3 +162,6 @@ export async function setContent(objectId, changeToken, file, progress) {
   await sent(form("setContent", { objectId, changeToken }, file.slice(0, PIECE, file.type), file.name), progress);
   await append(objectId, file, progress);
 }
+
+/** Gives a document a rendition: another form of it, such as a picture of its first page. */
+export const addRendition = (objectId, kind, title, file, progress) => sent(form("addRendition", { objectId, kind, title }, file, file.name), progress);

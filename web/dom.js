@@ -21,6 +21,9 @@ const place = (id) => document.getElementById(id);
 /** Tells what was done. */
 export const say = (...parts) => place("status").replaceChildren(h("div", {}, ...parts));
 
+/** Shows what goes on longer than one page stands, such as an upload. */
+export const work = (element) => place("work").append(element);
+
 /** An error in the server's own words, with the exception's name before them. */
 export const words = (error) => (error.exception ? `${error.exception}: ${error.message}` : error.message);
 

@@ -1,13 +1,15 @@
-// The page: signing in, and which part is shown at which address (the hash: #/folder/ID, #/object/ID, #/query, #/changes, #/checkedout).
+// The page: signing in, and which part is shown at which address (the hash: #/folder/ID, #/object/ID, #/types/ID, #/query, #/changes, #/checkedout).
 
 import { callAs, read } from "./calls.js";
 import { checkedOutPage, folderPage } from "./browse.js";
-import { complain, go, h, quiet } from "./dom.js";
+import { typesPage } from "./definitions.js";
+import { complain, go, quiet } from "./dom.js";
 import { objectPage } from "./object.js";
 import { changesPage, queryForName, queryPage } from "./search.js";
+import { forgetFolders } from "./tree.js";
 import { forget } from "./types.js";
 
-const pages = { folder: folderPage, object: objectPage, query: queryPage, changes: changesPage, checkedout: checkedOutPage };
+const pages = { folder: folderPage, object: objectPage, types: typesPage, query: queryPage, changes: changesPage, checkedout: checkedOutPage };
 const main = document.getElementById("main");
 const signIn = document.getElementById("sign-in");
 const inside = ["pages", "find", "caller"].map((id) => document.getElementById(id));
@@ -18,7 +20,7 @@ async function show() {
   if (!signIn.hidden) return;
   const now = ++turn;
   const [path, asked = ""] = location.hash.slice(2).split("?");
-  const [name, id = "1"] = path.split("/");
+  const [name, id] = path.split("/").map(decodeURIComponent);
   const page = Object.hasOwn(pages, name) ? pages[name] : folderPage;
   document.querySelectorAll("#pages a").forEach((it) => it.toggleAttribute("aria-current", it.hash.split("/")[1] === name));
   main.setAttribute("aria-busy", "true");
@@ -43,6 +45,7 @@ async function enter(name, secret) {
   callAs(name, secret);
   await read("1", "object", { filter: "cmis:name" });
   forget();
+  forgetFolders();
   document.querySelector("#caller span").textContent = name || "without a name";
   document.querySelector("#caller button").textContent = name ? "Sign out" : "Sign in";
   opened(true);
@@ -59,8 +62,10 @@ function leave() {
   turn += 1;
   callAs("", "");
   forget();
+  forgetFolders();
   document.title = "Documents";
   main.replaceChildren(signIn);
+  document.getElementById("work").replaceChildren();
   opened(false);
   signIn.elements.name.focus();
 }

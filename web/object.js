@@ -1,33 +1,39 @@
 // The page of an object: what may be done to it, its properties, its versions, and who may do what.
 
-import { content, propertyArguments, read, setContent, write } from "./calls.js";
+import { foldersPart, policiesPart, relationshipsPart, renditionsPart } from "./attached.js";
+import { content, namesSeen, propertyArguments, read, setContent, write } from "./calls.js";
 import { ask, button, go, h, save, say, table } from "./dom.js";
-import { crumbs, hashOf, link, pathTo } from "./browse.js";
+import { crumbs, folderName, hashOf, pathTo } from "./browse.js";
+import { picker } from "./tree.js";
 import { definitionsOf, field, givenBy, label, moment, shown, size, typeOf, typesBelow } from "./types.js";
 
 const LEVELS = [["cmis:read", "read"], ["cmis:write", "write"], ["cmis:all", "all"]];
 // What people ask for first; all else is shown on demand.
-const FIRST = ["name", "description", "objectTypeId", "versionLabel", "checkinComment", "contentStreamFileName", "contentStreamMimeType",
+const FIRST = ["name", "description", "policyText", "sourceId", "targetId", "objectTypeId", "versionLabel", "checkinComment", "contentStreamFileName", "contentStreamMimeType",
   "contentStreamLength", "createdBy", "creationDate", "lastModifiedBy", "lastModificationDate"].map((name) => `cmis:${name}`);
 const levelName = (permission) => LEVELS.find(([id]) => id === permission)?.[1] ?? permission;
 
 /** The page of an object. */
 export async function objectPage(id) {
-  const object = await read(id, "object", { includeAllowableActions: true, includeACL: true });
+  const object = await read(id, "object", {
+    includeAllowableActions: true, includeACL: true, includeRelationships: "both", includePolicyIds: true, renditionFilter: "*" });
   const { succinctProperties: it, allowableActions: may, acl } = object;
   const isDocument = it["cmis:baseTypeId"] === "cmis:document";
   const isCopy = it["cmis:isPrivateWorkingCopy"];
-  const [definitions, versions, type] = await Promise.all([definitionsOf(it), isDocument ? read(id, "versions") : [], typeOf(it["cmis:objectTypeId"])]);
+  const [definitions, versions, type, policies, relationships] = await Promise.all([
+    definitionsOf(it), isDocument ? read(id, "versions") : [], typeOf(it["cmis:objectTypeId"]),
+    object.policyIds?.ids?.length ? read(id, "policies") : [], relationshipsPart(it, may, object.relationships ?? [])]);
   // A working copy stands in no folder; its path is that of the version beside it.
   const filed = isCopy ? versions[1]?.succinctProperties["cmis:objectId"] : id;
-  const folders = may.canGetObjectParents && filed ? await read(filed, "parents", { filter: "cmis:name,cmis:parentId,cmis:baseTypeId" }) : [];
+  // With their access lists: who may read the folder is offered where a name is asked for.
+  const folders = may.canGetObjectParents && filed ? await read(filed, "parents", { filter: "cmis:name,cmis:parentId,cmis:baseTypeId", includeACL: true }) : [];
   const parents = folders.map((one) => one.object.succinctProperties);
   const way = parents.length ? await pathTo(parents[0]["cmis:objectId"]) : [];
   const parts = [
     crumbs(way, it["cmis:name"]), h("h1", {}, it["cmis:name"]), standing(it), tools(it, may, definitions, parents),
     await picture(it), propertiesPart(it, definitions, label(type)),
-    parents.length > 1 && h("section", {}, h("h2", {}, "Folders"), h("ul", {}, parents.map((one) => h("li", {}, link(one))))),
-    versions.length > 0 && versionsPart(id, versions), accessPart(it, acl, may)];
+    versions.length > 0 && versionsPart(id, versions), accessPart(it, acl, may), foldersPart(it, may, parents), relationships,
+    policiesPart(it, may, policies), renditionsPart(it, may, object.renditions ?? [])];
   return { title: it["cmis:name"], parts };
 }
 
@@ -101,9 +107,10 @@ function accessPart(it, acl, may) {
 }
 
 async function addEntry(id) {
-  const who = h("input", { name: "principal", required: true });
+  const who = h("input", { name: "principal", required: true, list: "names", autocomplete: "off" });
+  const names = h("datalist", { id: "names" }, namesSeen().map((name) => h("option", { value: name })));
   const level = h("select", { name: "permission" }, LEVELS.map(([value, text]) => h("option", { value }, text)));
-  const body = [h("label", {}, "User or group (“anyone” for everybody)", who), h("label", {}, "May", level)];
+  const body = [h("label", {}, "User or group (“anyone” for everybody)", who), names, h("label", {}, "May", level)];
   const act = () => write(id, "applyACL", { "addACEPrincipal[0]": who.value, "addACEPermission[0][0]": level.value });
   if (await ask("Give access", body, "Give access", act)) go();
 }
@@ -169,25 +176,12 @@ async function cancelCheckOut(it) {
   }
 }
 
-/** Asks for a folder: the list of the folders in one, each a button that goes into it. */
 async function move(it, parents) {
-  const here = h("p", { "aria-live": "polite" });
-  const inside = h("ul", { class: "picker" });
-  let chosen = "1";
-  const enter = async (id) => {
-    const [way, below] = await Promise.all([pathTo(id), read(id, "folderTree", { depth: 1, filter: "cmis:name" })]);
-    const folders = below.map((one) => one.object.object.succinctProperties).filter((one) => one["cmis:objectId"] !== it["cmis:objectId"]);
-    const into = (text, folder) => h("li", {}, button(text, () => enter(folder), { class: "folder" }));
-    chosen = id;
-    here.replaceChildren("To: ", h("strong", {}, ["Documents", ...way.slice(1).map((one) => one["cmis:name"])].join(" / ")));
-    const up = way.length > 1 ? [into("(up)", way.at(-2)["cmis:objectId"])] : [];
-    inside.replaceChildren(...up, ...folders.map((one) => into(one["cmis:name"], one["cmis:objectId"])));
-  };
-  const source = h("select", {}, parents.map((one) => h("option", { value: one["cmis:objectId"] }, one["cmis:name"] || "Documents")));
-  await enter(parents[0]["cmis:objectId"]);
-  const act = () => write(it["cmis:objectId"], "move", { sourceFolderId: source.value, targetFolderId: chosen });
+  const source = h("select", {}, parents.map((one) => h("option", { value: one["cmis:objectId"] }, folderName(one))));
+  const { parts, chosen } = await picker("To", await pathTo(parents[0]["cmis:objectId"]));
+  const act = () => write(it["cmis:objectId"], "move", { sourceFolderId: source.value, targetFolderId: chosen() });
   const from = parents.length > 1 && h("label", {}, "Out of", source);
-  if (await ask(`Move ${it["cmis:name"]}`, [from, here, inside], "Move here", act)) go();
+  if (await ask(`Move ${it["cmis:name"]}`, [from, parts], "Move here", act)) go();
 }
 
 async function remove(it, may, parents) {

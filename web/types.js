@@ -1,19 +1,20 @@
 // Types: their definitions, how values are shown, and the right input for each kind of property.
 
 import { readRepository } from "./calls.js";
-import { h } from "./dom.js";
+import { complain, h } from "./dom.js";
 
 const known = new Map();
 
 /** What was learned about types is forgotten. */
 export const forget = () => known.clear();
 
-/** A type with the property definitions of all types above it, which stand first. */
+/** A type with the property definitions of all types above it too; `from` of each is the type that has it of its own. */
 export async function typeOf(typeId) {
   if (!known.has(typeId)) {
     const own = await readRepository("typeDefinition", { typeId });
     const above = own.parentId ? (await typeOf(own.parentId)).propertyDefinitions : {};
-    known.set(typeId, { ...own, propertyDefinitions: { ...above, ...own.propertyDefinitions } });
+    const from = Object.fromEntries(Object.entries(own.propertyDefinitions).map(([id, one]) => [id, { ...one, from: typeId }]));
+    known.set(typeId, { ...own, propertyDefinitions: { ...above, ...from, ...above } });
   }
   return known.get(typeId);
 }
@@ -30,9 +31,17 @@ export async function typesBelow(typeId) {
   return [await typeOf(typeId), ...flat(await readRepository("typeDescendants", { typeId }))];
 }
 
+// What people call the properties that they meet most.
+const CALLED = {
+  "cmis:objectTypeId": "Type", "cmis:secondaryObjectTypeIds": "Secondary types", "cmis:checkinComment": "Comment", "cmis:contentStreamMimeType": "Media type",
+  "cmis:contentStreamLength": "Size", "cmis:creationDate": "Created", "cmis:lastModificationDate": "Changed", "cmis:lastModifiedBy": "Changed by",
+  "cmis:rm_holdIds": "Held for", "cmis:rm_expirationDate": "Kept until", "cmis:rm_startOfRetention": "Kept from",
+  "cmis:rm_hold": "Hold", "cmis:rm_clientMgtRetention": "Retention" };
+
 /** The display name; where that is the id alone, the id in words: of cmis:lastModifiedBy "Last modified by". */
 export function label({ id, displayName }) {
   if (displayName && displayName !== id) return displayName;
+  if (Object.hasOwn(CALLED, id)) return CALLED[id];
   const apart = id.replace(/^\w+:(contentStream)?/, "").replace(/([a-z])([A-Z])/g, "$1 $2").replaceAll("_", " ").toLowerCase();
   return apart.charAt(0).toUpperCase() + apart.slice(1);
 }
@@ -68,7 +77,7 @@ const toLocal = (milliseconds) => {
 };
 const fromLocal = (text) => String(new Date(text).getTime());
 
-const option = (value, text, chosen) => h("option", { value, selected: chosen }, text);
+export const option = (value, text, chosen) => h("option", { value, selected: chosen }, text);
 
 function select(options, value, required) {
   const first = required ? [] : [option("", "(not set)", value === null)];
@@ -80,10 +89,17 @@ function singleInput(definition, value, required) {
   const choices = (choice ?? []).map((one) => [String(one.value), one.displayName]);
   if (kind === "boolean") return select([["true", "yes"], ["false", "no"]], value, required);
   if (choices.length && !openChoice) return select(choices, value, required);
-  if (kind === "integer") return h("input", { type: "number", step: 1, min: minValue, max: maxValue, value });
+  if (kind === "integer") return integerInput(value, minValue, maxValue);
   if (kind === "datetime") return h("input", { type: "datetime-local", step: 0.001, value: value === null ? null : toLocal(value) });
   if (kind === "html" || definition.id === "cmis:description") return h("textarea", { maxlength: maxLength }, value ?? "");
   return h("input", { type: kind === "uri" ? "url" : "text", maxlength: maxLength, value });
+}
+
+/** An input for an integer, as text: an input for numbers would round the great ones. */
+export function integerInput(value, least, greatest) {
+  const bounds = [least !== null && least !== undefined && `at least ${least}`, greatest !== null && greatest !== undefined && `at most ${greatest}`];
+  const said = ["digits, with a minus before them perhaps", ...bounds.filter(Boolean)].join(", ");
+  return h("input", { inputmode: "numeric", pattern: "-?(0|[1-9][0-9]*)", title: said, "aria-description": said, value });
 }
 
 function manyInput({ choice, openChoice }, values) {
@@ -120,3 +136,28 @@ export function field(definition, value) {
 
 /** What a form's fields give, by ids. */
 export const givenBy = (fields) => Object.fromEntries(fields.map(({ id, given }) => [id, given()]).filter(([, value]) => value !== undefined));
+
+/** A choice of several: its element, and what is chosen. */
+export function multiple(text, options, values = []) {
+  const select = h("select", { multiple: true, size: Math.min(5, Math.max(2, options.length)) }, options.map(([value, name]) => option(value, name, values.includes(value))));
+  return { element: options.length > 0 && h("label", {}, text, select), chosen: () => [...select.selectedOptions].map((one) => one.value) };
+}
+
+const ASKED_APART = ["cmis:name", "cmis:objectTypeId", "cmis:secondaryObjectTypeIds", "cmis:allowedChildObjectTypeIds", "cmis:sourceId", "cmis:targetId"];
+
+/** The part of a form that asks for a type below a base type, and for what an object of it may be given at its creation, but for its name. */
+export async function typeFields(baseId) {
+  const types = (await typesBelow(baseId)).filter((type) => type.creatable);
+  const rest = h("div");
+  let fields = [];
+  const choose = async () => {
+    const { propertyDefinitions } = await typeOf(chosen.value);
+    const left = Object.values(propertyDefinitions).filter((one) => ["readwrite", "oncreate"].includes(one.updatability) && !ASKED_APART.includes(one.id));
+    fields = left.map((one) => field(one));
+    rest.replaceChildren(...fields.map(({ element }) => element));
+  };
+  const chosen = h("select", { name: "type", onchange: () => choose().catch(complain) }, types.map((type) => option(type.id, label(type))));
+  if (types.length) await choose();
+  const given = () => ({ "cmis:objectTypeId": chosen.value, ...givenBy(fields) });
+  return { parts: [types.length > 1 && h("label", {}, "Type", chosen), rest], isPlain: types.length === 1, given };
+}
