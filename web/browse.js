@@ -75,7 +75,7 @@ function folderTools(id, may) {
 // Beside the list where there is room, else above it and closed.
 async function folderSide(way) {
   const element = await folderTree(way, (node) => go(`#/folder/${node.id}`));
-  return h("details", { class: "side", open: matchMedia("(min-width: 64rem)").matches }, h("summary", {}, "Folders"), h("nav", { "aria-label": "Folders" }, element));
+  return h("details", { class: "side", open: matchMedia("(min-width: 72rem)").matches }, h("summary", {}, "Folders"), h("nav", { "aria-label": "Folders" }, element));
 }
 
 /** The page of a folder. By name, folders come before documents. */

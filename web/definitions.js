@@ -40,7 +40,7 @@ export async function typesPage(id) {
   const { element, reveal, openTop } = tree("Types", ALL, async (at) => (await typesRightBelow(at)).map(node), ({ id: at }) => go(at ? hashOf(at) : "#/types"));
   await openTop();
   await reveal(["", ...chain.map((type) => type.id)]);
-  const side = h("details", { class: "side", open: !id || matchMedia("(min-width: 64rem)").matches }, h("summary", {}, "Types"), h("nav", { "aria-label": "Types" }, element));
+  const side = h("details", { class: "side", open: !id || matchMedia("(min-width: 72rem)").matches }, h("summary", {}, "Types"), h("nav", { "aria-label": "Types" }, element));
   const type = chain.at(-1);
   const name = type ? label(type) : "Types";
   const hint = h("p", { class: "empty" }, "A type says which properties its objects have. Choose one to see it, or to make a type below it.");
