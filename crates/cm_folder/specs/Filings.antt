@@ -4,7 +4,7 @@ use Rattle.std.specs.List.{list_any}
 use Rattle.cm_base.specs.declared.number.Oid.{Oid}
 use Rattle.cm_base.specs.declared.filing.Filed.{Filed}
 use Rattle.cm_base.specs.declared.cause.Cause.TheVariants as causes
-use Rattle.cm_base.specs.Judged.{Judged, refuse}
+use Rattle.cm_base.specs.Judged.{Judged, ◌>>◌, refuse}
 use Rattle.cmis_spec.specs.Repository.{same, most_levels, levels_up, parent_in, upwards, path_over}
 use Rattle.cm_folder.specs.declared.entry.FilingEntry.{FilingEntry}
 use Rattle.cm_folder.specs.declared.edit.Edit.{Edit}
