@@ -1,5 +1,5 @@
 -- What was acknowledged stays over further calls; and a gate that is opened too early.
-use Rattle.std.proofs.Common.{◌≡◌, inl, inr, ℕ, zero, suc, false, ◌<◌, List, [], ◌∷◌, ◌++◌, refl, ap, subst, ◌∙◌, arith, append_assoc}
+use Rattle.std.proofs.Common.{◌≡◌, inl, inr, ℕ, zero, suc, false, ◌<◌, List, [], ◌∷◌, ◌++◌, refl, subst, arith, append_assoc}
 use Rattle.std.specs.Prelude.{slice_index}
 use Rattle.disk.specs.Disks.{FileTold, DiskTold}
 use Rattle.disk.specs.Crashes.{MayLeave, LeavesSince, is_within}
