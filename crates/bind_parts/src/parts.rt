@@ -25,7 +25,7 @@ fn names_in(alloc: Global, target: &Target) -> Result<Texts, AllocError>
 
 /// The text of an argument, where it is given.
 pub fn text_of(alloc: Global, pairs: &Pairs, name: &str) -> Result<Option<Text>, AllocError>
-    ensures { IfOk result (λ t. t ≡ first_of pairs.now name) }
+    ensures { IfOk result (λ t. t ≡ first_of pairs.now name.now) }
 {
     match pairs.first(name) {
         None => Ok(None),
