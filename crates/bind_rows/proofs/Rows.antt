@@ -194,8 +194,8 @@ row_principal : call_of_request (posted (codes "/cmis/main/root") (codes "cmisac
 unfolding split is_utf8 chars percent_decode encode raw_pairs utf8_lossy utf8_valid_len values_named most_properties most_values digits
 row_principal = refl
 
--- blanks stand between a name and its direction alone
-row_order : call_of_request (got (codes "/cmis/main/root?cmisselector=children&includePathSegment=x&orderBy=cmis:name,%20a") []) ≡ Err (causes.BadArgument (codes "orderBy"))
+-- an item without a name, and the order of the arguments
+row_order : call_of_request (got (codes "/cmis/main/root?cmisselector=children&includePathSegment=x&orderBy=cmis:name,") []) ≡ Err (causes.BadArgument (codes "orderBy"))
 unfolding split is_utf8 chars percent_decode encode raw_pairs utf8_lossy utf8_valid_len values_named keyword_of
 row_order = refl
 
