@@ -1,4 +1,4 @@
-use Rattle.std.proofs.Common.{◌≡◌, ◌×◌, [], take}
+use Rattle.std.proofs.Common.{◌≡◌, [], take}
 use Rattle.std.specs.Prelude.{fold}
 use Rattle.wr_bulk.specs.BulkUpdate.{with_object}
 use Rattle.wr_bulk.specs.Parts.{AsksOfOne}
