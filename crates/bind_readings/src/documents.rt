@@ -5,7 +5,8 @@ ghost use Rattle.bind_readings.specs.Documents.{content_of};
 
 use bind_parts::asking::Asking;
 use bind_parts::parts::{place_of, text_of};
-use call_parts::readings::{ReadContent, STREAM_ID};
+use call_parts::readings::ReadContent;
+use cm_base::argument::Argument;
 use cm_base::fail::Fail;
 use std::alloc::Global;
 
@@ -14,6 +15,6 @@ pub fn content_of(alloc: Global, asking: &Asking) -> Result<ReadContent, Fail>
     ensures { Meets (λ c. c) result (content_of asking.now) }
 {
     let place = place_of(alloc, asking)?;
-    let stream = text_of(alloc, &asking.form.pairs, STREAM_ID)?;
+    let stream = text_of(alloc, &asking.form.pairs, Argument::StreamId)?;
     Ok(ReadContent { place, stream })
 }

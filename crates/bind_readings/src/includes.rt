@@ -12,16 +12,6 @@ use form_args::pairs::Pairs;
 use include_parts::readings::{IncludeRelationships, Includes, ReturnVersion};
 use std::alloc::Global;
 
-const INCLUDE_ACL: &str = "includeACL";
-
-const INCLUDE_ALLOWABLE_ACTIONS: &str = "includeAllowableActions";
-
-const INCLUDE_POLICY_IDS: &str = "includePolicyIds";
-
-const INCLUDE_RELATIONSHIPS: &str = "includeRelationships";
-
-const RETURN_VERSION: &str = "returnVersion";
-
 fn relationships_named(word: &str) -> Option<IncludeRelationships>
     ensures { result ≡ relationships_named word.now }
 {
@@ -41,11 +31,11 @@ fn relationships_named(word: &str) -> Option<IncludeRelationships>
 fn relationships_of(pairs: &Pairs) -> Result<IncludeRelationships, Cause>
     ensures { result ≡ relationships_of pairs.now }
 {
-    match pairs.first(INCLUDE_RELATIONSHIPS) {
+    match pairs.first(Argument::IncludeRelationships.word()) {
         None => Ok(IncludeRelationships::Nothing),
         Some(word) => match relationships_named(word.as_str()) {
             Some(relationships) => Ok(relationships),
-            None => Err(Cause::BadArgument(Argument::named(INCLUDE_RELATIONSHIPS))),
+            None => Err(Cause::BadArgument(Argument::IncludeRelationships)),
         },
     }
 }
@@ -68,11 +58,11 @@ fn version_named(word: &str) -> Option<ReturnVersion>
 pub fn version_of(pairs: &Pairs) -> Result<ReturnVersion, Cause>
     ensures { result ≡ version_of pairs.now }
 {
-    match pairs.first(RETURN_VERSION) {
+    match pairs.first(Argument::ReturnVersion.word()) {
         None => Ok(ReturnVersion::This),
         Some(word) => match version_named(word.as_str()) {
             Some(version) => Ok(version),
-            None => Err(Cause::BadArgument(Argument::named(RETURN_VERSION))),
+            None => Err(Cause::BadArgument(Argument::ReturnVersion)),
         },
     }
 }
@@ -82,10 +72,10 @@ pub fn version_of(pairs: &Pairs) -> Result<ReturnVersion, Cause>
 pub fn includes_of(alloc: Global, pairs: &Pairs) -> Result<Includes, Fail>
     ensures { Meets (λ i. i) result (includes_of pairs.now) }
 {
-    let actions = flag(pairs, INCLUDE_ALLOWABLE_ACTIONS, false)?;
+    let actions = flag(pairs, Argument::IncludeAllowableActions, false)?;
     let relationships = relationships_of(pairs)?;
-    let policy_ids = flag(pairs, INCLUDE_POLICY_IDS, false)?;
-    let acl = flag(pairs, INCLUDE_ACL, false)?;
+    let policy_ids = flag(pairs, Argument::IncludePolicyIds, false)?;
+    let acl = flag(pairs, Argument::IncludeAcl, false)?;
     let renditions = included_filter(alloc, pairs)?;
     Ok(Includes {
         actions,

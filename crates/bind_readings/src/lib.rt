@@ -20,4 +20,3 @@ pub mod relationships;
 pub mod renditions;
 pub mod trees;
 pub mod types;
-mod words;

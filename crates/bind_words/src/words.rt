@@ -15,10 +15,6 @@ use form_args::pairs::Pairs;
 use request_target::target::Target;
 use std::alloc::Global;
 
-const CMIS_ACTION: &str = "cmisaction";
-
-const CMIS_SELECTOR: &str = "cmisselector";
-
 /// The services that are served.
 #[derive(Clone, Copy, Debug, PartialEq, Eq)]
 pub enum Service {
@@ -316,16 +312,16 @@ fn unnamed(method: Method, target: &Target) -> Result<Service, Cause>
             Target::Object(_) => Ok(Service::Default),
             _ => Ok(Service::Info),
         },
-        Method::Post => Err(Cause::MissingArgument(Argument::named(CMIS_ACTION))),
+        Method::Post => Err(Cause::MissingArgument(Argument::CmisAction)),
     }
 }
 
-fn argument_of(method: Method) -> &'static str
-    ensures { result.now ≡ argument_of method }
+fn argument_of(method: Method) -> Argument
+    ensures { result ≡ argument_of method }
 {
     match method {
-        Method::Get => CMIS_SELECTOR,
-        Method::Post => CMIS_ACTION,
+        Method::Get => Argument::CmisSelector,
+        Method::Post => Argument::CmisAction,
     }
 }
 
@@ -351,7 +347,7 @@ pub fn service_of(
 ) -> Result<Service, Fail>
     ensures { Meets (λ s. s) result (service_of method target.now pairs.now) }
 {
-    match pairs.first(argument_of(method)) {
+    match pairs.first(argument_of(method).word()) {
         None => match unnamed(method, target) {
             Ok(service) => Ok(service),
             Err(cause) => Err(Fail::Refused(cause)),

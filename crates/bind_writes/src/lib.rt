@@ -19,4 +19,3 @@ pub mod source;
 pub mod type_change;
 pub mod update;
 pub mod versioning;
-mod words;

@@ -1,62 +1,43 @@
-//! Bytes in shared pieces: a copy shares them, and nothing depends on how they are cut, nor on where they are.
+//! Bytes in shared pieces: a copy shares them, and nothing depends on how they are cut.
 ghost use Rattle.std.specs.Prelude.{◌≡◌, ◌+◌, ◌*◌, ◌^◌, ◌<◌, ◌≤◌, ◌++◌, [], ◌∷◌, length, slice_range, IfOk, OnOk};
-ghost use Rattle.std.specs.Arc.{arc_value};
 ghost use Rattle.cm_base.specs.Whole.{whole};
-ghost use Rattle.cm_base.specs.Parted.{parted};
 
 use crate::copies::Copies;
-use crate::piece::Piece;
 use bytes::Bytes;
 use std::alloc::{AllocError, Global};
 use std::marker::Model;
-use std::slice;
-use std::sync::Arc;
-
-// One piece, or some of them.
-#[derive(Drop)]
-enum Parts {
-    One(Piece),
-    Several(Vec<Piece>),
-}
 
 /// A stream's bytes, in pieces.
+#[derive(Drop)]
 pub struct Pieces {
-    parts: Parts,
+    list: Vec<Bytes>,
     len: u64,
 }
 
 impl Model for Pieces {
     ghost use Rattle.std.specs.Prelude.{ℕ, List, ◌≡◌, length};
+    ghost use Rattle.cm_base.specs.Whole.{whole};
 
     ghost Value = { List ℕ };
 
-    ghost use Rattle.cm_base.specs.Parted.{parted};
+    ghost view = { λ p. whole p.list.items };
 
-    ghost view = { λ p. parted p.parts };
-
-    ghost invariant = { λ p. p.len ≡ length (parted p.parts) };
-}
-
-impl Drop for Pieces {
-    fn drop(self) {
-        let Pieces { parts, len: _ } = self;
-        let _ = parts;
-    }
+    ghost invariant = { λ p. p.len ≡ length (whole p.list.items) };
 }
 
 // Adds a piece to a list of them.
-fn add(list: &mut Vec<Piece>, alloc: Global, piece: &Piece) -> Result<(), AllocError>
+fn add(list: &mut Vec<Bytes>, piece: &Bytes) -> Result<(), AllocError>
     ensures { OnOk result (whole list.new.items ≡ whole list.old.items ++ piece.now) }
 {
-    list.push(piece.copied(alloc)?)?;
+    list.push(piece.clone()?)?;
     Ok(())
 }
 
-fn add_all(list: &mut Vec<Piece>, alloc: Global, pieces: &[Piece]) -> Result<(), AllocError>
+fn add_all(list: &mut Vec<Bytes>, pieces: &[Bytes]) -> Result<(), AllocError>
     ensures { OnOk result (whole list.new.items ≡ whole list.old.items ++ whole pieces.now) }
 {
     for piece in pieces {
-        add(list, alloc, piece)?;
+        add(list, piece)?;
     }
     Ok(())
 }
@@ -67,30 +48,22 @@ impl Pieces {
         ensures { result ≡ [] }
     {
         Pieces {
-            parts: Parts::Several(Vec::new(alloc)),
+            list: Vec::new(alloc),
             len: 0,
         }
     }
 
-    /// One piece, which takes no memory.
-    pub fn one(piece: Piece) -> Pieces
-        ensures { result ≡ piece }
+    /// One piece, which stays shared with whoever else holds it.
+    pub fn of(alloc: Global, piece: Bytes) -> Result<Pieces, AllocError>
+        ensures { IfOk result (λ p. p ≡ piece) }
     {
-        let len = piece.len();
-        Pieces {
-            parts: Parts::One(piece),
-            len,
-        }
+        let len = piece.len() as u64;
+        let mut list = Vec::new(alloc);
+        list.push(piece)?;
+        Ok(Pieces { list, len })
     }
 
-    /// These bytes, which stay shared with whoever else holds them. It takes no memory.
-    pub fn of(bytes: Arc<Vec<u8>>) -> Pieces
-        ensures { result ≡ (arc_value bytes).items }
-    {
-        Pieces::one(Piece::held(bytes))
-    }
-
-    /// A part of a body, copied.
+    /// A part of a body: shared where it is at least half of it, and else copied, so that a stream keeps at most twice its bytes.
     pub fn of_part(
         alloc: Global,
         body: &Bytes,
@@ -101,9 +74,12 @@ impl Pieces {
         requires within { to ≤ length body.now }
         ensures { IfOk result (λ p. p ≡ slice_range body.now from to) }
     {
-        let part = Vec::from_slice(alloc, &body.as_slice()[from..to])?;
-        let part = Arc::new(alloc, part)?;
-        Ok(Pieces::of(part))
+        if body.len() - (to - from) <= to - from {
+            let shared = body.slice(from..to)?;
+            return Pieces::of(alloc, shared);
+        }
+        let copied = Bytes::copy_from_slice(alloc, &body.as_slice()[from..to])?;
+        Pieces::of(alloc, copied)
     }
 
     /// The number of bytes.
@@ -118,54 +94,27 @@ impl Pieces {
         requires { length self.now + length more.now < 2 ^ 64 }
         ensures { IfOk result (λ p. p ≡ self.now ++ more.now) }
     {
-        let len = self.len() + more.len();
+        let len = self.len + more.len;
         let mut list = Vec::new(alloc);
-        add_all(&mut list, alloc, self.list())?;
-        add_all(&mut list, alloc, more.list())?;
-        Ok(Pieces {
-            parts: Parts::Several(list),
-            len,
-        })
+        add_all(&mut list, &self.list)?;
+        add_all(&mut list, &more.list)?;
+        Ok(Pieces { list, len })
     }
 
     /// The pieces, to be written one after another.
-    pub fn list(&self) -> &[Piece]
+    pub fn list(&self) -> &[Bytes]
         ensures { whole result.now ≡ self.now }
     {
-        listed(&self.parts)
-    }
-}
-
-fn listed(parts: &Parts) -> &[Piece]
-    ensures { whole result.now ≡ parted parts.now }
-{
-    match parts {
-        Parts::One(piece) => slice::from_ref(piece),
-        Parts::Several(list) => list,
-    }
-}
-
-fn copied(parts: &Parts, alloc: Global) -> Result<Parts, AllocError>
-    ensures { IfOk result (λ p. parted p ≡ parted parts.now) }
-{
-    match parts {
-        Parts::One(piece) => {
-            let piece = piece.copied(alloc)?;
-            Ok(Parts::One(piece))
-        }
-        Parts::Several(pieces) => {
-            let mut list = Vec::new(alloc);
-            add_all(&mut list, alloc, pieces)?;
-            Ok(Parts::Several(list))
-        }
+        &self.list
     }
 }
 
 impl Copies for Pieces {
     fn copied(&self, alloc: Global) -> Result<Pieces, AllocError> {
-        let parts = copied(&self.parts, alloc)?;
+        let mut list = Vec::new(alloc);
+        add_all(&mut list, &self.list)?;
         Ok(Pieces {
-            parts,
+            list,
             len: self.len,
         })
     }

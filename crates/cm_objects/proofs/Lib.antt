@@ -1,4 +1,3 @@
-mod Pairing
 mod Indexing
 mod Ends
 mod Rising

@@ -8,7 +8,7 @@ use cm_base::decimal::read_i64;
 use cm_base::items::Items;
 use cm_base::text::Text;
 use cm_base::value::{Scalar, Scalars, Value};
-use cm_types::property::{Cardinality, PropertyKind};
+use cm_types::property::PropertyKind;
 use std::alloc::{AllocError, Global};
 
 fn flag_of_text(text: &Text) -> Option<bool>
@@ -76,26 +76,27 @@ fn scalars_of_texts(
     Ok(all)
 }
 
-/// The value that texts state for a property of one value or of several; no text unsets the property.
+/// The value that texts state; no text unsets the property.
 pub fn value_of_texts(
     alloc: Global,
     kind: PropertyKind,
-    cardinality: Cardinality,
+    several: bool,
     texts: &[Text],
 ) -> Result<Value, AllocError>
-    ensures { IfOk result (λ v. v ≡ value_of_texts kind cardinality texts.now) }
+    ensures { IfOk result (λ v. v ≡ value_of_texts kind several texts.now) }
 {
     match texts {
         [] => Ok(Value::Unset),
-        [text, ..] => match cardinality {
-            Cardinality::Single => match scalar_of_text(alloc, kind, text)? {
-                Some(scalar) => Ok(Value::One(scalar)),
-                None => Ok(Value::Unset),
-            },
-            Cardinality::Multi => {
+        [text, ..] => {
+            if several {
                 let scalars = scalars_of_texts(alloc, kind, texts)?;
                 Ok(Value::Many(scalars))
+            } else {
+                match scalar_of_text(alloc, kind, text)? {
+                    Some(scalar) => Ok(Value::One(scalar)),
+                    None => Ok(Value::Unset),
+                }
             }
-        },
+        }
     }
 }

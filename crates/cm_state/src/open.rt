@@ -10,7 +10,6 @@ use crate::state::State;
 use cm_base::access::{AccessList, Ace, Aces, Level};
 use cm_base::copies::Copies;
 use cm_base::items::Items;
-use cm_base::limits::Start;
 use cm_base::number::{Moment, Oid};
 use cm_base::object::Object;
 use cm_base::text::{Text, Texts};
@@ -122,20 +121,21 @@ fn first_lists(alloc: Global, folder: Object, aces: Aces) -> Result<Lists, Alloc
 }
 
 impl State {
-    /// The repository of these users and groups with the root alone, made by the first user at the moment of the start.
+    /// The repository of these users and groups with the root alone, made by the first user at this moment, with this step number.
     pub fn opening(
         alloc: Global,
         types: Types,
         users: &Users,
         groups: Groups,
-        start: Start,
+        moment: Moment,
+        first_step: u64,
     ) -> Result<State, AllocError>
-        requires well { IsWellFormed (opening types users.now groups start) }
-        ensures { IfOk result (λ s. s ≡ opening types users.now groups start) }
+        requires well { IsWellFormed (opening types users.now groups moment first_step) }
+        ensures { IfOk result (λ s. s ≡ opening types users.now groups moment first_step) }
     {
         let names = names_of(alloc, users.as_slice())?;
         let administrator = administrator_of(alloc, names.as_slice())?;
-        let root = root_folder(alloc, &administrator, start.moment, start.first_step)?;
+        let root = root_folder(alloc, &administrator, moment, first_step)?;
         let aces = root_aces(alloc, &administrator)?;
         let lists = first_lists(alloc, root, aces)?;
         let types = Arc::new(alloc, types)?;
@@ -147,9 +147,8 @@ impl State {
             filing: Filing::empty(alloc),
             lists,
             next: 2,
-            step: start.first_step,
+            step: first_step,
             cost: 0,
-            limits: start.limits,
         };
         Ok(parts.seal())
     }

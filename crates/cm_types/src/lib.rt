@@ -8,4 +8,3 @@ pub mod fault;
 pub mod given;
 pub mod property;
 pub mod request;
-pub mod together;

@@ -6,4 +6,3 @@ pub mod Once
 pub mod Runs
 pub mod Schedules
 pub mod Scripting
-pub mod Starts

@@ -11,7 +11,6 @@ mod program;
 mod running;
 mod scheduled;
 pub mod scripting;
-mod start;
 mod summary;
 
 pub use loaded::load;

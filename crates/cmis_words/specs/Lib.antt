@@ -1,6 +1,5 @@
 pub mod Bounds
 pub mod GroupLists
-pub mod Limiting
 pub mod Options
 pub mod Programs
 pub mod Serving

@@ -8,7 +8,6 @@ mod marks;
 mod running;
 mod serving;
 mod session;
-mod task;
 
 pub use ended::{Closing, Ended, HostEnd};
 pub use serving::serve;

@@ -11,4 +11,3 @@ pub mod number;
 pub mod pairs;
 pub mod properties;
 pub mod read;
-pub mod words;

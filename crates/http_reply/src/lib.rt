@@ -1,9 +1,7 @@
 //! Replies to bytes: heads from a fixed array, without taking memory, and bodies as they are.
 #![tactic(auto)]
 
-mod extent;
 mod head;
-mod pieces;
 mod reply;
 mod sending;
 mod shown;

@@ -3,7 +3,6 @@ ghost use Rattle.std.specs.Prelude.{◌≡◌, IfOk, codes};
 ghost use Rattle.http_reply.specs.Replies as replies;
 
 use bytes::Bytes;
-use cm_base::body::Body;
 use cm_base::cause::Cause;
 use cm_base::media::MediaType;
 use cm_base::shown::Shown;
@@ -32,7 +31,7 @@ pub fn cause_shown(alloc: Global, cause: &Cause, number: Option<u64>) -> Result<
     Ok(Shown {
         status: cause.status(),
         kind,
-        body: Body::of(body),
+        body,
         number,
     })
 }
@@ -45,7 +44,7 @@ pub fn without_body(alloc: Global, shown: Shown) -> Shown
         Some(kind) => Shown {
             status: shown.status,
             kind,
-            body: Body::of(Bytes::new()),
+            body: Bytes::new(),
             number: shown.number,
         },
         None => shown,

@@ -1,2 +1,3 @@
+mod Marks
 mod Pages
 pub mod Visible

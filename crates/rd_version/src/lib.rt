@@ -5,3 +5,4 @@ ghost use Rattle.std.specs.Prelude.{◌≡◌};
 
 pub mod content;
 pub mod law;
+mod whole;

@@ -1,7 +1,6 @@
+mod Walks
 mod RisingLists
 mod Sets
-mod Membership
 mod FiledIn
-mod OfTypes
 pub mod Parents
 mod Tested
