@@ -1,9 +1,9 @@
 -- What stands at a keeper as it begins, and after a batch was put or was not.
-use Rattle.std.proofs.Common.{◌≡◌, inl, inr, ℕ, ◌≤◌, false, List, [], ◌∷◌, ◌++◌, length, take, refl, sym, ap, subst, ◌∙◌, arith, append_assoc, append-nil, length-append}
+use Rattle.std.proofs.Common.{◌≡◌, inl, inr, ℕ, List, [], ◌∷◌, ◌++◌, length, take, refl, sym, ap, subst, ◌∙◌, arith, append_assoc, append-nil, length-append}
 use Rattle.std.specs.List.{AllByRecursion}
 use Rattle.std.proofs.lemmas.List.{ext_get_or, take-append-le, take_all}
 use Rattle.std.proofs.Math.Seq.{take-append_seam}
-use Rattle.disk.specs.Disks.{FileTold, DiskTold, IsUnchanged}
+use Rattle.disk.specs.Disks.{FileTold, DiskTold}
 use Rattle.disk.specs.Crashes.{MayLeave, IsSynced, LeavesOnly, LeavesSince, moments, farthest, is_within}
 use Rattle.disk.specs.Joining.{started, leaves_weaker, follows_on}
 use Rattle.journal_file.specs.Records.{StandsFor, IsBeforeOrAfter, IsClosedAt}
@@ -16,7 +16,8 @@ only_synced file left is may =
     let long : length left ≡ length file.synced = omega (arith, may.no_shorter, may.no_longer, far) in
     ext_get_or 0 left file.synced long (λ i lt. may.stays i (omega (arith, lt, long)) (ap (λ (r : List (ℕ × ℕ)). is_within r i) is.written)) ∙ is.synced
 
-last : {A : Type 0} → A → List A → A
+-- the last of a list, or this one where it is empty
+abbrev last : {A : Type 0} → A → List A → A
 last d [] = d
 last d (x ∷ xs) = last x xs
 
@@ -30,9 +31,6 @@ all_last P d (x ∷ xs) p all = all_last P x xs all.0 all.1
 
 last_now : (told : DiskTold) → last told.file (moments told) ≡ told.file
 last_now told = ap (λ (l : List FileTold). last told.file l) (sym (append-nil (moments told))) ∙ last_more told.file told.file told.past []
-
-same_last : (d e : FileTold) (told : DiskTold) (ys : List FileTold) → last d (moments told ++ ys) ≡ last e (moments told ++ ys)
-same_last d e told ys = last_more d told.file told.past ys ∙ sym (last_more e told.file told.past ys)
 
 -- what a crash leaves now, where it held at the first moment and at each since
 left_now : (P : List ℕ → Type 0) (old new : DiskTold) → LeavesOnly P old.file → LeavesSince P old new → LeavesOnly P new.file
@@ -68,7 +66,7 @@ front_of_batch old new more file (inr s) = record {
   count = length (new ++ more);
   within = omega arith;
   stands = subst (λ (ps : List (List ℕ)). StandsFor (old ++ ps) file) (sym (take_all (length (new ++ more)) (new ++ more) (omega arith)))
-  (subst (λ (ps : List (List ℕ)). StandsFor ps file) (append_assoc old new more) s);
+      (subst (λ (ps : List (List ℕ)). StandsFor ps file) (append_assoc old new more) s);
 }
 
 longer : (old new more : List (List ℕ)) (first now late : DiskTold) → LeavesSince (StandsForFront old new) first now → LeavesSince (IsBeforeOrAfter (old ++ new) more) now late
@@ -82,22 +80,22 @@ pub put : (begun now late : DiskTold) (new more : List (List ℕ)) → Stand beg
     → ((before : List (List ℕ)) → StandsFor before now.file.seen → LeavesSince (IsBeforeOrAfter before more) now late)
     → ((before : List (List ℕ)) → StandsFor before now.file.seen → StandsFor (before ++ more) late.file.seen)
     → IsSynced late.file → Stand begun late (new ++ more)
-put begun now late new more s moments after synced = record {
+put begun now late new more s runs after synced = record {
   old = s.old;
   began_with = s.began_with;
   stands = subst (λ (ps : List (List ℕ)). StandsFor ps late.file.seen) (append_assoc s.old new more) (after (s.old ++ new) s.stands);
   synced = synced;
-  since = longer s.old new more begun now late s.since (moments (s.old ++ new) s.stands);
+  since = longer s.old new more begun now late s.since (runs (s.old ++ new) s.stands);
 }
 
 -- the disk has failed as a batch was put
 pub failed : (begun now late : DiskTold) (new more : List (List ℕ)) → Stand begun now new
     → ((before : List (List ℕ)) → StandsFor before now.file.seen → LeavesSince (IsBeforeOrAfter before more) now late)
     → StandAtLeast begun late new more
-failed begun now late new more s moments = record {
+failed begun now late new more s runs = record {
   old = s.old;
   began_with = s.began_with;
   left = left_now (IsBeforeOrAfter (s.old ++ new) more) now late
-  (λ file may. inl (subst (StandsFor (s.old ++ new)) (sym (only_synced now.file file s.synced may)) s.stands)) (moments (s.old ++ new) s.stands);
-  since = longer s.old new more begun now late s.since (moments (s.old ++ new) s.stands);
+      (λ file may. inl (subst (StandsFor (s.old ++ new)) (sym (only_synced now.file file s.synced may)) s.stands)) (runs (s.old ++ new) s.stands);
+  since = longer s.old new more begun now late s.since (runs (s.old ++ new) s.stands);
 }

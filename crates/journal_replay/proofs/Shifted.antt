@@ -15,9 +15,10 @@ legal_join next s (e ∷ es) h p q = (p.0, legal_join next (state_after s (next 
 pub legal_shifted : {S C A X : Type 0} (next : S → Entry C → Result (S × A) X) → IsSameStep next → (s : S) (offset : ℕ) (h : List (Entry C)) → IsLegal next s h → IsLegal next s (all_shifted offset h)
 legal_shifted next same s offset [] p = tt
 legal_shifted next same s offset (e ∷ es) p =
-    let is = same s e (e.session + offset) e.serial in
-    (subst (λ (r : Result _ _). IsOk r) (sym is) p.0,
-    subst (λ (r : Result _ _). IsLegal next (state_after s r) (all_shifted offset es)) (sym is) (legal_shifted next same (state_after s (next s e)) offset es p.1))
+    let is = same s e (e.session + offset) e.serial in (
+      subst (λ (r : Result _ _). IsOk r) (sym is) p.0,
+      subst (λ (r : Result _ _). IsLegal next (state_after s r) (all_shifted offset es)) (sym is) (legal_shifted next same (state_after s (next s e)) offset es p.1),
+    )
 
 pub replay_shifted : {S C A X : Type 0} (next : S → Entry C → Result (S × A) X) → IsSameStep next → (s : S) (offset : ℕ) (h : List (Entry C)) → replay next s (all_shifted offset h) ≡ replay next s h
 replay_shifted next same s offset [] = refl

@@ -1,11 +1,9 @@
 -- The desk of one thread with a keeper.
-use Rattle.std.specs.Prelude.{◌≡◌, ℕ, ◌+◌, ◌≤◌, Bool, true, false, List, length}
-use Rattle.outside.specs.Outside.{Rose}
+use Rattle.std.specs.Prelude.{◌≡◌, ℕ, ◌+◌, ◌≤◌, Bool, true, false, List, length, Result}
 use Rattle.desk_model.specs.declared.entry.Entry.{Entry}
 use Rattle.desk_model.specs.Desks.{Known}
 use Rattle.desk_model.specs.Single.{Single, IsOf}
 use Rattle.desk_model.specs.Keepers.{IsFront}
-use Rattle.std.specs.Prelude.{Result}
 
 -- a pass: what it knows, how many entries of what it has seen are settled, if not more, and whether it was told that the keeper has failed
 pub record KeptPassTold (S C : Type 0) : Type 0 where

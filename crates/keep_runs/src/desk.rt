@@ -1,14 +1,14 @@
 //! The desk of one thread with a keeper.
-ghost use Rattle.std.specs.Prelude.{◌≡◌, ◌≢◌, ◌≤◌, [], ℕ, List, true, length, MatchResult, OnOk, OnErr, IfOk};
-ghost use Rattle.outside.specs.Outside.{Rose};
-ghost use Rattle.desk_model.specs.Desks.{Known, Wrote, Looked, ShowsSettled, IfFault};
-ghost use Rattle.desk_model.specs.Single.{the_place, kept_by_calls};
-ghost use Rattle.keep_runs.specs.Kept.{KeptTold, KeptPassTold, IsKept, IsKeptOf};
+ghost use Rattle.std.specs.Prelude.{◌≡◌, ◌-◌, ◌<◌, [], true, false, length, take, OnErr, IfOk};
+ghost use Rattle.outside.specs.Outside.{Rose, HasCause};
+ghost use Rattle.desk_model.specs.Keepers.{IsFront};
+ghost use Rattle.desk_model.specs.Single.{kept_by_calls};
+ghost use Rattle.keep_runs.specs.Kept.{IsKept, IsKeptOf};
 
 use cm_base::number::Moment;
 use cm_base::text::Text;
 use desk_model::{Desk, Keeper, Machine, OneDesk, OnePass, Snapshot, Stop, Version};
-use outside::Clock;
+use outside::{Clock, Failed};
 use std::alloc::{AllocError, Global};
 use std::marker::Model;
 use std::snapshot::Snapshot as Seen;
@@ -124,22 +124,19 @@ impl<M: Machine, C: Clock + Drop, K: Keeper<M>> KeptDesk<M, C, K> {
         let (last, clock) = desk.close();
         (last, clock, keeper)
     }
+}
 
-    // Keeps the last entry of the journal, and tells the pass that it is settled, or that the keeper has failed.
-    fn settle(&mut self, pass: &mut KeptPass<M>) -> bool {
-        let len = self.desk.version().len();
-        match self.keeper.keep(self.desk.version(), len - 1) {
-            Ok(()) => {
-                pass.sure = len;
-                true
-            }
-            Err(_) => {
-                self.failed = true;
-                pass.failed = true;
-                false
-            }
-        }
-    }
+// Keeps the last entry of a journal, and tells the journal's length. Where the keeper fails, a front of it stands: all but the last entry at least.
+fn keep_last<M: Machine, K: Keeper<M>>(keeper: &mut K, version: &Version<M>) -> Result<u64, Failed>
+    requires some { 0 < length version.now.journal }
+    requires before { K.stands keeper.old (take (length version.now.journal - 1) version.now.journal) }
+    ensures kept { IfOk result (λ len. (len ≡ length version.now.journal) × K.stands keeper.new version.now.journal) }
+    ensures front { OnErr result (IsFront (K.stands keeper.new) (length version.now.journal - 1) version.now.journal) }
+    ensures cause { HasCause (K.faults keeper.old) (K.faults keeper.new) result }
+{
+    let len = version.len();
+    keeper.keep(version, len - 1)?;
+    Ok(len)
 }
 
 impl<M: Machine, C: Clock + Drop, K: Keeper<M>> Desk for KeptDesk<M, C, K> {
@@ -185,13 +182,17 @@ impl<M: Machine, C: Clock + Drop, K: Keeper<M>> Desk for KeptDesk<M, C, K> {
             .desk
             .write(alloc, leave, &mut pass.pass, least, user, moment, call)
         {
-            Ok(shown) => {
-                if self.settle(pass) {
+            Ok(shown) => match keep_last(&mut self.keeper, self.desk.version()) {
+                Ok(len) => {
+                    pass.sure = len;
                     Ok(shown)
-                } else {
+                }
+                Err(_) => {
+                    self.failed = true;
+                    pass.failed = true;
                     Err(Stop::Fault)
                 }
-            }
+            },
             Err(Stop::Memory) => Err(Stop::Memory),
             Err(stop) => {
                 pass.sure = self.desk.version().len();

@@ -6,4 +6,3 @@ mod run;
 
 pub use desk::{KeptDesk, KeptPass};
 pub use run::{KeptEnd, run_kept};
-
