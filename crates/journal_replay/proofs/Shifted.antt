@@ -22,5 +22,7 @@ legal_shifted next same s offset (e ∷ es) p =
 
 pub replay_shifted : {S C A X : Type 0} (next : S → Entry C → Result (S × A) X) → IsSameStep next → (s : S) (offset : ℕ) (h : List (Entry C)) → replay next s (all_shifted offset h) ≡ replay next s h
 replay_shifted next same s offset [] = refl
-replay_shifted {S = S} next same s offset (e ∷ es) =
-    rw (same s e (e.session + offset) e.serial) (replay_shifted next same (state_after s (next s e)) offset es)
+replay_shifted {S = S} {A = A} {X = X} next same s offset (e ∷ es) =
+    let is = same s e (e.session + offset) e.serial in
+    subst (λ (r : Result (S × A) X). replay next (state_after s r) (all_shifted offset es) ≡ replay next (state_after s (next s e)) es) (sym is)
+    (replay_shifted next same (state_after s (next s e)) offset es)
