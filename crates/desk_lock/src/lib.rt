@@ -11,7 +11,7 @@ mod seats;
 mod shelf;
 mod turn;
 
-pub use board::{Hold, Turn, View};
+pub use board::{Hold, Laid, Store, Turn, View};
 pub use desk::LockDesk;
 pub use lock::{Lock, SplitStop, Tally};
 pub use pass::Pass;

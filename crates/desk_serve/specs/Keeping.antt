@@ -37,7 +37,7 @@ pub record IsOver {S C Q L : Type 0} (t : Terms S C Q L) (l : LockView S C) (q :
   pub is_of : IsOf t.kind.next l r
   pub made : r.made ≡ 0
   pub ended : r.ended ≡ []
-  pub talked : Talked t.kind t.users q.known None (t.source from) (t.sink from) r.known None (t.source link) (t.sink link) outcome
+  pub talked : Talked t.kind t.users q.known None (t.source from) (t.sink from) r.known r.sure None (t.source link) (t.sink link) outcome
 
 -- a session that is over, and was that of the host's link at this place; its pass had then seen so many entries
 pub record IsHeld {S C Q L : Type 0} (t : Terms S C Q L) (l : LockView S C) (place before : ℕ) (r : PassView S C) (link : L) (outcome : End) : Type 0 where
