@@ -5,6 +5,7 @@ use mathlib.Core.Option.{some}
 use lib.ListN.{get_elem?}
 use Rattle.std.specs.Prelude as std
 use Rattle.atomic_table.specs.Seated.{TableId}
+use Rattle.outside.specs.Outside.{Rose}
 use Rattle.desk_model.specs.declared.entry.Entry.{Entry}
 use Rattle.desk_model.specs.Histories.{History, own, IsNumbered, SessionsBelow}
 use Rattle.desk_model.specs.Desks.{Known, IsSound, with_seen}
@@ -12,6 +13,12 @@ use Rattle.desk_lock.specs.declared.lock.SplitStop.{SplitStop}
 use Rattle.desk_lock.specs.declared.lock.SplitStop.TheVariants.{Many, Memory}
 use Rattle.desk_lock.specs.Numbers.{most_passes, IsIn, AreApart, names}
 use Rattle.desk_lock.specs.Seats.{longer, greater}
+
+-- the count of faults of a keeper rose
+pub record HasFailed {K : Type 0} (faults : K → ℕ) : Type 0 where
+  pub before : K
+  pub after : K
+  pub rose : Rose (faults before) (faults after)
 
 -- a lock: what tells it from all others, and the version with which it began
 pub record LockView (S C : Type 0) : Type 0 where

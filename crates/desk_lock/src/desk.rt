@@ -1,7 +1,7 @@
 //! The lock as a desk.
 ghost use Rattle.std.specs.Prelude.{◌≡◌, [], ◌∷◌, length, None};
 ghost use Rattle.desk_lock.specs.Numbers.{most_passes};
-ghost use Rattle.desk_lock.specs.Words.{IsOf, place_of};
+ghost use Rattle.desk_lock.specs.Words.{HasFailed, IsOf, place_of};
 
 use crate::lock::Lock;
 use crate::pass::Pass;
@@ -61,7 +61,7 @@ impl<'a, R: Wait + 'a, M: Machine + 'a, C: Clock + Drop + 'a, K: Keeper<M> + 'a>
 
     ghost sure = { λ p. p.sure };
 
-    ghost failed = { λ p. Unit {0} };
+    ghost failed = { λ p. HasFailed K.faults };
 
     ghost place = { λ p. p.made ∷ length p.ended ∷ place_of p.table };
 

@@ -3,6 +3,7 @@
 
 mod board;
 mod desk;
+mod failure;
 mod lock;
 mod pass;
 mod plays;

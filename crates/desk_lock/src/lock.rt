@@ -1,12 +1,12 @@
 //! The lock and its calls.
-ghost use Rattle.std.specs.Prelude.{◌≡◌, ◌+◌, ◌<◌, ◌≤◌, true, length, IfOk, IfErr, OnOk, MatchResult};
+ghost use Rattle.std.specs.Prelude.{◌≡◌, ◌+◌, ◌<◌, ◌≤◌, true, false, length, IfOk, IfErr, OnOk, MatchResult};
 ghost use Rattle.std.specs.Arc.{arc_value};
 ghost use Rattle.desk_model.specs.Clocks.{IsOfWord};
-ghost use Rattle.desk_model.specs.Desks.{Wrote, Looked, ShowsSettled};
+ghost use Rattle.desk_model.specs.Desks.{Wrote, Looked, ShowsSettled, IfFault};
 ghost use Rattle.desk_model.specs.Halts.{TellsThird};
 ghost use Rattle.desk_model.specs.Histories.{IsLegal, grown, shown_by, state_of};
 ghost use Rattle.desk_lock.specs.Board.{Settled};
-ghost use Rattle.desk_lock.specs.Words.{LockView, PassView, IsOf, place_of, Splits, first_pass, knowing, with_sure, IsSure, Met, Retired, Closes};
+ghost use Rattle.desk_lock.specs.Words.{HasFailed, LockView, PassView, IsOf, place_of, Splits, first_pass, knowing, with_sure, IsSure, Met, Retired, Closes};
 
 use crate::board::{Board, HOME, Laid, SHELVED, Store};
 use crate::pass::Pass;
@@ -44,7 +44,7 @@ pub enum SplitStop {
 #[derive(Drop)]
 pub struct Lock<M: Machine, C: Clock, K: Keeper<M>> {
     pub(crate) board: Board<M, K>,
-    queues: Queues,
+    queues: Queues<M, K>,
     clock: Mutex<C>,
 }
 
@@ -192,6 +192,7 @@ impl<M: Machine, C: Clock + Drop, K: Keeper<M>> Lock<M, C, K> {
         requires { IsOf M.next self.now pass.old }
         ensures wrote { Wrote M.next M.number pass.old.known least user.now moment call result pass.new.known }
         ensures same { pass.new ≡ knowing pass.old pass.new.known }
+        ensures fault { IfFault result (HasFailed K.faults) }
         ensures is_of { IsOf M.next self.now pass.new }
     {
         let Ok(user) = user.copied(alloc) else {
@@ -273,6 +274,7 @@ impl<M: Machine, C: Clock + Drop, K: Keeper<M>> Lock<M, C, K> {
         ensures same { pass.new ≡ with_sure pass.old pass.new.sure }
         ensures later { pass.old.sure ≤ pass.new.sure }
         ensures sure { result ≡ true → IsSure pass.new }
+        ensures failed { result ≡ false → HasFailed K.faults }
         ensures is_of { IsOf M.next self.now pass.new }
     {
         let owed = pass.seen - pass.began_at();
@@ -280,6 +282,7 @@ impl<M: Machine, C: Clock + Drop, K: Keeper<M>> Lock<M, C, K> {
     }
 
     /// Makes the write at the end of the journal, unless the least number that it asks for is ahead there, and waits until all that it was judged at is settled.
+    /// A fault comes only where the count of faults of a keeper rose.
     pub fn write<R: Wait>(
         &self,
         rt: &R,
@@ -295,6 +298,7 @@ impl<M: Machine, C: Clock + Drop, K: Keeper<M>> Lock<M, C, K> {
         ensures same { pass.new ≡ with_sure (knowing pass.old pass.new.known) pass.new.sure }
         ensures later { pass.old.sure ≤ pass.new.sure }
         ensures settled { ShowsSettled result pass.new.known pass.new.sure }
+        ensures fault { IfFault result (HasFailed K.faults) }
         ensures is_of { IsOf M.next self.now pass.new }
     {
         match self.make(rt, alloc, pass, least, user, moment, call) {

@@ -1,12 +1,14 @@
 //! Threads that wait for a word of the table to become 0.
-ghost use Rattle.std.specs.Prelude.{◌<◌};
+ghost use Rattle.std.specs.Prelude.{◌≡◌, ◌<◌, true};
 ghost use Rattle.desk_lock.specs.Board.{IsSized};
+ghost use Rattle.desk_lock.specs.Words.{HasFailed};
 
 use crate::board::Top;
+use crate::failure::Failure;
 use desk_model::{Keeper, Machine};
 use std::hint::spin_loop;
-use std::sync::Wait;
 use std::sync::atomic::{AtomicU64, Ordering};
+use std::sync::{Mutex, Wait};
 
 /// How often a thread looks at a word before it sleeps. A look and its pause take about 50 nanoseconds.
 const LOOKS: u32 = 4000;
@@ -21,24 +23,24 @@ pub(crate) struct Queue {
 
 /// Those who wait for the turn, for the shelf, and for a batch.
 #[derive(Drop)]
-pub(crate) struct Queues {
+pub(crate) struct Queues<M: Machine, K: Keeper<M>> {
     pub(crate) turn: Queue,
     pub(crate) shelf: Queue,
     pub(crate) rounds: Queue,
-    /// 1 once the keeper has failed.
-    broken: AtomicU64,
+    /// There once the keeper has failed.
+    failure: Mutex<Option<Failure<M, K>>>,
     /// Whether what is owed may be left to the next writer.
     batches: bool,
 }
 
-impl Queues {
-    /// Nobody waits.
-    pub(crate) fn empty(batches: bool) -> Queues {
+impl<M: Machine, K: Keeper<M>> Queues<M, K> {
+    /// Nobody waits, and the keeper has not failed.
+    pub(crate) fn empty(batches: bool) -> Queues<M, K> {
         Queues {
             turn: Queue::empty(),
             shelf: Queue::empty(),
             rounds: Queue::empty(),
-            broken: AtomicU64::new(0),
+            failure: Mutex::new(None),
             batches,
         }
     }
@@ -49,13 +51,23 @@ impl Queues {
     }
 
     /// Says that the keeper has failed.
-    pub(crate) fn set_broken(&self) {
-        self.broken.store(1, Ordering::SeqCst);
+    pub(crate) fn set_broken<R: Wait>(&self, rt: &R, failure: Failure<M, K>) {
+        let mut kept = self.failure.lock(rt);
+        *kept = Some(failure);
     }
 
     /// Whether the keeper has failed.
-    pub(crate) fn is_broken(&self) -> bool {
-        self.broken.load(Ordering::SeqCst) != 0
+    pub(crate) fn is_broken<R: Wait>(&self, rt: &R) -> bool
+        ensures { result ≡ true → HasFailed K.faults }
+    {
+        let kept = self.failure.lock(rt);
+        match &*kept {
+            Some(failure) => {
+                failure.lawful();
+                true
+            }
+            None => false,
+        }
     }
 }
 

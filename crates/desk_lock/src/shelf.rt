@@ -1,10 +1,11 @@
 //! The steps at the shelf, of those who look and of a writer that has committed.
-ghost use Rattle.std.specs.Prelude.{◌≡◌, ℕ, ◌+◌, ◌<◌, ◌≤◌, true, List, [], ◌∷◌, ◌++◌, length, Some, None};
+ghost use Rattle.std.specs.Prelude.{◌≡◌, ℕ, ◌+◌, ◌<◌, ◌≤◌, true, false, List, [], ◌∷◌, ◌++◌, length, Some, None};
 ghost use Rattle.std.specs.Arc.{arc_value};
 ghost use Rattle.desk_lock.specs.declared.board.Turn.TheVariants.{HasTurn};
 ghost use Rattle.desk_lock.specs.declared.board.Hold.TheVariants.{NoShelf, HasShelf};
 ghost use Rattle.desk_lock.specs.Board.{IsSized};
 ghost use Rattle.desk_lock.specs.Steps.{HasIt, IsTaken, IsSurer};
+ghost use Rattle.desk_lock.specs.Words.{HasFailed};
 ghost use Rattle.atomic_table.specs.Table.{rest};
 
 use crate::board::{Laid, Place, ROUNDS, SHELF, SHELF_NUMBER, SHELVED, Store, Top};
@@ -17,7 +18,7 @@ use std::sync::{Arc, Wait};
 fn claim_shelf<M: Machine, K: Keeper<M>, R: Wait>(
     rt: &R,
     top: &Top<M, K>,
-    queues: &Queues,
+    queues: &Queues<M, K>,
     place: &mut Place<M, K>,
 )
     requires table { (place.old.table_id ≡ top.now.table_id) × IsSized top.now.table_id }
@@ -38,7 +39,7 @@ fn claim_shelf<M: Machine, K: Keeper<M>, R: Wait>(
 pub(crate) fn open_shelf<M: Machine, K: Keeper<M>, R: Wait>(
     rt: &R,
     top: &Top<M, K>,
-    queues: &Queues,
+    queues: &Queues<M, K>,
     place: &mut Place<M, K>,
 ) -> Arc<Version<M>>
     requires table { (place.old.table_id ≡ top.now.table_id) × IsSized top.now.table_id }
@@ -80,7 +81,7 @@ pub(crate) fn look_at_shelf<M: Machine, K: Keeper<M>>(
 /// Puts the version on the shelf, and gives the shelf back.
 pub(crate) fn shut_shelf<M: Machine, K: Keeper<M>>(
     top: &Top<M, K>,
-    queues: &Queues,
+    queues: &Queues<M, K>,
     place: &mut Place<M, K>,
     version: Arc<Version<M>>,
 )
@@ -144,7 +145,7 @@ pub(crate) fn assure<M: Machine, K: Keeper<M>>(top: &Top<M, K>, place: &mut Plac
 pub(crate) fn wait_for<M: Machine, K: Keeper<M>, R: Wait>(
     rt: &R,
     top: &Top<M, K>,
-    queues: &Queues,
+    queues: &Queues<M, K>,
     place: &mut Place<M, K>,
     owed: u64,
 ) -> bool
@@ -153,13 +154,14 @@ pub(crate) fn wait_for<M: Machine, K: Keeper<M>, R: Wait>(
     ensures seat { (place.new.table_id ≡ place.old.table_id) × (place.new.id ≡ place.old.id) }
     ensures sure { IsSurer place.old.me place.new.me }
     ensures settled { result ≡ true → place.old.me.0.start + owed ≤ place.new.me.0.sure }
+    ensures failed { result ≡ false → HasFailed K.faults }
 {
     for _ in rt.forever() {
         let round = top.peek(ROUNDS);
         if owed <= assure(top, place) {
             return true;
         }
-        if queues.is_broken() {
+        if queues.is_broken(rt) {
             return false;
         }
         queues
@@ -173,7 +175,7 @@ pub(crate) fn wait_for<M: Machine, K: Keeper<M>, R: Wait>(
 pub(crate) fn show<M: Machine, K: Keeper<M>, R: Wait>(
     rt: &R,
     top: &Top<M, K>,
-    queues: &Queues,
+    queues: &Queues<M, K>,
     place: &mut Place<M, K>,
     version: Arc<Version<M>>,
     number: u64,

@@ -11,6 +11,7 @@ ghost use Rattle.desk_lock.specs.Seats.{IsIdle};
 ghost use Rattle.desk_lock.specs.Steps.{Has, IsOpen, settled_of};
 
 use crate::board::{COUNT, HOME, Laid, Place, ROUNDS, Store, TURN, Top};
+use crate::failure::Failure;
 use crate::plays::{Claim, Commit, Count, Learn, Release};
 use crate::queue::Queues;
 use crate::shelf::show;
@@ -21,7 +22,7 @@ use std::sync::{Arc, Wait};
 fn claim<M: Machine, K: Keeper<M>, R: Wait>(
     rt: &R,
     top: &Top<M, K>,
-    queues: &Queues,
+    queues: &Queues<M, K>,
     place: &mut Place<M, K>,
 )
     requires table { (place.old.table_id ≡ top.now.table_id) × IsSized top.now.table_id }
@@ -42,7 +43,7 @@ fn claim<M: Machine, K: Keeper<M>, R: Wait>(
 pub(crate) fn open<M: Machine, K: Keeper<M>, R: Wait>(
     rt: &R,
     top: &Top<M, K>,
-    queues: &Queues,
+    queues: &Queues<M, K>,
     place: &mut Place<M, K>,
 ) -> Laid<Arc<Version<M>>, K>
     requires table { (place.old.table_id ≡ top.now.table_id) × IsSized top.now.table_id }
@@ -80,7 +81,7 @@ pub(crate) fn learn<M: Machine, K: Keeper<M>>(
 /// Puts the version back into its home, and gives the turn back.
 pub(crate) fn shut<M: Machine, K: Keeper<M>>(
     top: &Top<M, K>,
-    queues: &Queues,
+    queues: &Queues<M, K>,
     place: &mut Place<M, K>,
     laid: Laid<Arc<Version<M>>, K>,
 )
@@ -141,7 +142,7 @@ pub(crate) fn commit<M: Machine, K: Keeper<M>>(
 }
 
 // Counts a batch that has ended, and wakes all who wait for one.
-fn round<M: Machine, K: Keeper<M>>(top: &Top<M, K>, queues: &Queues, place: &mut Place<M, K>)
+fn round<M: Machine, K: Keeper<M>>(top: &Top<M, K>, queues: &Queues<M, K>, place: &mut Place<M, K>)
     requires table { (place.old.table_id ≡ top.now.table_id) × IsSized top.now.table_id }
     ensures seat { (place.new.table_id ≡ place.old.table_id) × (place.new.id ≡ place.old.id) }
     ensures same { place.new.me ≡ place.old.me }
@@ -154,7 +155,7 @@ fn round<M: Machine, K: Keeper<M>>(top: &Top<M, K>, queues: &Queues, place: &mut
 fn settle<M: Machine, K: Keeper<M>, R: Wait>(
     rt: &R,
     top: &Top<M, K>,
-    queues: &Queues,
+    queues: &Queues<M, K>,
     place: &mut Place<M, K>,
     start: u64,
     version: Arc<Version<M>>,
@@ -185,7 +186,7 @@ fn settle<M: Machine, K: Keeper<M>, R: Wait>(
             shut(top, queues, place, laid);
         }
         Err(_) => {
-            queues.set_broken();
+            queues.set_broken(rt, Failure::new());
             let laid = Laid {
                 version,
                 again: Some(again),
@@ -203,7 +204,7 @@ fn settle<M: Machine, K: Keeper<M>, R: Wait>(
 pub(crate) fn leave<M: Machine, K: Keeper<M>, R: Wait>(
     rt: &R,
     top: &Top<M, K>,
-    queues: &Queues,
+    queues: &Queues<M, K>,
     place: &mut Place<M, K>,
     start: u64,
     laid: Laid<Arc<Version<M>>, K>,

@@ -67,6 +67,7 @@ module _ {S C Q L : Type 0} (t : Terms S C Q L) (l : LockView S C) (stands : Sta
         gave = s.gave;
         took = s.took;
         session = subst (λ (o : S). Session t.kind (setting_of o t.users x) x.after last.journal s.input (t.source x.link).ended s.output s.times (rose (t.source s.from).faults (t.source x.link).faults) (rose (t.sink s.from).faults (t.sink x.link).faults) x.outcome) of_.opening there.0;
+        kept = s.kept;
       }
 
   covers : (p : PassView S C) (last : History S C) (ended : List (Ended L)) (rest : List ℕ) → l.version.journal ≡ [] → Closes l p last → p.known.own ≡ [] → names p.ended ≡ map number_of ended ++ rest

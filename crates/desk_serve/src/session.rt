@@ -20,6 +20,7 @@ pub(crate) struct Seat<M: Machine, L> {
 }
 
 // Serves a link with this pass to the end of its session, and closes it.
+#[tactic(auto, using(crate::proofs::Noting::all_kept))]
 fn hold<'a, M: Served, L: Link, C: Clock + Drop, G: Gate, R: Wait>(
     rt: &'a R,
     alloc: Global,

@@ -234,6 +234,17 @@ pub asks-wrongly : {S C Q : Type 0} (kind : Kind S C Q) (users : List User) (r :
     → kind.wire.caller_of r.head users ≡ Err cause → ask_of kind users r ≡ faulty cause
 asks-wrongly kind users r cause a = rw a refl
 
+-- a write that could not be kept is what the request asks
+pub unkept-asking : {S C Q A : Type 0} (kind : Kind S C Q) (users : List User) (r : Request) (head : Head) (user : List ℕ) (least : ℕ) (call : C) (k l : Known S C) (u v : Option Words) (result : Result A Unanswered)
+    → head ≡ r.head → kind.wire.caller_of head users ≡ Ok user → kind.call r ≡ Ok (Write call) → least ≡ kind.wire.least_of head
+    → IfUnkept result ((us : List User) (h : Head) (last : Bool) → TurnUnkept kind us h last (writes user least call) k u l v)
+    → IfUnkept result ((last : Bool) → TurnUnkept kind users r.head last (ask_of kind users r) k u l v)
+unkept-asking kind users r head user least call k l u v (Ok a) e caller called is h = tt
+unkept-asking kind users r head user least call k l u v (Err unanswered.Memory) e caller called is h = tt
+unkept-asking kind users r head user least call k l u v (Err unanswered.Unkept) e caller called is h =
+    let ask : ask_of kind users r ≡ writes user least call = asks-write kind users r user least call (ap (λ x. kind.wire.caller_of x users) (sym e) ∙ caller) called (is ∙ ap (λ x. kind.wire.least_of x) e) in
+    λ last. subst (λ a. TurnUnkept kind users r.head last a k u l v) (sym ask) (h users r.head last)
+
 -- the turn of a request that asks so
 pub turned-asking : {S C Q : Type 0} (kind : Kind S C Q) (users : List User) (head : Head) (last : Bool) (a b : Ask C Q) (k : Known S C) (u : Option Words) (text : List ℕ) (l : Known S C) (v : Option Words)
     → b ≡ a → Turned kind users head last a k u text l v → Turned kind users head last b k u text l v

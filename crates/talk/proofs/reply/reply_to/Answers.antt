@@ -1,5 +1,5 @@
 use Rattle.talk.specs.Served.{Kind, wire_of}
-use Rattle.talk.proofs.Turns.{if-ok-map, badly-turn, wrongly-turn, badly-within, wrongly-within, not-unkept, starved-so, ok-so, stays-put}
+use Rattle.talk.proofs.Turns.{if-ok-map, badly-turn, wrongly-turn, badly-within, wrongly-within, not-unkept, starved-so, ok-so, stays-put, unkept-asking}
 use Rattle.talk.proofs.reply.reply_to.Goals as goal
 
 pub returns-in-Err-Refused-call_of-clause-turned : goal.returns-in-Err-Refused-call_of-clause-turned
@@ -47,3 +47,9 @@ returns-in-Err-Refused-call_of-clause-failed g c = not-unkept c.plain.result _ c
 
 pub returns-in-Err-Refused-clause-failed : goal.returns-in-Err-Refused-clause-failed
 returns-in-Err-Refused-clause-failed g c = not-unkept c.plain-in-Err-Refused.result _ c.plain-in-Err-Refused.ensures.memory
+
+pub returns-in-Ok-Write-clause-unkept : goal.returns-in-Ok-Write-clause-unkept
+returns-in-Ok-Write-clause-unkept g c =
+    let kind : Kind _ _ _ = record { next = g.D.Kind.Machine.next; answer = g.D.Kind.Machine.answer; number = g.D.Kind.Machine.number; call = g.D.Kind.Served.call; wire = wire_of g.D.Kind.Served.user g.D.Kind.Served.least g.D.Kind.Served.closes } in
+    let told = rw c.in-Ok-Write.field-0-is at c.in-Ok-Write.ensures in
+    unkept-asking kind c.args.users.now c.args.request.now c.head-head.result.now _ c.least_of-least.result _ _ _ _ _ c.write_reply_of.result c.head-head.ensures c.in-Ok.ensures told c.least_of-least.ensures c.write_reply_of.ensures.unkept

@@ -10,11 +10,18 @@ pub commit-version-requires-clause-out : goal.commit-version-requires-clause-out
 commit-version-requires-clause-out g c = let p = c.pass.inside in
     ((arc_value c.open-version.result.version).journal, c.open-version.ensures.had.0, record { session = p.number; serial = p.own; user = c.in-Ok.user; moment = c.args.moment; call = c.args.call }, search rules, search rules, search rules, search rules, search rules)
 
+pub leave-requires-clause-out : goal.leave-requires-clause-out
+leave-requires-clause-out g c = let h = c.open-version.ensures.had in (h.0, search rules, search rules, search rules, h.1.4, record { keeps = h.2.keeps; settled = h.2.settled; again = h.2.again })
+
 pub leave-requires-in-Err-Memory-clause-out : goal.leave-requires-in-Err-Memory-clause-out
 leave-requires-in-Err-Memory-clause-out g c = let h = c.open-version.ensures.had in (h.0, search rules, search rules, search rules, h.1.4, record { keeps = h.2.keeps; settled = h.2.settled; again = h.2.again })
 
 pub leave-requires-in-Err-Refused-clause-out : goal.leave-requires-in-Err-Refused-clause-out
 leave-requires-in-Err-Refused-clause-out g c = let h = c.open-version.ensures.had in (h.0, search rules, search rules, search rules, h.1.4, record { keeps = h.2.keeps; settled = h.2.settled; again = h.2.again })
+
+pub invariant_of-pass-in-Ok-next_of : goal.invariant_of-pass-in-Ok-next_of
+invariant_of-pass-in-Ok-next_of g c = let p = c.pass.inside in let t = arc_value c.open-version.result.version in let n = arc_value c.in-Ok-next_of.next in let o = c.open-version.new.place.me in
+    (search rules, search rules, search rules, search rules, search rules, search rules, search rules, search rules, search rules, search rules, search rules)
 
 pub overflow_add-pass : goal.overflow_add-pass
 overflow_add-pass g c = let p = c.pass.inside in let t = arc_value c.open-version.result.version in let n = arc_value c.in-Ok-next_of.next in let o = c.open-version.new.place.me in
