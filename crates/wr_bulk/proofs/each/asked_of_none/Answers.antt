@@ -5,7 +5,7 @@ use Rattle.wr_bulk.specs.BulkUpdate.{update_of}
 use Rattle.wr_bulk.proofs.each.asked_of_none.Goals as goal
 
 -- of an object without an id and without a token
-no_object : ObjectIdAndChangeToken
+abbrev no_object : ObjectIdAndChangeToken
 no_object = record { id = []; token = None }
 
 pub returns : goal.returns
