@@ -22,7 +22,7 @@ use Rattle.cm_types.specs.declared.given.PropertyCall.{PropertyCall}
 use Rattle.cm_types.specs.declared.property.PropDef.{PropDef}
 use Rattle.cm_types.specs.Properties.{given_cause, is_missing, judge_properties, missing_cause, property_fault}
 use Rattle.action_parts.specs.declared.action.Action.{Action}
-use Rattle.cmis_spec.specs.Repository.{Repository, most_cost, most_steps}
+use Rattle.cmis_spec.specs.Repository.{Repository}
 use Rattle.cmis_spec.specs.Access.{read_named}
 use Rattle.cmis_spec.specs.Retention.{retained_cause, retained_until}
 use Rattle.cm_types.specs.Types.{type_in}
@@ -168,8 +168,8 @@ module _ (p : Cause → Bool) where
   -- ---- parts of calls
 
   pub storage_aside : (r : Repository) (cost : ℕ) → ((a b d : ℕ) → p (causes.Storage a b d) ≡ false) → is_by p (judge_storage r cost) ≡ false
-  storage_aside r cost k = two_aside (causes.Storage r.step 1 most_steps) (causes.Storage r.cost cost most_cost)
-      (nat_lt most_steps (r.step + 1)) (nat_lt most_cost (r.cost + cost)) (k r.step 1 most_steps) (k r.cost cost most_cost)
+  storage_aside r cost k = two_aside (causes.Storage r.step 1 r.limits.most_steps) (causes.Storage r.cost cost r.limits.most_bytes)
+      (nat_lt r.limits.most_steps (r.step + 1)) (nat_lt r.limits.most_bytes (r.cost + cost)) (k r.step 1 r.limits.most_steps) (k r.cost cost r.limits.most_bytes)
 
   -- a write on an object that is found
   pub written : (r : Repository) (cost : ℕ) (o : Option Object) (x : Object) (rest : Object → Judged (Unit {0})) → ((a b d : ℕ) → p (causes.Storage a b d) ≡ false) → o ≡ Some x → is_by p (rest x) ≡ false

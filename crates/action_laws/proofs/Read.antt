@@ -1,11 +1,10 @@
 -- Contents that are not read, and contents that are.
-use Rattle.std.specs.Prelude.{◌≡◌, ℕ, Bool, true, false, not, ◌&&◌, List, Option, Some, None, is_some, option_map}
+use Rattle.std.specs.Prelude.{◌≡◌, ℕ, Bool, true, false, not, ◌&&◌, List, Option, Some, None, is_some, option_map, codes}
 use Rattle.std.proofs.Common.{refl, sym, subst}
 use Rattle.std.proofs.lemmas.Bool.{and_parts, both_ways}
 use Rattle.action_parts.specs.declared.action.Action.TheVariants as actions
 use Rattle.call_parts.specs.declared.readings.ReadContent.{ReadContent}
 use Rattle.cm_base.specs.declared.content.Content.{Content}
-use Rattle.cm_base.specs.declared.argument.Argument.TheVariants as args
 use Rattle.cm_base.specs.declared.object.Object.{Object}
 use Rattle.cm_base.specs.declared.cause.Cause.{Cause}
 use Rattle.cm_base.specs.declared.cause.Cause.TheVariants as causes
@@ -39,7 +38,7 @@ module _ (r : Repository) (u : List ℕ) where
   of_stream x None e = content_free (stands_for actions.GetContentStream) (is_a r bases.Document x) (content_at r x.id) e
   of_stream x (Some id) e = kind_free (stands_for actions.GetContentStream) causes.WrongKind (stream_of r x (Some id)) (is_a r bases.Document x)
       (and_parts (is_a r bases.Document x) (is_some (content_at r x.id)) e).0
-      (find_aside (stands_for actions.GetContentStream) (causes.BadArgument args.StreamId) (option_map rendition_reply (rendition_named r x id)) refl)
+      (find_aside (stands_for actions.GetContentStream) (causes.BadArgument (codes "streamId")) (option_map rendition_reply (rendition_named r x id)) refl)
 
   pub content_allowed : (q : ReadContent) → MayDo r u q.place actions.GetContentStream → NoneComes actions.GetContentStream (answer_content r u q)
   content_allowed q b = none_comes actions.GetContentStream (answer_content r u q) refl

@@ -1,5 +1,5 @@
 -- Children, parents and versions that are not listed, and those that are.
-use Rattle.std.specs.Prelude.{◌≡◌, ℕ, zero, suc, Bool, true, false, not, ◌&&◌, if◌then◌else◌, List, [], ◌∷◌, ◌++◌, All, length, map, Option, Some, None, option_and_then, option_map, Ok}
+use Rattle.std.specs.Prelude.{◌≡◌, ℕ, zero, suc, Bool, true, false, not, ◌&&◌, if◌then◌else◌, List, [], ◌∷◌, ◌++◌, All, length, map, Option, Some, None, option_and_then, option_map, Ok, codes}
 use Rattle.std.proofs.Common.{refl, sym, ap, subst, ◌∙◌}
 use Rattle.std.proofs.lemmas.Bool.{and_parts, both_ways, not-true}
 use Rattle.std.proofs.lemmas.List.Elements.{All-filter, All-head, filter_passes}
@@ -11,7 +11,6 @@ use Rattle.include_parts.specs.declared.readings.ShowVersions.{ShowVersions}
 use Rattle.order_parts.specs.declared.readings.SortSpecification.{SortSpecification}
 use Rattle.include_parts.specs.declared.replies.IncludedObjectsReply.{IncludedObjectsReply}
 use Rattle.include_parts.specs.declared.replies.IncludedParentsReply.{IncludedParentsReply}
-use Rattle.cm_base.specs.declared.argument.Argument.TheVariants as args
 use Rattle.cm_base.specs.declared.number.Oid.{Oid}
 use Rattle.cm_base.specs.declared.object.Object.{Object}
 use Rattle.cm_base.specs.declared.cause.Cause.{Cause}
@@ -73,12 +72,12 @@ module _ (r : Repository) (u : List ℕ) where
 -- ---- what is allowed
 
 -- an order that can't be had is another cause
-keys_aside : (p : Cause → Bool) (types : List TypeDef) (keys : List OrderKey) (asked : List SortSpecification) → p (causes.BadArgument args.OrderBy) ≡ false → is_by p (each_onto (sort_key types) keys asked) ≡ false
+keys_aside : (p : Cause → Bool) (types : List TypeDef) (keys : List OrderKey) (asked : List SortSpecification) → p (causes.BadArgument (codes "orderBy")) ≡ false → is_by p (each_onto (sort_key types) keys asked) ≡ false
 keys_aside p types keys [] k = refl
 keys_aside p types keys (s ∷ ss) k = found p (sort_key types s) (λ y. each_onto (sort_key types) (keys ++ y ∷ []) ss)
-    (find_aside p (causes.BadArgument args.OrderBy) (option_map (key_of s) (orderable_named types s.query_name)) k) (λ y. keys_aside p types (keys ++ y ∷ []) ss k)
+    (find_aside p (causes.BadArgument (codes "orderBy")) (option_map (key_of s) (orderable_named types s.query_name)) k) (λ y. keys_aside p types (keys ++ y ∷ []) ss k)
 
-order_aside : (p : Cause → Bool) (r : Repository) (u : List ℕ) (asked : List SortSpecification) (xs : List Object) → p (causes.BadArgument args.OrderBy) ≡ false → is_by p (ordered r u asked xs) ≡ false
+order_aside : (p : Cause → Bool) (r : Repository) (u : List ℕ) (asked : List SortSpecification) (xs : List Object) → p (causes.BadArgument (codes "orderBy")) ≡ false → is_by p (ordered r u asked xs) ≡ false
 order_aside p r u [] xs k = refl
 order_aside p r u (s ∷ ss) xs k = found p (sort_keys r.types (s ∷ ss)) (λ keys. Ok (sorted_by (object_order r u (sort_filter (s ∷ ss)) keys) xs)) (keys_aside p r.types [] (s ∷ ss) k) (λ keys. refl)
 

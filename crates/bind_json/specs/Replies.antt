@@ -5,7 +5,7 @@ use Rattle.cm_base.specs.declared.shown.Shown.{Shown}
 use Rattle.delete_tree_parts.specs.declared.replies.DeleteTreeReply.{DeleteTreeReply}
 use Rattle.cm_call.specs.declared.reply.Reply.{Reply}
 use Rattle.cm_call.specs.declared.reply.Reply.TheVariants as replies
-use Rattle.object_json.specs.Objects.{shown_data}
+use Rattle.object_json.specs.Objects.{properties_alone_data, shown_data}
 use Rattle.object_json.specs.Sent.{shown_json, shown_nothing}
 use Rattle.include_json.specs.Pages.{reply_data as included_data, children_data, objects_data as included_objects_data, page_data, parents_data}
 use Rattle.type_replies.specs.Infos.{infos_data}
@@ -31,6 +31,7 @@ shown_left reply step = if length reply.ids == 0 then shown_nothing step else sh
 -- what is sent of a reply that was made at this step: compact JSON, bytes with their type, or nothing
 abbrev pub shown_reply : Reply → ℕ → Shown
 shown_reply (replies.Object reply) step = shown_json (status_of reply.created) (compact_text (shown_data reply.object)) step
+shown_reply (replies.Properties reply) step = shown_json 200 (compact_text (properties_alone_data reply.object)) step
 shown_reply (replies.Included reply) step = shown_json 200 (compact_text (included_data reply)) step
 shown_reply (replies.Type reply) step = shown_json (status_of reply.created) (compact_text (definition_data reply)) step
 shown_reply (replies.Types reply) step = shown_json 200 (compact_text (types_data reply)) step

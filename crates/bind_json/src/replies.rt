@@ -8,6 +8,7 @@ use call_json::left::left_json;
 use call_json::renditions::reply_json;
 use call_json::updated::updated_objects_json;
 use call_parts::replies::ContentReply;
+use cm_base::body::Body;
 use cm_base::copies::Copies;
 use cm_base::shown::Shown;
 use cm_call::reply::Reply;
@@ -20,7 +21,7 @@ use include_json::rows::query_json;
 use include_json::tree::tree_json;
 use object_json::access::acl_json;
 use object_json::lists::objects_json;
-use object_json::objects::object_json;
+use object_json::objects::{object_json, properties_alone_json};
 use object_json::sent::{sent, shown_as, shown_nothing};
 use std::alloc::{AllocError, Global};
 use type_replies::info::info_reply_json;
@@ -39,8 +40,8 @@ fn shown_content(alloc: Global, reply: &ContentReply, number: u64) -> Result<Sho
         ≡ record { status = 200; kind = reply.now.kind; body = reply.now.body; number = Some number }) }
 {
     let kind = reply.kind.copied(alloc)?;
-    let body = reply.body.clone()?;
-    Ok(shown_as(200, kind, body, number))
+    let body = reply.body.copied(alloc)?;
+    Ok(shown_as(200, kind, Body::stream(body), number))
 }
 
 // What is sent of the removal of a tree: the ids that are left, if there are any.
@@ -63,6 +64,10 @@ pub fn text_of(alloc: Global, reply: &Reply, number: u64) -> Result<Shown, Alloc
         Reply::Object(reply) => {
             let json = object_json(alloc, &reply.object)?;
             sent(alloc, status_of(reply.created), json, number)
+        }
+        Reply::Properties(reply) => {
+            let json = properties_alone_json(alloc, &reply.object)?;
+            sent(alloc, 200, json, number)
         }
         Reply::Included(reply) => {
             let json = included_json(alloc, reply)?;

@@ -1,12 +1,11 @@
 -- What many calls have: the place.
-use Rattle.std.specs.Prelude.{ℕ, List, [], Option, Some, None}
-use Rattle.cm_base.specs.declared.argument.Argument.TheVariants as args
+use Rattle.std.specs.Prelude.{ℕ, List, [], Option, Some, None, codes}
 use Rattle.call_parts.specs.declared.place.Place.{Place}
 use Rattle.call_parts.specs.declared.place.Place.TheVariants as places
 use Rattle.request_target.specs.declared.target.Target.{Target}
 use Rattle.request_target.specs.declared.target.Target.TheVariants as targets
 use Rattle.bind_parts.specs.declared.asking.Asking.{Asking}
-use Rattle.form_args.specs.Pairs.{value_of}
+use Rattle.form_args.specs.Pairs.{first_of}
 
 -- the names on the path of an object
 abbrev pub names_in : Target → List (List ℕ)
@@ -20,4 +19,4 @@ place_by names None = places.Path names
 place_by names (Some id) = places.Id id
 
 abbrev pub place_of : Asking → Place
-place_of asking = place_by (names_in asking.address) (value_of asking.form.pairs args.ObjectId)
+place_of asking = place_by (names_in asking.address) (first_of asking.form.pairs (codes "objectId"))

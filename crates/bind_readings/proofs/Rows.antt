@@ -1,7 +1,6 @@
 -- Worked rows: what some texts ask for.
 use Rattle.std.proofs.Common.{◌≡◌, ℕ, List, [], ◌∷◌, Bool, true, false, refl}
 use Rattle.std.specs.Prelude.{codes, Ok, Err, Some, None}
-use Rattle.cm_base.specs.declared.argument.Argument.TheVariants as args
 use Rattle.cm_base.specs.declared.cause.Cause.TheVariants as causes
 use Rattle.order_parts.specs.declared.readings.SortSpecification.{SortSpecification}
 use Rattle.ql_lex.specs.Words.{keyword_of}
@@ -18,24 +17,28 @@ unfolding keyword_of
 row_directions = refl
 
 -- no name
-row_empty : order_by (Some []) ≡ Err (causes.BadArgument args.OrderBy)
+row_empty : order_by (Some []) ≡ Err (causes.BadArgument (codes "orderBy"))
 unfolding keyword_of
 row_empty = refl
 
--- blanks around an item
-row_blank_before : order_by (Some (codes "cmis:name, k:size")) ≡ Err (causes.BadArgument args.OrderBy)
+-- blanks around a comma, and none at an end
+row_blanks : order_by (Some (codes "cmis:name \t,  k:size desc")) ≡ Ok (by (codes "cmis:name") false ∷ by (codes "k:size") true ∷ [])
+unfolding keyword_of
+row_blanks = refl
+
+row_blank_before : order_by (Some (codes " cmis:name")) ≡ Err (causes.BadArgument (codes "orderBy"))
 unfolding keyword_of
 row_blank_before = refl
 
-row_blank_behind : order_by (Some (codes "cmis:name ASC ")) ≡ Err (causes.BadArgument args.OrderBy)
+row_blank_behind : order_by (Some (codes "cmis:name ASC ")) ≡ Err (causes.BadArgument (codes "orderBy"))
 unfolding keyword_of
 row_blank_behind = refl
 
-row_other_direction : order_by (Some (codes "cmis:name down")) ≡ Err (causes.BadArgument args.OrderBy)
+row_other_direction : order_by (Some (codes "cmis:name down")) ≡ Err (causes.BadArgument (codes "orderBy"))
 unfolding keyword_of
 row_other_direction = refl
 
 -- a keyword of the query language is no name
-row_keyword : order_by (Some (codes "asc")) ≡ Err (causes.BadArgument args.OrderBy)
+row_keyword : order_by (Some (codes "asc")) ≡ Err (causes.BadArgument (codes "orderBy"))
 unfolding keyword_of
 row_keyword = refl

@@ -1,8 +1,7 @@
 -- The rendition filter, as a text (CMIS 1.1, section 2.2.1.2.4.1).
 use Rattle.std.specs.Prelude.{ℕ, List, [], ◌∷◌, codes, bytes_eq, if◌then◌else◌, Option, Some, None}
-use Rattle.cm_base.specs.declared.argument.Argument.TheVariants as args
 use Rattle.form_args.specs.declared.pairs.Pair.{Pair}
-use Rattle.form_args.specs.Pairs.{value_of}
+use Rattle.form_args.specs.Pairs.{first_of}
 use Rattle.form_args.specs.Filter.{commas}
 use Rattle.rendition_parts.specs.declared.filter.RenditionFilter.{RenditionFilter}
 use Rattle.rendition_parts.specs.declared.filter.RenditionFilter.TheVariants as filters
@@ -25,8 +24,8 @@ filter_by default (Some text) = filter_read text
 
 -- with an object no renditions are shown where nothing is said
 abbrev pub included_filter : List Pair → RenditionFilter
-included_filter pairs = filter_by filters.None (value_of pairs args.RenditionFilter)
+included_filter pairs = filter_by filters.None (first_of pairs (codes "renditionFilter"))
 
 -- the selector renditions shows all where nothing is said
 abbrev pub listed_filter : List Pair → RenditionFilter
-listed_filter pairs = filter_by filters.All (value_of pairs args.RenditionFilter)
+listed_filter pairs = filter_by filters.All (first_of pairs (codes "renditionFilter"))

@@ -1,6 +1,5 @@
 -- What is to be shown of objects beside their properties, and which version, judged in their order (CMIS 1.1, section 5.4.2).
 use Rattle.std.specs.Prelude.{ℕ, List, codes, bytes_eq, false, if◌then◌else◌, Option, Some, None, Ok}
-use Rattle.cm_base.specs.declared.argument.Argument.TheVariants as args
 use Rattle.cm_base.specs.Judged.{Judged, ◌>>=◌}
 use Rattle.form_args.specs.declared.pairs.Pair.{Pair}
 use Rattle.form_args.specs.Single.{chosen, flag_of}
@@ -22,7 +21,7 @@ relationships_named word =
 
 -- none where nothing is said
 abbrev pub relationships_of : List Pair → Judged IncludeRelationships
-relationships_of pairs = chosen relationships_named pairs args.IncludeRelationships asks.Nothing
+relationships_of pairs = chosen relationships_named pairs (codes "includeRelationships") asks.Nothing
 
 -- which version a word names
 abbrev pub version_named : List ℕ → Option ReturnVersion
@@ -34,13 +33,13 @@ version_named word =
 
 -- the one that is addressed where nothing is said
 abbrev pub version_of : List Pair → Judged ReturnVersion
-version_of pairs = chosen version_named pairs args.ReturnVersion versions.This
+version_of pairs = chosen version_named pairs (codes "returnVersion") versions.This
 
 -- nothing where nothing is said; a rendition filter has no causes
 abbrev pub includes_of : List Pair → Judged Includes
 includes_of pairs = do
-  actions ← flag_of pairs args.IncludeAllowableActions false
+  actions ← flag_of pairs (codes "includeAllowableActions") false
   relationships ← relationships_of pairs
-  policy_ids ← flag_of pairs args.IncludePolicyIds false
-  acl ← flag_of pairs args.IncludeAcl false
+  policy_ids ← flag_of pairs (codes "includePolicyIds") false
+  acl ← flag_of pairs (codes "includeACL") false
   Ok (record { actions = actions; relationships = relationships; renditions = included_filter pairs; policy_ids = policy_ids; acl = acl })

@@ -1,12 +1,11 @@
 -- The arguments of relationships, judged in their order (CMIS 1.1, section 5.4.2).
 use Rattle.std.specs.Prelude.{ℕ, false, if◌then◌else◌, List, Option, Some, None, Ok, bytes_eq, codes}
-use Rattle.cm_base.specs.declared.argument.Argument.TheVariants as args
 use Rattle.cm_base.specs.Judged.{Judged, ◌>>=◌}
 use Rattle.relationship_parts.specs.declared.readings.Direction.{Direction}
 use Rattle.relationship_parts.specs.declared.readings.Direction.TheVariants as directions
 use Rattle.include_parts.specs.declared.readings.ShowRelationships.{ShowRelationships}
 use Rattle.form_args.specs.declared.pairs.Pair.{Pair}
-use Rattle.form_args.specs.Pairs.{value_of}
+use Rattle.form_args.specs.Pairs.{first_of}
 use Rattle.form_args.specs.Single.{chosen, flag_of, number_of}
 use Rattle.form_args.specs.Filter.{filter_of}
 use Rattle.bind_parts.specs.declared.asking.Asking.{Asking}
@@ -23,25 +22,25 @@ direction_named word =
 
 -- as the source where nothing is said
 abbrev pub direction_of : List Pair → Judged Direction
-direction_of pairs = chosen direction_named pairs args.RelationshipDirection directions.Source
+direction_of pairs = chosen direction_named pairs (codes "relationshipDirection") directions.Source
 
 -- 100 items where nothing is said; both segments, which mean something in other readings of lists, are judged alone
 abbrev pub relationships_of : Asking → Judged ShowRelationships
 relationships_of asking = do
-  succinct ← flag_of asking.form.pairs args.Succinct false
+  succinct ← flag_of asking.form.pairs (codes "succinct") false
   includes ← includes_of asking.form.pairs
   filter ← filter_of asking.form.pairs
-  most ← number_of asking.form.pairs args.MaxItems 100
-  skip ← number_of asking.form.pairs args.SkipCount 0
-  segments ← flag_of asking.form.pairs args.IncludePathSegment false
-  relative_segments ← flag_of asking.form.pairs args.IncludeRelativePathSegment false
+  most ← number_of asking.form.pairs (codes "maxItems") 100
+  skip ← number_of asking.form.pairs (codes "skipCount") 0
+  segments ← flag_of asking.form.pairs (codes "includePathSegment") false
+  relative_segments ← flag_of asking.form.pairs (codes "includeRelativePathSegment") false
   direction ← direction_of asking.form.pairs
-  with_subtypes ← flag_of asking.form.pairs args.IncludeSubRelationshipTypes false
+  with_subtypes ← flag_of asking.form.pairs (codes "includeSubRelationshipTypes") false
   Ok (record {
     relationships = record {
       place = place_of asking;
       direction = direction;
-      kind = value_of asking.form.pairs args.TypeId;
+      kind = first_of asking.form.pairs (codes "typeId");
       with_subtypes = with_subtypes;
       filter = filter;
       max_items = most;

@@ -1,6 +1,5 @@
 -- The arguments of descendants, folderTree and checkedout, judged in their order (CMIS 1.1, section 5.4.2).
-use Rattle.std.specs.Prelude.{Bool, true, false, List, Option, Some, None, Ok}
-use Rattle.cm_base.specs.declared.argument.Argument.TheVariants as args
+use Rattle.std.specs.Prelude.{Bool, true, false, List, Option, Some, None, Ok, codes}
 use Rattle.cm_base.specs.Judged.{Judged, ◌>>=◌}
 use Rattle.call_parts.specs.declared.place.Place.{Place}
 use Rattle.type_parts.specs.declared.readings.Depth.{Depth}
@@ -22,17 +21,17 @@ use Rattle.bind_readings.specs.Order.{order_of}
 
 -- two levels where nothing is said
 abbrev pub tree_depth : List Pair → Judged Depth
-tree_depth pairs = chosen depth_of_word pairs args.Depth (depths.Levels 2)
+tree_depth pairs = chosen depth_of_word pairs (codes "depth") (depths.Levels 2)
 
 -- includeRelativePathSegment, which means something in other readings of lists, is judged alone
 abbrev pub tree_of : Bool → Asking → Judged ShowTree
 tree_of folders_only asking = do
-  succinct ← flag_of asking.form.pairs args.Succinct false
+  succinct ← flag_of asking.form.pairs (codes "succinct") false
   includes ← includes_of asking.form.pairs
   filter ← filter_of asking.form.pairs
   depth ← tree_depth asking.form.pairs
-  segments ← flag_of asking.form.pairs args.IncludePathSegment false
-  relative_segments ← flag_of asking.form.pairs args.IncludeRelativePathSegment false
+  segments ← flag_of asking.form.pairs (codes "includePathSegment") false
+  relative_segments ← flag_of asking.form.pairs (codes "includeRelativePathSegment") false
   Ok (record {
     tree = record { place = place_of asking; filter = filter; depth = depth; segments = segments; succinct = succinct; folders_only = folders_only };
     includes = includes;
@@ -58,14 +57,14 @@ folder_of asking = folder_by asking.address (place_of asking)
 -- 100 items where nothing is said; both segments, which mean something in other readings of lists, are judged alone
 abbrev pub checked_out_of : Asking → Judged ShowCheckedOut
 checked_out_of asking = do
-  succinct ← flag_of asking.form.pairs args.Succinct false
+  succinct ← flag_of asking.form.pairs (codes "succinct") false
   includes ← includes_of asking.form.pairs
   filter ← filter_of asking.form.pairs
-  most ← number_of asking.form.pairs args.MaxItems 100
-  skip ← number_of asking.form.pairs args.SkipCount 0
+  most ← number_of asking.form.pairs (codes "maxItems") 100
+  skip ← number_of asking.form.pairs (codes "skipCount") 0
   order ← order_of asking.form.pairs
-  segments ← flag_of asking.form.pairs args.IncludePathSegment false
-  relative_segments ← flag_of asking.form.pairs args.IncludeRelativePathSegment false
+  segments ← flag_of asking.form.pairs (codes "includePathSegment") false
+  relative_segments ← flag_of asking.form.pairs (codes "includeRelativePathSegment") false
   Ok (record {
     checked_out = record { place = folder_of asking; filter = filter; max_items = most; skip_count = skip; succinct = succinct };
     order = order;

@@ -6,9 +6,9 @@ ghost use Rattle.bind_readings.specs.Access.{acl_of, parent_of, policies_of};
 use bind_parts::asking::Asking;
 use bind_parts::parts::place_of;
 use call_parts::readings::{ReadAcl, ReadParent, ReadPolicies};
-use cm_base::argument::Argument;
 use cm_base::fail::Fail;
 use form_args::choice::flag;
+use form_args::words::SUCCINCT;
 use std::alloc::Global;
 
 /// The question of the selector parent, or the first cause of its arguments.
@@ -16,7 +16,7 @@ use std::alloc::Global;
 pub fn parent_of(alloc: Global, asking: &Asking) -> Result<ReadParent, Fail>
     ensures { Meets (λ c. c) result (parent_of asking.now) }
 {
-    let succinct = flag(&asking.form.pairs, Argument::Succinct, false)?;
+    let succinct = flag(&asking.form.pairs, SUCCINCT, false)?;
     let place = place_of(alloc, asking)?;
     Ok(ReadParent { place, succinct })
 }
@@ -26,7 +26,7 @@ pub fn parent_of(alloc: Global, asking: &Asking) -> Result<ReadParent, Fail>
 pub fn policies_of(alloc: Global, asking: &Asking) -> Result<ReadPolicies, Fail>
     ensures { Meets (λ c. c) result (policies_of asking.now) }
 {
-    let succinct = flag(&asking.form.pairs, Argument::Succinct, false)?;
+    let succinct = flag(&asking.form.pairs, SUCCINCT, false)?;
     let place = place_of(alloc, asking)?;
     Ok(ReadPolicies { place, succinct })
 }

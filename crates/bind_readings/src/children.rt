@@ -5,14 +5,15 @@ ghost use Rattle.bind_readings.specs.Children.{show_children_of, show_default_of
 
 use crate::includes::{includes_of, version_of};
 use crate::order::order_of;
+use crate::words::{INCLUDE_PATH_SEGMENT, INCLUDE_RELATIVE_PATH_SEGMENT, MAX_ITEMS, SKIP_COUNT};
 use bind_parts::asking::Asking;
 use bind_parts::parts::{place_of, text_of};
-use call_parts::readings::ReadChildren;
-use cm_base::argument::Argument;
+use call_parts::readings::{ReadChildren, STREAM_ID};
 use cm_base::fail::Fail;
 use form_args::choice::flag;
 use form_args::filter::property_filter;
 use form_args::number::number;
+use form_args::words::SUCCINCT;
 use include_parts::readings::{ShowChildren, ShowDefault};
 use std::alloc::Global;
 
@@ -23,14 +24,14 @@ pub fn show_children_of(alloc: Global, asking: &Asking) -> Result<ShowChildren, 
     ensures { Meets (λ c. c) result (show_children_of asking.now) }
 {
     let pairs = &asking.form.pairs;
-    let succinct = flag(pairs, Argument::Succinct, false)?;
+    let succinct = flag(pairs, SUCCINCT, false)?;
     let includes = includes_of(alloc, pairs)?;
     let filter = property_filter(alloc, pairs)?;
-    let max_items = number(pairs, Argument::MaxItems, 100)?;
-    let skip_count = number(pairs, Argument::SkipCount, 0)?;
+    let max_items = number(pairs, MAX_ITEMS, 100)?;
+    let skip_count = number(pairs, SKIP_COUNT, 0)?;
     let order = order_of(alloc, pairs)?;
-    let segments = flag(pairs, Argument::IncludePathSegment, false)?;
-    let _judged = flag(pairs, Argument::IncludeRelativePathSegment, false)?;
+    let segments = flag(pairs, INCLUDE_PATH_SEGMENT, false)?;
+    let _judged = flag(pairs, INCLUDE_RELATIVE_PATH_SEGMENT, false)?;
     let place = place_of(alloc, asking)?;
     Ok(ShowChildren {
         children: ReadChildren {
@@ -55,6 +56,6 @@ pub fn show_default_of(alloc: Global, asking: &Asking) -> Result<ShowDefault, Fa
     let pairs = &asking.form.pairs;
     let children = show_children_of(alloc, asking)?;
     let _judged = version_of(pairs)?;
-    let stream = text_of(alloc, pairs, Argument::StreamId)?;
+    let stream = text_of(alloc, pairs, STREAM_ID)?;
     Ok(ShowDefault { children, stream })
 }

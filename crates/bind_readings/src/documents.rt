@@ -5,8 +5,7 @@ ghost use Rattle.bind_readings.specs.Documents.{content_of};
 
 use bind_parts::asking::Asking;
 use bind_parts::parts::{place_of, text_of};
-use call_parts::readings::ReadContent;
-use cm_base::argument::Argument;
+use call_parts::readings::{ReadContent, STREAM_ID};
 use cm_base::fail::Fail;
 use std::alloc::Global;
 
@@ -15,6 +14,6 @@ pub fn content_of(alloc: Global, asking: &Asking) -> Result<ReadContent, Fail>
     ensures { Meets (λ c. c) result (content_of asking.now) }
 {
     let place = place_of(alloc, asking)?;
-    let stream = text_of(alloc, &asking.form.pairs, Argument::StreamId)?;
+    let stream = text_of(alloc, &asking.form.pairs, STREAM_ID)?;
     Ok(ReadContent { place, stream })
 }

@@ -1,20 +1,15 @@
 //! The rendition filter (CMIS 1.1, section 2.2.1.2.4.1).
 ghost use Rattle.std.specs.Prelude.{◌≡◌, IfOk, map, option_map};
-ghost use Rattle.form_args.specs.Filter.{commas};
 ghost use Rattle.bind_readings.specs.Filters.{filter_by, filter_read, included_filter, items_in, listed_filter};
 
-use cm_base::argument::Argument;
 use cm_base::items::Items;
 use cm_base::text::{Text, Texts};
+use form_args::filter::commas;
 use form_args::pairs::Pairs;
 use rendition_parts::filter::RenditionFilter;
 use std::alloc::{AllocError, Global};
 
-fn commas<'a>(alloc: Global, text: &'a str) -> Result<Vec<&'a str>, AllocError>
-    ensures { IfOk result (λ v. map (λ x. x.now) v.items ≡ commas text.now) }
-{
-    text.split(',').collect(alloc)
-}
+const RENDITION_FILTER: &str = "renditionFilter";
 
 fn texts_of(alloc: Global, pieces: &[&str]) -> Result<Texts, AllocError>
     ensures { IfOk result (λ all. all ≡ map (λ x. x.now) pieces.now) }
@@ -68,20 +63,12 @@ fn filter_by(
 pub fn included_filter(alloc: Global, pairs: &Pairs) -> Result<RenditionFilter, AllocError>
     ensures { IfOk result (λ f. f ≡ included_filter pairs.now) }
 {
-    filter_by(
-        alloc,
-        RenditionFilter::None,
-        pairs.first(Argument::RenditionFilter.word()),
-    )
+    filter_by(alloc, RenditionFilter::None, pairs.first(RENDITION_FILTER))
 }
 
 /// The filter of the selector renditions: all where nothing is said.
 pub fn listed_filter(alloc: Global, pairs: &Pairs) -> Result<RenditionFilter, AllocError>
     ensures { IfOk result (λ f. f ≡ listed_filter pairs.now) }
 {
-    filter_by(
-        alloc,
-        RenditionFilter::All,
-        pairs.first(Argument::RenditionFilter.word()),
-    )
+    filter_by(alloc, RenditionFilter::All, pairs.first(RENDITION_FILTER))
 }

@@ -12,6 +12,16 @@ use form_args::pairs::Pairs;
 use include_parts::readings::{IncludeRelationships, Includes, ReturnVersion};
 use std::alloc::Global;
 
+const INCLUDE_ACL: &str = "includeACL";
+
+const INCLUDE_ALLOWABLE_ACTIONS: &str = "includeAllowableActions";
+
+const INCLUDE_POLICY_IDS: &str = "includePolicyIds";
+
+const INCLUDE_RELATIONSHIPS: &str = "includeRelationships";
+
+const RETURN_VERSION: &str = "returnVersion";
+
 fn relationships_named(word: &str) -> Option<IncludeRelationships>
     ensures { result ≡ relationships_named word.now }
 {
@@ -31,11 +41,11 @@ fn relationships_named(word: &str) -> Option<IncludeRelationships>
 fn relationships_of(pairs: &Pairs) -> Result<IncludeRelationships, Cause>
     ensures { result ≡ relationships_of pairs.now }
 {
-    match pairs.first(Argument::IncludeRelationships.word()) {
+    match pairs.first(INCLUDE_RELATIONSHIPS) {
         None => Ok(IncludeRelationships::Nothing),
         Some(word) => match relationships_named(word.as_str()) {
             Some(relationships) => Ok(relationships),
-            None => Err(Cause::BadArgument(Argument::IncludeRelationships)),
+            None => Err(Cause::BadArgument(Argument::named(INCLUDE_RELATIONSHIPS))),
         },
     }
 }
@@ -58,11 +68,11 @@ fn version_named(word: &str) -> Option<ReturnVersion>
 pub fn version_of(pairs: &Pairs) -> Result<ReturnVersion, Cause>
     ensures { result ≡ version_of pairs.now }
 {
-    match pairs.first(Argument::ReturnVersion.word()) {
+    match pairs.first(RETURN_VERSION) {
         None => Ok(ReturnVersion::This),
         Some(word) => match version_named(word.as_str()) {
             Some(version) => Ok(version),
-            None => Err(Cause::BadArgument(Argument::ReturnVersion)),
+            None => Err(Cause::BadArgument(Argument::named(RETURN_VERSION))),
         },
     }
 }
@@ -72,10 +82,10 @@ pub fn version_of(pairs: &Pairs) -> Result<ReturnVersion, Cause>
 pub fn includes_of(alloc: Global, pairs: &Pairs) -> Result<Includes, Fail>
     ensures { Meets (λ i. i) result (includes_of pairs.now) }
 {
-    let actions = flag(pairs, Argument::IncludeAllowableActions, false)?;
+    let actions = flag(pairs, INCLUDE_ALLOWABLE_ACTIONS, false)?;
     let relationships = relationships_of(pairs)?;
-    let policy_ids = flag(pairs, Argument::IncludePolicyIds, false)?;
-    let acl = flag(pairs, Argument::IncludeAcl, false)?;
+    let policy_ids = flag(pairs, INCLUDE_POLICY_IDS, false)?;
+    let acl = flag(pairs, INCLUDE_ACL, false)?;
     let renditions = included_filter(alloc, pairs)?;
     Ok(Includes {
         actions,

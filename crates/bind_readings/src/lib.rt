@@ -20,3 +20,4 @@ pub mod relationships;
 pub mod renditions;
 pub mod trees;
 pub mod types;
+mod words;

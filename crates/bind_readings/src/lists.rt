@@ -4,13 +4,14 @@ ghost use Rattle.cm_base.specs.Judged.{Meets};
 ghost use Rattle.bind_readings.specs.Lists.{show_parents_of, show_versions_of};
 
 use crate::includes::includes_of;
+use crate::words::{INCLUDE_PATH_SEGMENT, INCLUDE_RELATIVE_PATH_SEGMENT};
 use bind_parts::asking::Asking;
 use bind_parts::parts::place_of;
 use call_parts::readings::{ReadParents, ReadVersions};
-use cm_base::argument::Argument;
 use cm_base::fail::Fail;
 use form_args::choice::flag;
 use form_args::filter::property_filter;
+use form_args::words::SUCCINCT;
 use include_parts::readings::{ShowParents, ShowVersions};
 use std::alloc::Global;
 
@@ -21,11 +22,11 @@ pub fn show_versions_of(alloc: Global, asking: &Asking) -> Result<ShowVersions, 
     ensures { Meets (λ c. c) result (show_versions_of asking.now) }
 {
     let pairs = &asking.form.pairs;
-    let succinct = flag(pairs, Argument::Succinct, false)?;
+    let succinct = flag(pairs, SUCCINCT, false)?;
     let includes = includes_of(alloc, pairs)?;
     let filter = property_filter(alloc, pairs)?;
-    let _judged = flag(pairs, Argument::IncludePathSegment, false)?;
-    let _judged_too = flag(pairs, Argument::IncludeRelativePathSegment, false)?;
+    let _judged = flag(pairs, INCLUDE_PATH_SEGMENT, false)?;
+    let _judged_too = flag(pairs, INCLUDE_RELATIVE_PATH_SEGMENT, false)?;
     let place = place_of(alloc, asking)?;
     Ok(ShowVersions {
         versions: ReadVersions {
@@ -44,11 +45,11 @@ pub fn show_parents_of(alloc: Global, asking: &Asking) -> Result<ShowParents, Fa
     ensures { Meets (λ c. c) result (show_parents_of asking.now) }
 {
     let pairs = &asking.form.pairs;
-    let succinct = flag(pairs, Argument::Succinct, false)?;
+    let succinct = flag(pairs, SUCCINCT, false)?;
     let includes = includes_of(alloc, pairs)?;
     let filter = property_filter(alloc, pairs)?;
-    let _judged_path = flag(pairs, Argument::IncludePathSegment, false)?;
-    let segments = flag(pairs, Argument::IncludeRelativePathSegment, false)?;
+    let _judged_path = flag(pairs, INCLUDE_PATH_SEGMENT, false)?;
+    let segments = flag(pairs, INCLUDE_RELATIVE_PATH_SEGMENT, false)?;
     let place = place_of(alloc, asking)?;
     Ok(ShowParents {
         parents: ReadParents {

@@ -7,10 +7,10 @@ use crate::includes::{includes_of, version_of};
 use bind_parts::asking::Asking;
 use bind_parts::parts::place_of;
 use call_parts::readings::{ReadObject, ReadProperties};
-use cm_base::argument::Argument;
 use cm_base::fail::Fail;
 use form_args::choice::flag;
 use form_args::filter::property_filter;
+use form_args::words::SUCCINCT;
 use include_parts::readings::{ShowObject, ShowProperties};
 use std::alloc::Global;
 
@@ -20,7 +20,7 @@ pub fn show_object_of(alloc: Global, asking: &Asking) -> Result<ShowObject, Fail
     ensures { Meets (λ c. c) result (show_object_of asking.now) }
 {
     let pairs = &asking.form.pairs;
-    let succinct = flag(pairs, Argument::Succinct, false)?;
+    let succinct = flag(pairs, SUCCINCT, false)?;
     let filter = property_filter(alloc, pairs)?;
     let version = version_of(pairs)?;
     let includes = includes_of(alloc, pairs)?;
@@ -42,7 +42,7 @@ pub fn show_properties_of(alloc: Global, asking: &Asking) -> Result<ShowProperti
     ensures { Meets (λ c. c) result (show_properties_of asking.now) }
 {
     let pairs = &asking.form.pairs;
-    let succinct = flag(pairs, Argument::Succinct, false)?;
+    let succinct = flag(pairs, SUCCINCT, false)?;
     let filter = property_filter(alloc, pairs)?;
     let version = version_of(pairs)?;
     let place = place_of(alloc, asking)?;

@@ -2,6 +2,7 @@
 ghost use Rattle.std.specs.Prelude.{◌≡◌};
 ghost use Rattle.bind_readings.specs.Types.{levels, depth_of_word, depth_of, options_of};
 
+use crate::words::{DEPTH, MAX_ITEMS, SKIP_COUNT};
 use cm_base::argument::Argument;
 use cm_base::cause::Cause;
 use cm_base::decimal::read_u64;
@@ -9,6 +10,8 @@ use form_args::choice::flag;
 use form_args::number::number;
 use form_args::pairs::Pairs;
 use type_parts::readings::Depth;
+
+const INCLUDE_PROPERTY_DEFINITIONS: &str = "includePropertyDefinitions";
 
 /// What is given beside the type's id.
 #[derive(Clone, Copy, Debug, PartialEq, Eq)]
@@ -45,11 +48,11 @@ pub fn depth_of_word(word: &str) -> Option<Depth>
 fn depth_of(pairs: &Pairs) -> Result<Depth, Cause>
     ensures { result ≡ depth_of pairs.now }
 {
-    match pairs.first(Argument::Depth.word()) {
+    match pairs.first(DEPTH) {
         None => Ok(Depth::All),
         Some(word) => match depth_of_word(word.as_str()) {
             Some(depth) => Ok(depth),
-            None => Err(Cause::BadArgument(Argument::Depth)),
+            None => Err(Cause::BadArgument(Argument::named(DEPTH))),
         },
     }
 }
@@ -59,9 +62,9 @@ fn depth_of(pairs: &Pairs) -> Result<Depth, Cause>
 pub fn options_of(pairs: &Pairs) -> Result<TypeOptions, Cause>
     ensures { result ≡ options_of pairs.now }
 {
-    let property_definitions = flag(pairs, Argument::IncludePropertyDefinitions, false)?;
-    let max_items = number(pairs, Argument::MaxItems, 100)?;
-    let skip_count = number(pairs, Argument::SkipCount, 0)?;
+    let property_definitions = flag(pairs, INCLUDE_PROPERTY_DEFINITIONS, false)?;
+    let max_items = number(pairs, MAX_ITEMS, 100)?;
+    let skip_count = number(pairs, SKIP_COUNT, 0)?;
     let depth = depth_of(pairs)?;
     Ok(TypeOptions {
         property_definitions,

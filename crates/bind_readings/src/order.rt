@@ -1,66 +1,41 @@
 //! The argument orderBy.
-ghost use Rattle.std.specs.Prelude.{◌≡◌, ◌++◌, [], map, IfOk, OnOk, option_map};
-ghost use Rattle.std.specs.List.{flat_map};
+ghost use Rattle.std.specs.Prelude.{◌≡◌, [], map, IfOk, option_and_then, option_map};
 ghost use Rattle.cm_base.specs.Judged.{Meets};
-ghost use Rattle.form_args.specs.Filter.{commas, each_onto, has_bytes, spaces, tabs};
-ghost use Rattle.bind_readings.specs.Order.{between_blanks, direction_behind, direction_of, is_descending, last_direction, named, order_by, order_of, read_specification, specification_by, specification_in};
+ghost use Rattle.form_args.specs.Filter.{commas, each_onto, words};
+ghost use Rattle.bind_readings.specs.Order.{direction_of, has_blank_at, has_blank_end, is_blank, is_descending, named, order_by, order_of, read_order, read_specification, specification_in};
 
 use cm_base::argument::Argument;
 use cm_base::cause::Cause;
 use cm_base::fail::Fail;
 use cm_base::items::Items;
 use cm_base::text::Text;
+use form_args::filter::{commas, words};
 use form_args::pairs::Pairs;
-use order_parts::readings::{SortSpecification, SortSpecifications};
+use order_parts::readings::{ORDER_BY, SortSpecification, SortSpecifications};
 use ql_lex::word::{Word, keyword_of};
 use std::alloc::{AllocError, Global};
 use type_keys::word::is_query_name;
 
-fn commas<'a>(alloc: Global, text: &'a str) -> Result<Vec<&'a str>, AllocError>
-    ensures { IfOk result (λ v. map (λ x. x.now) v.items ≡ commas text.now) }
+fn is_blank(byte: u8) -> bool
+    ensures { result ≡ is_blank byte }
 {
-    text.split(',').collect(alloc)
+    byte == b' ' || byte == b'\t'
 }
 
-fn spaces<'a>(alloc: Global, text: &'a str) -> Result<Vec<&'a str>, AllocError>
-    ensures { IfOk result (λ v. map (λ x. x.now) v.items ≡ spaces text.now) }
+fn has_blank_at(bytes: &[u8], place: usize) -> bool
+    ensures { result ≡ has_blank_at bytes.now place }
 {
-    text.split(' ').collect(alloc)
-}
-
-fn tabs<'a>(alloc: Global, text: &'a str) -> Result<Vec<&'a str>, AllocError>
-    ensures { IfOk result (λ v. map (λ x. x.now) v.items ≡ tabs text.now) }
-{
-    text.split('\t').collect(alloc)
-}
-
-fn add_all<'a>(parts: &mut Vec<&'a str>, more: &[&'a str]) -> Result<(), AllocError>
-    ensures { OnOk result (map (λ x. x.now) parts.new.items
-        ≡ map (λ x. x.now) parts.old.items ++ map (λ x. x.now) more.now) }
-{
-    for part in more {
-        parts.push(*part)?;
+    match bytes.get(place) {
+        Some(byte) => is_blank(*byte),
+        None => false,
     }
-    Ok(())
 }
 
-fn between_tabs<'a>(alloc: Global, texts: &[&'a str]) -> Result<Vec<&'a str>, AllocError>
-    ensures { IfOk result (λ v. map (λ x. x.now) v.items ≡ flat_map tabs (map (λ x. x.now) texts.now)) }
+fn has_blank_end(text: &str) -> bool
+    ensures { result ≡ has_blank_end text.now }
 {
-    let mut parts = Vec::new(alloc);
-    for text in texts {
-        let more = tabs(alloc, text)?;
-        add_all(&mut parts, &more)?;
-    }
-    Ok(parts)
-}
-
-// What stands between the blanks of a text.
-fn between_blanks<'a>(alloc: Global, text: &'a str) -> Result<Vec<&'a str>, AllocError>
-    ensures { IfOk result (λ v. map (λ x. x.now) v.items ≡ between_blanks text.now) }
-{
-    let texts = spaces(alloc, text)?;
-    between_tabs(alloc, &texts)
+    let bytes = text.as_bytes();
+    has_blank_at(bytes, 0) || has_blank_at(bytes, bytes.len().saturating_sub(1))
 }
 
 fn is_descending(word: Word) -> Option<bool>
@@ -82,30 +57,6 @@ fn direction_of(text: &str) -> Option<bool>
     }
 }
 
-fn last_direction(word: &str, more: &[&str]) -> Option<bool>
-    ensures { result ≡ last_direction word.now (map (λ x. x.now) more.now) }
-{
-    match more {
-        [] => direction_of(word),
-        [_, ..] => None,
-    }
-}
-
-fn direction_behind(parts: &[&str]) -> Option<bool>
-    ensures { result ≡ direction_behind (map (λ x. x.now) parts.now) }
-{
-    match parts {
-        [] => None,
-        [word, more @ ..] => {
-            if word.is_empty() {
-                direction_behind(more)
-            } else {
-                last_direction(word, more)
-            }
-        }
-    }
-}
-
 fn named(
     alloc: Global,
     name: &str,
@@ -123,46 +74,44 @@ fn named(
     }))
 }
 
-fn specification_by(
+fn with_direction(
     alloc: Global,
     name: &str,
-    more: &[&str],
+    direction: &str,
 ) -> Result<Option<SortSpecification>, AllocError>
-    ensures { IfOk result (λ s. s ≡ specification_by name.now (map (λ x. x.now) more.now)) }
+    ensures { IfOk result (λ s. s ≡ option_and_then (named name.now) (direction_of direction.now)) }
 {
-    match more {
-        [] => named(alloc, name, false),
-        [_, ..] => match direction_behind(more) {
-            Some(descending) => named(alloc, name, descending),
-            None => Ok(None),
-        },
+    match direction_of(direction) {
+        Some(descending) => named(alloc, name, descending),
+        None => Ok(None),
     }
 }
 
-fn specification_in(alloc: Global, parts: &[&str]) -> Result<Option<SortSpecification>, AllocError>
-    ensures { IfOk result (λ s. s ≡ specification_in (map (λ x. x.now) parts.now)) }
+fn specification_in(alloc: Global, words: &[&str]) -> Result<Option<SortSpecification>, AllocError>
+    ensures { IfOk result (λ s. s ≡ specification_in (map (λ x. x.now) words.now)) }
 {
-    match parts {
-        [] => Ok(None),
-        [name, more @ ..] => specification_by(alloc, name, more),
+    match words {
+        [name] => named(alloc, name, false),
+        [name, direction] => with_direction(alloc, name, direction),
+        _ => Ok(None),
     }
 }
 
-fn specification_of(alloc: Global, text: &str) -> Result<Option<SortSpecification>, AllocError>
-    ensures { IfOk result (λ s. s ≡ specification_in (between_blanks text.now)) }
+fn specification_of(alloc: Global, item: &str) -> Result<Option<SortSpecification>, AllocError>
+    ensures { IfOk result (λ s. s ≡ specification_in (words item.now)) }
 {
-    let parts = between_blanks(alloc, text)?;
-    let specification = specification_in(alloc, &parts)?;
+    let words = words(alloc, item)?;
+    let specification = specification_in(alloc, &words)?;
     Ok(specification)
 }
 
-fn read_specification(alloc: Global, text: &str) -> Result<SortSpecification, Fail>
-    ensures { Meets (λ s. s) result (read_specification text.now) }
+fn read_specification(alloc: Global, item: &str) -> Result<SortSpecification, Fail>
+    ensures { Meets (λ s. s) result (read_specification item.now) }
 {
-    let found = specification_of(alloc, text)?;
+    let found = specification_of(alloc, item)?;
     match found {
         Some(specification) => Ok(specification),
-        None => Err(Fail::Refused(Cause::BadArgument(Argument::OrderBy))),
+        None => Err(Fail::Refused(Cause::BadArgument(Argument::named(ORDER_BY)))),
     }
 }
 
@@ -177,12 +126,22 @@ fn specifications_in(alloc: Global, texts: &[&str]) -> Result<SortSpecifications
     Ok(Items::from_vec(all))
 }
 
-fn read_order(alloc: Global, text: &str) -> Result<SortSpecifications, Fail>
+fn read_items(alloc: Global, text: &str) -> Result<SortSpecifications, Fail>
     ensures { Meets (λ all. all) result (each_onto read_specification [] (commas text.now)) }
 {
-    let texts = commas(alloc, text)?;
-    let all = specifications_in(alloc, &texts)?;
+    let items = commas(alloc, text)?;
+    let all = specifications_in(alloc, &items)?;
     Ok(all)
+}
+
+fn read_order(alloc: Global, text: &str) -> Result<SortSpecifications, Fail>
+    ensures { Meets (λ all. all) result (read_order text.now) }
+{
+    if has_blank_end(text) {
+        Err(Fail::Refused(Cause::BadArgument(Argument::named(ORDER_BY))))
+    } else {
+        read_items(alloc, text)
+    }
 }
 
 fn order_by(alloc: Global, given: Option<&Text>) -> Result<SortSpecifications, Fail>
@@ -195,9 +154,9 @@ fn order_by(alloc: Global, given: Option<&Text>) -> Result<SortSpecifications, F
 }
 
 /// The order that is asked for: none, or a comma list of query names, each with ASC or DESC behind it perhaps, in any case of their
-/// letters. Blanks stand between a name and its direction alone. Another form is BadArgument `orderBy`.
+/// letters. Blanks stand between a name and its direction, and around the commas. Another form is BadArgument `orderBy`.
 pub fn order_of(alloc: Global, pairs: &Pairs) -> Result<SortSpecifications, Fail>
     ensures { Meets (λ all. all) result (order_of pairs.now) }
 {
-    order_by(alloc, pairs.first(Argument::OrderBy.word()))
+    order_by(alloc, pairs.first(ORDER_BY))
 }

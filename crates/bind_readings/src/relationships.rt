@@ -4,6 +4,7 @@ ghost use Rattle.cm_base.specs.Judged.{Meets};
 ghost use Rattle.bind_readings.specs.Relationships.{direction_named, direction_of, relationships_of};
 
 use crate::includes::includes_of;
+use crate::words::{INCLUDE_PATH_SEGMENT, INCLUDE_RELATIVE_PATH_SEGMENT, MAX_ITEMS, SKIP_COUNT};
 use bind_parts::asking::Asking;
 use bind_parts::parts::{place_of, text_of};
 use cm_base::argument::Argument;
@@ -13,9 +14,14 @@ use form_args::choice::flag;
 use form_args::filter::property_filter;
 use form_args::number::number;
 use form_args::pairs::Pairs;
+use form_args::words::{SUCCINCT, TYPE_ID};
 use include_parts::readings::ShowRelationships;
 use relationship_parts::readings::{Direction, ReadRelationships};
 use std::alloc::Global;
+
+const INCLUDE_SUB_RELATIONSHIP_TYPES: &str = "includeSubRelationshipTypes";
+
+const RELATIONSHIP_DIRECTION: &str = "relationshipDirection";
 
 fn direction_named(word: &str) -> Option<Direction>
     ensures { result ≡ direction_named word.now }
@@ -34,11 +40,11 @@ fn direction_named(word: &str) -> Option<Direction>
 fn direction_of(pairs: &Pairs) -> Result<Direction, Cause>
     ensures { result ≡ direction_of pairs.now }
 {
-    match pairs.first(Argument::RelationshipDirection.word()) {
+    match pairs.first(RELATIONSHIP_DIRECTION) {
         None => Ok(Direction::Source),
         Some(word) => match direction_named(word.as_str()) {
             Some(direction) => Ok(direction),
-            None => Err(Cause::BadArgument(Argument::RelationshipDirection)),
+            None => Err(Cause::BadArgument(Argument::named(RELATIONSHIP_DIRECTION))),
         },
     }
 }
@@ -50,16 +56,16 @@ pub fn relationships_of(alloc: Global, asking: &Asking) -> Result<ShowRelationsh
     ensures { Meets (λ c. c) result (relationships_of asking.now) }
 {
     let pairs = &asking.form.pairs;
-    let succinct = flag(pairs, Argument::Succinct, false)?;
+    let succinct = flag(pairs, SUCCINCT, false)?;
     let includes = includes_of(alloc, pairs)?;
     let filter = property_filter(alloc, pairs)?;
-    let max_items = number(pairs, Argument::MaxItems, 100)?;
-    let skip_count = number(pairs, Argument::SkipCount, 0)?;
-    let _judged = flag(pairs, Argument::IncludePathSegment, false)?;
-    let _judged_too = flag(pairs, Argument::IncludeRelativePathSegment, false)?;
+    let max_items = number(pairs, MAX_ITEMS, 100)?;
+    let skip_count = number(pairs, SKIP_COUNT, 0)?;
+    let _judged = flag(pairs, INCLUDE_PATH_SEGMENT, false)?;
+    let _judged_too = flag(pairs, INCLUDE_RELATIVE_PATH_SEGMENT, false)?;
     let direction = direction_of(pairs)?;
-    let with_subtypes = flag(pairs, Argument::IncludeSubRelationshipTypes, false)?;
-    let kind = text_of(alloc, pairs, Argument::TypeId)?;
+    let with_subtypes = flag(pairs, INCLUDE_SUB_RELATIONSHIP_TYPES, false)?;
+    let kind = text_of(alloc, pairs, TYPE_ID)?;
     let place = place_of(alloc, asking)?;
     Ok(ShowRelationships {
         relationships: ReadRelationships {

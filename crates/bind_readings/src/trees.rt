@@ -6,6 +6,9 @@ ghost use Rattle.bind_readings.specs.Trees.{checked_out_of, descendants_of, fold
 use crate::includes::includes_of;
 use crate::options::depth_of_word;
 use crate::order::order_of;
+use crate::words::{
+    DEPTH, INCLUDE_PATH_SEGMENT, INCLUDE_RELATIVE_PATH_SEGMENT, MAX_ITEMS, SKIP_COUNT,
+};
 use bind_parts::asking::Asking;
 use bind_parts::parts::place_of;
 use call_parts::place::Place;
@@ -16,6 +19,7 @@ use form_args::choice::flag;
 use form_args::filter::property_filter;
 use form_args::number::number;
 use form_args::pairs::Pairs;
+use form_args::words::SUCCINCT;
 use include_parts::readings::{ShowCheckedOut, ShowTree};
 use request_target::target::Target;
 use std::alloc::{AllocError, Global};
@@ -25,11 +29,11 @@ use type_parts::readings::Depth;
 fn tree_depth(pairs: &Pairs) -> Result<Depth, Cause>
     ensures { result ≡ tree_depth pairs.now }
 {
-    match pairs.first(Argument::Depth.word()) {
+    match pairs.first(DEPTH) {
         None => Ok(Depth::Levels(2)),
         Some(word) => match depth_of_word(word.as_str()) {
             Some(depth) => Ok(depth),
-            None => Err(Cause::BadArgument(Argument::Depth)),
+            None => Err(Cause::BadArgument(Argument::named(DEPTH))),
         },
     }
 }
@@ -40,12 +44,12 @@ fn tree_of(alloc: Global, folders_only: bool, asking: &Asking) -> Result<ShowTre
     ensures { Meets (λ c. c) result (tree_of folders_only asking.now) }
 {
     let pairs = &asking.form.pairs;
-    let succinct = flag(pairs, Argument::Succinct, false)?;
+    let succinct = flag(pairs, SUCCINCT, false)?;
     let includes = includes_of(alloc, pairs)?;
     let filter = property_filter(alloc, pairs)?;
     let depth = tree_depth(pairs)?;
-    let segments = flag(pairs, Argument::IncludePathSegment, false)?;
-    let _judged = flag(pairs, Argument::IncludeRelativePathSegment, false)?;
+    let segments = flag(pairs, INCLUDE_PATH_SEGMENT, false)?;
+    let _judged = flag(pairs, INCLUDE_RELATIVE_PATH_SEGMENT, false)?;
     let place = place_of(alloc, asking)?;
     Ok(ShowTree {
         tree: ReadTree {
@@ -91,14 +95,14 @@ pub fn checked_out_of(alloc: Global, asking: &Asking) -> Result<ShowCheckedOut, 
     ensures { Meets (λ c. c) result (checked_out_of asking.now) }
 {
     let pairs = &asking.form.pairs;
-    let succinct = flag(pairs, Argument::Succinct, false)?;
+    let succinct = flag(pairs, SUCCINCT, false)?;
     let includes = includes_of(alloc, pairs)?;
     let filter = property_filter(alloc, pairs)?;
-    let max_items = number(pairs, Argument::MaxItems, 100)?;
-    let skip_count = number(pairs, Argument::SkipCount, 0)?;
+    let max_items = number(pairs, MAX_ITEMS, 100)?;
+    let skip_count = number(pairs, SKIP_COUNT, 0)?;
     let order = order_of(alloc, pairs)?;
-    let _judged = flag(pairs, Argument::IncludePathSegment, false)?;
-    let _judged_too = flag(pairs, Argument::IncludeRelativePathSegment, false)?;
+    let _judged = flag(pairs, INCLUDE_PATH_SEGMENT, false)?;
+    let _judged_too = flag(pairs, INCLUDE_RELATIVE_PATH_SEGMENT, false)?;
     let place = folder_of(alloc, asking)?;
     Ok(ShowCheckedOut {
         checked_out: ReadCheckedOut {

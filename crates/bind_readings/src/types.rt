@@ -1,9 +1,8 @@
 //! The arguments of typeChildren, typeDescendants and typeDefinition.
-ghost use Rattle.std.specs.Prelude.{◌≡◌, IfOk};
+ghost use Rattle.std.specs.Prelude.{◌≡◌, IfOk, codes};
 ghost use Rattle.cm_base.specs.Judged.{Meets};
-ghost use Rattle.form_args.specs.Pairs.{value_of};
+ghost use Rattle.form_args.specs.Pairs.{first_of};
 ghost use Rattle.form_args.specs.Single.{needed};
-ghost use Rattle.cm_base.specs.declared.argument.Argument.TheVariants as args;
 ghost use Rattle.bind_readings.specs.Types.{type_children_of, type_definition_of, type_descendants_of};
 
 use crate::options::options_of;
@@ -14,23 +13,24 @@ use cm_base::copies::Copies;
 use cm_base::fail::Fail;
 use cm_base::text::Text;
 use form_args::pairs::Pairs;
+use form_args::words::TYPE_ID;
 use std::alloc::{AllocError, Global};
 use type_parts::readings::{ReadTypeChildren, ReadTypeDefinition, ReadTypeDescendants};
 
 fn given_id(alloc: Global, pairs: &Pairs) -> Result<Option<Text>, AllocError>
-    ensures { IfOk result (λ t. t ≡ value_of pairs.now args.TypeId) }
+    ensures { IfOk result (λ t. t ≡ first_of pairs.now (codes "typeId")) }
 {
-    match pairs.first(Argument::TypeId.word()) {
+    match pairs.first(TYPE_ID) {
         None => Ok(None),
         Some(id) => Ok(Some(id.copied(alloc)?)),
     }
 }
 
 fn needed_id(alloc: Global, pairs: &Pairs) -> Result<Text, Fail>
-    ensures { Meets (λ t. t) result (needed pairs.now args.TypeId) }
+    ensures { Meets (λ t. t) result (needed pairs.now (codes "typeId")) }
 {
-    match pairs.first(Argument::TypeId.word()) {
-        None => Err(Fail::Refused(Cause::MissingArgument(Argument::TypeId))),
+    match pairs.first(TYPE_ID) {
+        None => Err(Fail::Refused(Cause::MissingArgument(Argument::named(TYPE_ID)))),
         Some(id) => {
             let id = id.copied(alloc)?;
             Ok(id)

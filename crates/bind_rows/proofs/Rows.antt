@@ -7,7 +7,6 @@ use Rattle.std.specs.Str.Lossy.{utf8_lossy, utf8_valid_len}
 use Rattle.form_urlencoded.specs.Form.{split, raw_pairs}
 use Rattle.percent_encoding.specs.Percent.{percent_decode}
 use lib.Utf8.{encode}
-use Rattle.cm_base.specs.declared.argument.Argument.TheVariants as args
 use Rattle.cm_base.specs.declared.cause.Cause.TheVariants as causes
 use Rattle.cm_base.specs.declared.series.VersioningState.TheVariants as states
 use Rattle.call_parts.specs.declared.place.Place.TheVariants as places
@@ -101,7 +100,7 @@ row_method : call_of_request (record { head = record { method = codes "HEAD"; ta
 unfolding split is_utf8 chars percent_decode encode raw_pairs utf8_lossy utf8_valid_len values_named
 row_method = refl
 
-row_path : call_of_request (record { head = record { method = codes "POST"; target = codes "/x/%ff"; minor = 1; fields = [] }; body = codes "x" }) ≡ Err (causes.BadArgument args.Path)
+row_path : call_of_request (record { head = record { method = codes "POST"; target = codes "/x/%ff"; minor = 1; fields = [] }; body = codes "x" }) ≡ Err (causes.BadArgument (codes "path"))
 unfolding split is_utf8 chars percent_decode encode raw_pairs utf8_lossy utf8_valid_len values_named
 row_path = refl
 
@@ -138,7 +137,7 @@ row_long_boundary : call_of_request (posted_parts (codes "1234567890123456789012
 unfolding split is_utf8 chars percent_decode encode raw_pairs utf8_lossy utf8_valid_len values_named lines_of inside outside is_token_byte
 row_long_boundary = refl
 
-row_action_missing : call_of_request (record { head = record { method = codes "POST"; target = codes "/cmis/main/root?succinct=maybe"; minor = 1; fields = (codes "CMIS-Step", codes "+1") ∷ [] }; body = [] }) ≡ Err (causes.MissingArgument args.CmisAction)
+row_action_missing : call_of_request (record { head = record { method = codes "POST"; target = codes "/cmis/main/root?succinct=maybe"; minor = 1; fields = (codes "CMIS-Step", codes "+1") ∷ [] }; body = [] }) ≡ Err (causes.MissingArgument (codes "cmisaction"))
 unfolding split is_utf8 chars percent_decode encode raw_pairs utf8_lossy utf8_valid_len values_named
 row_action_missing = refl
 
@@ -167,15 +166,15 @@ row_no_selector_elsewhere : call_of_request (got (codes "/cmis/main") []) ≡ Ok
 unfolding split is_utf8 chars percent_decode encode raw_pairs utf8_lossy utf8_valid_len values_named
 row_no_selector_elsewhere = refl
 
-row_step : call_of_request (got (codes "/cmis/main/root?cmisselector=object&succinct=maybe") ((codes "CMIS-Step", codes "007") ∷ [])) ≡ Err (causes.BadArgument args.CmisStep)
+row_step : call_of_request (got (codes "/cmis/main/root?cmisselector=object&succinct=maybe") ((codes "CMIS-Step", codes "007") ∷ [])) ≡ Err (causes.BadArgument (codes "CMIS-Step"))
 unfolding split is_utf8 chars percent_decode encode raw_pairs utf8_lossy utf8_valid_len values_named
 row_step = refl
 
-row_two_steps : call_of_request (got (codes "/cmis/main/root?cmisselector=object") ((codes "CMIS-Step", codes "1") ∷ (codes "cmis-step", codes "1") ∷ [])) ≡ Err (causes.BadArgument args.CmisStep)
+row_two_steps : call_of_request (got (codes "/cmis/main/root?cmisselector=object") ((codes "CMIS-Step", codes "1") ∷ (codes "cmis-step", codes "1") ∷ [])) ≡ Err (causes.BadArgument (codes "CMIS-Step"))
 unfolding split is_utf8 chars percent_decode encode raw_pairs utf8_lossy utf8_valid_len values_named
 row_two_steps = refl
 
-row_succinct : call_of_request (got (codes "/cmis/main/root?cmisselector=children&filter=a,,b&maxItems=x&succinct=maybe") []) ≡ Err (causes.BadArgument args.Succinct)
+row_succinct : call_of_request (got (codes "/cmis/main/root?cmisselector=children&filter=a,,b&maxItems=x&succinct=maybe") []) ≡ Err (causes.BadArgument (codes "succinct"))
 unfolding split is_utf8 chars percent_decode encode raw_pairs utf8_lossy utf8_valid_len values_named
 row_succinct = refl
 
@@ -183,20 +182,20 @@ row_filter : call_of_request (got (codes "/cmis/main/root?cmisselector=children&
 unfolding split is_utf8 chars percent_decode encode raw_pairs utf8_lossy utf8_valid_len values_named
 row_filter = refl
 
-row_most : call_of_request (got (codes "/cmis/main/root?cmisselector=children&skipCount=-1&maxItems=18446744073709551616") []) ≡ Err (causes.BadArgument args.MaxItems)
+row_most : call_of_request (got (codes "/cmis/main/root?cmisselector=children&skipCount=-1&maxItems=18446744073709551616") []) ≡ Err (causes.BadArgument (codes "maxItems"))
 unfolding split is_utf8 chars percent_decode encode raw_pairs utf8_lossy utf8_valid_len values_named
 row_most = refl
 
-row_type_missing : call_of_request (posted (codes "/cmis/main/root?objectId=1") (codes "cmisaction=createFolder&addACEPrincipal[0]=&propertyId[0]=cmis:name&propertyValue[0]=a")) ≡ Err (causes.MissingArgument args.ObjectTypeId)
+row_type_missing : call_of_request (posted (codes "/cmis/main/root?objectId=1") (codes "cmisaction=createFolder&addACEPrincipal[0]=&propertyId[0]=cmis:name&propertyValue[0]=a")) ≡ Err (causes.MissingArgument (codes "cmis:objectTypeId"))
 unfolding split is_utf8 chars percent_decode encode raw_pairs utf8_lossy utf8_valid_len values_named most_properties most_values digits
 row_type_missing = refl
 
-row_principal : call_of_request (posted (codes "/cmis/main/root") (codes "cmisaction=createFolder&removeACEPrincipal[0]=&addACEPrincipal[0]=&propertyId[0]=cmis:objectTypeId&propertyValue[0]=cmis:folder")) ≡ Err (causes.BadArgument args.AddAcePrincipal)
+row_principal : call_of_request (posted (codes "/cmis/main/root") (codes "cmisaction=createFolder&removeACEPrincipal[0]=&addACEPrincipal[0]=&propertyId[0]=cmis:objectTypeId&propertyValue[0]=cmis:folder")) ≡ Err (causes.BadArgument (codes "addACEPrincipal"))
 unfolding split is_utf8 chars percent_decode encode raw_pairs utf8_lossy utf8_valid_len values_named most_properties most_values digits
 row_principal = refl
 
--- blanks stand between a name and its direction alone
-row_order : call_of_request (got (codes "/cmis/main/root?cmisselector=children&includePathSegment=x&orderBy=cmis:name,%20a") []) ≡ Err (causes.BadArgument args.OrderBy)
+-- an item without a name, and the order of the arguments
+row_order : call_of_request (got (codes "/cmis/main/root?cmisselector=children&includePathSegment=x&orderBy=cmis:name,") []) ≡ Err (causes.BadArgument (codes "orderBy"))
 unfolding split is_utf8 chars percent_decode encode raw_pairs utf8_lossy utf8_valid_len values_named keyword_of
 row_order = refl
 

@@ -1,13 +1,11 @@
 -- The actions and selectors that are served, each at its addresses (CMIS 1.1, sections 5.4.2 and 5.4.3).
 use Rattle.std.specs.Prelude.{ℕ, List, [], ◌∷◌, Bool, true, false, not, ◌&&◌, ◌||◌, codes, bytes_eq, find, Option, Some, None, Ok, Err}
-use Rattle.cm_base.specs.declared.argument.Argument.{Argument}
-use Rattle.cm_base.specs.declared.argument.Argument.TheVariants as args
 use Rattle.cm_base.specs.declared.cause.Cause.TheVariants as causes
 use Rattle.cm_base.specs.Judged.{Judged, find_or}
 use Rattle.request_target.specs.declared.target.Target.{Target}
 use Rattle.request_target.specs.declared.target.Target.TheVariants as targets
 use Rattle.form_args.specs.declared.pairs.Pair.{Pair}
-use Rattle.form_args.specs.Pairs.{value_of}
+use Rattle.form_args.specs.Pairs.{first_of}
 use Rattle.bind_form.specs.declared.form.Method.{Method}
 use Rattle.bind_form.specs.declared.form.Method.TheVariants as methods
 use Rattle.bind_words.specs.declared.words.Service.{Service}
@@ -158,11 +156,11 @@ abbrev pub unnamed : Method → Target → Judged Service
 unnamed methods.Get targets.Service = Ok services.Info
 unnamed methods.Get targets.Repository = Ok services.Info
 unnamed methods.Get (targets.Object names) = Ok services.Default
-unnamed methods.Post target = Err (causes.MissingArgument args.CmisAction)
+unnamed methods.Post target = Err (causes.MissingArgument (codes "cmisaction"))
 
-abbrev pub argument_of : Method → Argument
-argument_of methods.Get = args.CmisSelector
-argument_of methods.Post = args.CmisAction
+abbrev pub argument_of : Method → List ℕ
+argument_of methods.Get = codes "cmisselector"
+argument_of methods.Post = codes "cmisaction"
 
 -- what the word names
 abbrev pub named : Method → Target → List ℕ → Judged Service
@@ -174,4 +172,4 @@ service_by method target (Some word) = named method target word
 
 -- what the selector of a GET or the action of a POST names
 abbrev pub service_of : Method → Target → List Pair → Judged Service
-service_of method target pairs = service_by method target (value_of pairs (argument_of method))
+service_of method target pairs = service_by method target (first_of pairs (argument_of method))

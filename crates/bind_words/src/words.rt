@@ -15,6 +15,10 @@ use form_args::pairs::Pairs;
 use request_target::target::Target;
 use std::alloc::Global;
 
+const CMIS_ACTION: &str = "cmisaction";
+
+const CMIS_SELECTOR: &str = "cmisselector";
+
 /// The services that are served.
 #[derive(Clone, Copy, Debug, PartialEq, Eq)]
 pub enum Service {
@@ -312,16 +316,16 @@ fn unnamed(method: Method, target: &Target) -> Result<Service, Cause>
             Target::Object(_) => Ok(Service::Default),
             _ => Ok(Service::Info),
         },
-        Method::Post => Err(Cause::MissingArgument(Argument::CmisAction)),
+        Method::Post => Err(Cause::MissingArgument(Argument::named(CMIS_ACTION))),
     }
 }
 
-fn argument_of(method: Method) -> Argument
-    ensures { result ≡ argument_of method }
+fn argument_of(method: Method) -> &'static str
+    ensures { result.now ≡ argument_of method }
 {
     match method {
-        Method::Get => Argument::CmisSelector,
-        Method::Post => Argument::CmisAction,
+        Method::Get => CMIS_SELECTOR,
+        Method::Post => CMIS_ACTION,
     }
 }
 
@@ -347,7 +351,7 @@ pub fn service_of(
 ) -> Result<Service, Fail>
     ensures { Meets (λ s. s) result (service_of method target.now pairs.now) }
 {
-    match pairs.first(argument_of(method).word()) {
+    match pairs.first(argument_of(method)) {
         None => match unnamed(method, target) {
             Ok(service) => Ok(service),
             Err(cause) => Err(Fail::Refused(cause)),

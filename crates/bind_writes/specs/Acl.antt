@@ -1,6 +1,5 @@
 -- The arguments of applyACL, judged in their order (CMIS 1.1, section 5.4).
 use Rattle.std.specs.Prelude.{ℕ, List, codes, bytes_eq, if◌then◌else◌, Option, Some, None, Ok}
-use Rattle.cm_base.specs.declared.argument.Argument.TheVariants as args
 use Rattle.cm_base.specs.Judged.{Judged, ◌>>=◌}
 use Rattle.access_parts.specs.declared.writes.ApplyAcl.{ApplyAcl}
 use Rattle.access_parts.specs.declared.writes.Propagation.{Propagation}
@@ -21,12 +20,12 @@ propagation_named word =
 
 -- as the repository has it, where nothing is said
 abbrev pub propagation_of : List Pair → Judged Propagation
-propagation_of pairs = chosen propagation_named pairs args.AclPropagation propagations.RepositoryDetermined
+propagation_of pairs = chosen propagation_named pairs (codes "ACLPropagation") propagations.RepositoryDetermined
 
 -- additions are read first, though removals are done first
 abbrev pub apply_acl_of : Asking → Judged ApplyAcl
 apply_acl_of asking = do
-  add ← aces_of asking.form.pairs args.AddAcePrincipal args.AddAcePermission
-  remove ← aces_of asking.form.pairs args.RemoveAcePrincipal args.RemoveAcePermission
+  add ← aces_of asking.form.pairs (codes "addACEPrincipal") (codes "addACEPermission")
+  remove ← aces_of asking.form.pairs (codes "removeACEPrincipal") (codes "removeACEPermission")
   propagation ← propagation_of asking.form.pairs
   Ok (record { place = place_of asking; remove = remove; add = add; propagation = propagation })

@@ -1,8 +1,6 @@
 -- The arguments of bulkUpdate, judged in their order (CMIS 1.1, sections 2.2.4.14 and 5.4).
-use Rattle.std.specs.Prelude.{ℕ, ◌+◌, nat_lt, List, [], ◌∷◌, length, Ok}
-use Rattle.cm_base.specs.declared.argument.Argument.TheVariants as args
+use Rattle.std.specs.Prelude.{ℕ, ◌+◌, nat_lt, List, [], ◌∷◌, length, Ok, codes}
 use Rattle.cm_base.specs.declared.cause.Cause.TheVariants as causes
-use Rattle.cm_base.specs.Arguments.{word_of}
 use Rattle.cm_base.specs.Judged.{Judged, ◌>>=◌, ◌>>◌, refuse}
 use Rattle.bulk_parts.specs.declared.writes.BulkUpdate.{BulkUpdate}
 use Rattle.bulk_parts.specs.declared.writes.ObjectIdAndChangeToken.{ObjectIdAndChangeToken}
@@ -17,7 +15,7 @@ most_objects = 1000
 
 -- the id at this place, and the token beside it where it is given
 abbrev pub object_at : List Pair → ℕ → List ℕ → ObjectIdAndChangeToken
-object_at pairs i id = record { id = id; token = first_of pairs (indexed (word_of args.ChangeToken) i) }
+object_at pairs i id = record { id = id; token = first_of pairs (indexed (codes "changeToken") i) }
 
 -- one for each id, with the token at its place
 abbrev pub objects_from : List Pair → ℕ → List (List ℕ) → List ObjectIdAndChangeToken
@@ -26,12 +24,12 @@ objects_from pairs i (id ∷ ids) = object_at pairs i id ∷ objects_from pairs 
 
 -- the ids objectId[0], objectId[1], ..
 abbrev pub object_ids : List Pair → List (List ℕ)
-object_ids pairs = texts_of pairs (word_of args.ObjectId)
+object_ids pairs = texts_of pairs (codes "objectId")
 
 -- the objects that a form names, not too many
 abbrev pub objects_of : List Pair → Judged (List ObjectIdAndChangeToken)
 objects_of pairs = do
-  refuse (causes.BadArgument args.ObjectId) (nat_lt most_objects (length (object_ids pairs)))
+  refuse (causes.BadArgument (codes "objectId")) (nat_lt most_objects (length (object_ids pairs)))
   Ok (objects_from pairs 0 (object_ids pairs))
 
 -- the secondary types to take off and to add are lists
@@ -42,6 +40,6 @@ bulk_update_of asking = do
   Ok (record {
     objects = objects;
     properties = properties;
-    remove_secondary = texts_of asking.form.pairs (word_of args.RemoveSecondaryTypeId);
-    add_secondary = texts_of asking.form.pairs (word_of args.AddSecondaryTypeId);
+    remove_secondary = texts_of asking.form.pairs (codes "removeSecondaryTypeId");
+    add_secondary = texts_of asking.form.pairs (codes "addSecondaryTypeId");
   })

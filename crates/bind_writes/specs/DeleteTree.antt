@@ -1,6 +1,5 @@
 -- The arguments of deleteTree, judged in their order (CMIS 1.1, section 5.4).
 use Rattle.std.specs.Prelude.{ℕ, List, codes, bytes_eq, true, false, not, if◌then◌else◌, Option, Some, None, Ok}
-use Rattle.cm_base.specs.declared.argument.Argument.TheVariants as args
 use Rattle.cm_base.specs.declared.cause.Cause.TheVariants as causes
 use Rattle.cm_base.specs.Judged.{Judged, ◌>>=◌, ◌>>◌, refuse}
 use Rattle.delete_tree_parts.specs.declared.writes.DeleteTree.{DeleteTree}
@@ -21,12 +20,12 @@ unfiling_named word =
 
 -- objects are deleted where nothing is said
 abbrev pub unfiling_of : List Pair → Judged UnfileObjects
-unfiling_of pairs = chosen unfiling_named pairs args.UnfileObjects ways.Delete
+unfiling_of pairs = chosen unfiling_named pairs (codes "unfileObjects") ways.Delete
 
 -- a document is deleted by its whole series, and not by one version
 abbrev pub whole_series : List Pair → Judged (Unit {0})
 whole_series pairs = do
-  all_versions ← flag_of pairs args.AllVersions true
+  all_versions ← flag_of pairs (codes "allVersions") true
   refuse (causes.NotServed (codes "deleteTree")) (not all_versions)
 
 -- the visit ends at the first failure where nothing is said
@@ -34,5 +33,5 @@ abbrev pub delete_tree_of : Asking → Judged DeleteTree
 delete_tree_of asking = do
   whole_series asking.form.pairs
   unfile_objects ← unfiling_of asking.form.pairs
-  continue_on_failure ← flag_of asking.form.pairs args.ContinueOnFailure false
+  continue_on_failure ← flag_of asking.form.pairs (codes "continueOnFailure") false
   Ok (record { place = place_of asking; unfile_objects = unfile_objects; continue_on_failure = continue_on_failure })

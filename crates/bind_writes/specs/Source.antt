@@ -1,8 +1,6 @@
 -- The arguments of createDocumentFromSource, judged in their order (CMIS 1.1, section 5.4).
-use Rattle.std.specs.Prelude.{false, Ok}
-use Rattle.cm_base.specs.declared.argument.Argument.TheVariants as args
+use Rattle.std.specs.Prelude.{false, Ok, codes}
 use Rattle.cm_base.specs.Judged.{Judged, ◌>>=◌}
-use Rattle.cm_base.specs.Arguments.{word_of}
 use Rattle.form_args.specs.Pairs.{texts_of}
 use Rattle.form_args.specs.Single.{flag_of, needed}
 use Rattle.form_args.specs.Properties.{properties_of}
@@ -14,13 +12,13 @@ use Rattle.source_parts.specs.declared.writes.CreateDocumentFromSource.{CreateDo
 -- as createDocument, but the properties need not name a type, and the source must be named
 abbrev pub create_document_from_source_of : Asking → Judged CreateDocumentFromSource
 create_document_from_source_of asking = do
-  succinct ← flag_of asking.form.pairs args.Succinct false
+  succinct ← flag_of asking.form.pairs (codes "succinct") false
   properties ← properties_of asking.form.pairs
-  add ← aces_of asking.form.pairs args.AddAcePrincipal args.AddAcePermission
-  remove ← aces_of asking.form.pairs args.RemoveAcePrincipal args.RemoveAcePermission
+  add ← aces_of asking.form.pairs (codes "addACEPrincipal") (codes "addACEPermission")
+  remove ← aces_of asking.form.pairs (codes "removeACEPrincipal") (codes "removeACEPermission")
   state ← state_of asking.form.pairs
-  source ← needed asking.form.pairs args.SourceId
+  source ← needed asking.form.pairs (codes "sourceId")
   Ok (record {
     source = source;
-    document = record { place = folder_of asking; properties = properties; policies = texts_of asking.form.pairs (word_of args.Policy); remove = remove; add = add; state = state; stream = asking.form.content; succinct = succinct };
+    document = record { place = folder_of asking; properties = properties; policies = texts_of asking.form.pairs (codes "policy"); remove = remove; add = add; state = state; stream = asking.form.content; succinct = succinct };
   })

@@ -1,6 +1,5 @@
 -- The arguments of createType, updateType and deleteType, judged in their order (CMIS 1.1, section 5.4).
-use Rattle.std.specs.Prelude.{List, Ok}
-use Rattle.cm_base.specs.declared.argument.Argument.TheVariants as args
+use Rattle.std.specs.Prelude.{List, Ok, codes}
 use Rattle.cm_base.specs.Judged.{Judged, ◌>>=◌}
 use Rattle.cm_types.specs.declared.request.TypeRequest.{TypeRequest}
 use Rattle.type_change_parts.specs.declared.writes.CreateType.{CreateType}
@@ -13,7 +12,7 @@ use Rattle.bind_parts.specs.declared.asking.Asking.{Asking}
 
 -- what the text of the definition asks of a type (section 5.2.9); it must be given
 abbrev pub definition_of : List Pair → Judged TypeRequest
-definition_of pairs = needed pairs args.Type >>= judge_type_text
+definition_of pairs = needed pairs (codes "type") >>= judge_type_text
 
 abbrev pub create_type_of : Asking → Judged CreateType
 create_type_of asking = do
@@ -27,5 +26,5 @@ update_type_of asking = do
 
 abbrev pub delete_type_of : Asking → Judged DeleteType
 delete_type_of asking = do
-  id ← needed asking.form.pairs args.TypeId
+  id ← needed asking.form.pairs (codes "typeId")
   Ok (record { type_id = id })

@@ -4,9 +4,9 @@ ghost use Rattle.cm_base.specs.Judged.{Meets};
 ghost use Rattle.bind_writes.specs.Bulk.{bulk_update_of};
 
 use crate::bulk_objects::objects_of;
+use crate::words::{ADD_SECONDARY_TYPE_ID, REMOVE_SECONDARY_TYPE_ID};
 use bind_parts::asking::Asking;
 use bulk_parts::writes::BulkUpdate;
-use cm_base::argument::Argument;
 use cm_base::fail::Fail;
 use form_args::lists::texts;
 use form_args::properties::properties;
@@ -24,7 +24,7 @@ pub fn bulk_update_of(alloc: Global, asking: &Asking) -> Result<BulkUpdate, Fail
     Ok(BulkUpdate {
         objects,
         properties,
-        remove_secondary: texts(alloc, pairs, Argument::RemoveSecondaryTypeId.word())?,
-        add_secondary: texts(alloc, pairs, Argument::AddSecondaryTypeId.word())?,
+        remove_secondary: texts(alloc, pairs, REMOVE_SECONDARY_TYPE_ID)?,
+        add_secondary: texts(alloc, pairs, ADD_SECONDARY_TYPE_ID)?,
     })
 }

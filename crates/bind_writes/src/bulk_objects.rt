@@ -1,12 +1,11 @@
 //! The objects that a form names, each with the change token that stands beside it.
-ghost use Rattle.std.specs.Prelude.{◌≡◌, IfOk};
+ghost use Rattle.std.specs.Prelude.{◌≡◌, IfOk, codes};
 ghost use Rattle.std.specs.Option.{option_copied};
-ghost use Rattle.cm_base.specs.Arguments.{word_of};
-ghost use Rattle.cm_base.specs.declared.argument.Argument.TheVariants as args;
 ghost use Rattle.cm_base.specs.Judged.{Meets};
 ghost use Rattle.form_args.specs.Pairs.{first_of, indexed};
 ghost use Rattle.bind_writes.specs.Bulk.{most_objects, object_at, objects_from, objects_of};
 
+use crate::words::CHANGE_TOKEN;
 use bulk_parts::writes::{ObjectIdAndChangeToken, ObjectIdsAndChangeTokens};
 use cm_base::argument::Argument;
 use cm_base::cause::Cause;
@@ -16,6 +15,7 @@ use cm_base::items::Items;
 use cm_base::text::Text;
 use form_args::lists::{indexed, texts};
 use form_args::pairs::Pairs;
+use form_args::words::OBJECT_ID;
 use std::alloc::{AllocError, Global};
 
 // A call names at most so many objects.
@@ -28,9 +28,9 @@ fn most_objects() -> usize
 
 // The token at this place, where it is given.
 fn token_at(alloc: Global, pairs: &Pairs, i: usize) -> Result<Option<Text>, AllocError>
-    ensures { IfOk result (λ t. t ≡ first_of pairs.now (indexed (word_of args.ChangeToken) i)) }
+    ensures { IfOk result (λ t. t ≡ first_of pairs.now (indexed (codes "changeToken") i)) }
 {
-    let key = indexed(alloc, Argument::ChangeToken.word(), i)?;
+    let key = indexed(alloc, CHANGE_TOKEN, i)?;
     match pairs.first(key.as_str()) {
         Some(value) => {
             let value = value.copied(alloc)?;
@@ -71,9 +71,9 @@ fn objects(
 pub(crate) fn objects_of(alloc: Global, pairs: &Pairs) -> Result<ObjectIdsAndChangeTokens, Fail>
     ensures { Meets (λ all. all) result (objects_of pairs.now) }
 {
-    let ids = texts(alloc, pairs, Argument::ObjectId.word())?;
+    let ids = texts(alloc, pairs, OBJECT_ID)?;
     if most_objects() < ids.len() {
-        return Err(Fail::Refused(Cause::BadArgument(Argument::ObjectId)));
+        return Err(Fail::Refused(Cause::BadArgument(Argument::named(OBJECT_ID))));
     }
     let objects = objects(alloc, pairs, ids.as_slice())?;
     Ok(objects)

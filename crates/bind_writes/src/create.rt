@@ -4,10 +4,12 @@ ghost use Rattle.cm_base.specs.Judged.{Meets};
 ghost use Rattle.bind_writes.specs.Documents.{folder_of};
 ghost use Rattle.bind_writes.specs.Create.{object_request_of, create_item_of, create_policy_of, create_relationship_of};
 
+use crate::words::{
+    ADD_ACE_PERMISSION, ADD_ACE_PRINCIPAL, POLICY, REMOVE_ACE_PERMISSION, REMOVE_ACE_PRINCIPAL,
+};
 use bind_parts::asking::Asking;
 use bind_parts::parts::place_of;
 use call_parts::place::Place;
-use cm_base::argument::Argument;
 use cm_base::fail::Fail;
 use create_parts::writes::{CreateItem, CreatePolicy, CreateRelationship, ObjectRequest};
 use form_args::choice::flag;
@@ -15,6 +17,7 @@ use form_args::entries::aces;
 use form_args::lists::texts;
 use form_args::pairs::Pairs;
 use form_args::properties::{properties, typed};
+use form_args::words::SUCCINCT;
 use request_target::target::Target;
 use std::alloc::{AllocError, Global};
 
@@ -36,19 +39,9 @@ fn object_request_of(alloc: Global, pairs: &Pairs) -> Result<ObjectRequest, Fail
 {
     let properties = properties(alloc, pairs)?;
     typed(properties.as_slice())?;
-    let add = aces(
-        alloc,
-        pairs,
-        Argument::AddAcePrincipal,
-        Argument::AddAcePermission,
-    )?;
-    let remove = aces(
-        alloc,
-        pairs,
-        Argument::RemoveAcePrincipal,
-        Argument::RemoveAcePermission,
-    )?;
-    let policies = texts(alloc, pairs, Argument::Policy.word())?;
+    let add = aces(alloc, pairs, ADD_ACE_PRINCIPAL, ADD_ACE_PERMISSION)?;
+    let remove = aces(alloc, pairs, REMOVE_ACE_PRINCIPAL, REMOVE_ACE_PERMISSION)?;
+    let policies = texts(alloc, pairs, POLICY)?;
     Ok(ObjectRequest {
         properties,
         policies,
@@ -63,7 +56,7 @@ pub fn create_item_of(alloc: Global, asking: &Asking) -> Result<CreateItem, Fail
     ensures { Meets (λ c. c) result (create_item_of asking.now) }
 {
     let pairs = &asking.form.pairs;
-    let succinct = flag(pairs, Argument::Succinct, false)?;
+    let succinct = flag(pairs, SUCCINCT, false)?;
     let object = object_request_of(alloc, pairs)?;
     let place = place_at(alloc, asking)?;
     Ok(CreateItem {
@@ -79,7 +72,7 @@ pub fn create_policy_of(alloc: Global, asking: &Asking) -> Result<CreatePolicy, 
     ensures { Meets (λ c. c) result (create_policy_of asking.now) }
 {
     let pairs = &asking.form.pairs;
-    let succinct = flag(pairs, Argument::Succinct, false)?;
+    let succinct = flag(pairs, SUCCINCT, false)?;
     let object = object_request_of(alloc, pairs)?;
     let place = place_at(alloc, asking)?;
     Ok(CreatePolicy {
@@ -95,7 +88,7 @@ pub fn create_relationship_of(alloc: Global, asking: &Asking) -> Result<CreateRe
     ensures { Meets (λ c. c) result (create_relationship_of asking.now) }
 {
     let pairs = &asking.form.pairs;
-    let succinct = flag(pairs, Argument::Succinct, false)?;
+    let succinct = flag(pairs, SUCCINCT, false)?;
     let object = object_request_of(alloc, pairs)?;
     let place = place_at(alloc, asking)?;
     Ok(CreateRelationship {

@@ -3,6 +3,10 @@ ghost use Rattle.std.specs.Prelude.{◌≡◌, IfOk};
 ghost use Rattle.cm_base.specs.Judged.{Meets};
 ghost use Rattle.bind_writes.specs.Documents.{state_of, folder_of, create_document_of};
 
+use crate::words::{
+    ADD_ACE_PERMISSION, ADD_ACE_PRINCIPAL, POLICY, REMOVE_ACE_PERMISSION, REMOVE_ACE_PRINCIPAL,
+    VERSIONING_STATE,
+};
 use bind_parts::asking::Asking;
 use bind_parts::parts::place_of;
 use call_parts::place::Place;
@@ -17,17 +21,18 @@ use form_args::entries::aces;
 use form_args::lists::texts;
 use form_args::pairs::Pairs;
 use form_args::properties::{properties, typed};
+use form_args::words::SUCCINCT;
 use request_target::target::Target;
 use std::alloc::{AllocError, Global};
 
 fn state_of(pairs: &Pairs) -> Result<Option<VersioningState>, Cause>
     ensures { result ≡ state_of pairs.now }
 {
-    match pairs.first(Argument::VersioningState.word()) {
+    match pairs.first(VERSIONING_STATE) {
         None => Ok(None),
         Some(word) => match VersioningState::of_word(word.as_str()) {
             Some(state) => Ok(Some(state)),
-            None => Err(Cause::BadArgument(Argument::VersioningState)),
+            None => Err(Cause::BadArgument(Argument::named(VERSIONING_STATE))),
         },
     }
 }
@@ -49,26 +54,16 @@ pub fn create_document_of(alloc: Global, asking: &Asking) -> Result<CreateDocume
     ensures { Meets (λ c. c) result (create_document_of asking.now) }
 {
     let pairs = &asking.form.pairs;
-    let succinct = flag(pairs, Argument::Succinct, false)?;
+    let succinct = flag(pairs, SUCCINCT, false)?;
     let properties = properties(alloc, pairs)?;
     typed(properties.as_slice())?;
-    let add = aces(
-        alloc,
-        pairs,
-        Argument::AddAcePrincipal,
-        Argument::AddAcePermission,
-    )?;
-    let remove = aces(
-        alloc,
-        pairs,
-        Argument::RemoveAcePrincipal,
-        Argument::RemoveAcePermission,
-    )?;
+    let add = aces(alloc, pairs, ADD_ACE_PRINCIPAL, ADD_ACE_PERMISSION)?;
+    let remove = aces(alloc, pairs, REMOVE_ACE_PRINCIPAL, REMOVE_ACE_PERMISSION)?;
     let state = state_of(pairs)?;
     Ok(CreateDocument {
         place: folder_of(alloc, asking)?,
         properties,
-        policies: texts(alloc, pairs, Argument::Policy.word())?,
+        policies: texts(alloc, pairs, POLICY)?,
         remove,
         add,
         state,

@@ -3,6 +3,7 @@ ghost use Rattle.std.specs.Prelude.{◌≡◌};
 ghost use Rattle.cm_base.specs.Judged.{Meets};
 ghost use Rattle.bind_writes.specs.Documents.{is_unfiling, unfiling, delete_of};
 
+use crate::words::{ALL_VERSIONS, CONTINUE_ON_FAILURE, UNFILE_OBJECTS};
 use bind_parts::asking::Asking;
 use bind_parts::parts::place_of;
 use call_parts::versions::Delete;
@@ -22,13 +23,13 @@ fn is_unfiling(word: &str) -> bool
 fn unfiling(pairs: &Pairs) -> Result<(), Cause>
     ensures { result ≡ unfiling pairs.now }
 {
-    match pairs.first(Argument::UnfileObjects.word()) {
+    match pairs.first(UNFILE_OBJECTS) {
         None => Ok(()),
         Some(word) => {
             if is_unfiling(word.as_str()) {
                 Ok(())
             } else {
-                Err(Cause::BadArgument(Argument::UnfileObjects))
+                Err(Cause::BadArgument(Argument::named(UNFILE_OBJECTS)))
             }
         }
     }
@@ -41,9 +42,9 @@ pub fn delete_of(alloc: Global, asking: &Asking) -> Result<Delete, Fail>
     ensures { Meets (λ c. c) result (delete_of asking.now) }
 {
     let pairs = &asking.form.pairs;
-    let all_versions = flag(pairs, Argument::AllVersions, true)?;
+    let all_versions = flag(pairs, ALL_VERSIONS, true)?;
     unfiling(pairs)?;
-    let _judged = flag(pairs, Argument::ContinueOnFailure, false)?;
+    let _judged = flag(pairs, CONTINUE_ON_FAILURE, false)?;
     let place = place_of(alloc, asking)?;
     Ok(Delete {
         place,

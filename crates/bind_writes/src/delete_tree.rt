@@ -4,6 +4,7 @@ ghost use Rattle.cm_base.specs.Judged.{Meets};
 ghost use Rattle.cm_base.specs.declared.cause.Cause.TheVariants as causes;
 ghost use Rattle.bind_writes.specs.DeleteTree.{delete_tree_of, unfiling_named, unfiling_of, whole_series};
 
+use crate::words::{ALL_VERSIONS, CONTINUE_ON_FAILURE, UNFILE_OBJECTS};
 use bind_parts::asking::Asking;
 use bind_parts::parts::place_of;
 use cm_base::argument::Argument;
@@ -32,11 +33,11 @@ fn unfiling_named(word: &str) -> Option<UnfileObjects>
 fn unfiling_of(pairs: &Pairs) -> Result<UnfileObjects, Cause>
     ensures { result ≡ unfiling_of pairs.now }
 {
-    match pairs.first(Argument::UnfileObjects.word()) {
+    match pairs.first(UNFILE_OBJECTS) {
         None => Ok(UnfileObjects::Delete),
         Some(word) => match unfiling_named(word.as_str()) {
             Some(unfiling) => Ok(unfiling),
-            None => Err(Cause::BadArgument(Argument::UnfileObjects)),
+            None => Err(Cause::BadArgument(Argument::named(UNFILE_OBJECTS))),
         },
     }
 }
@@ -53,7 +54,7 @@ fn not_served(alloc: Global) -> Result<Cause, AllocError>
 fn whole_series(alloc: Global, pairs: &Pairs) -> Result<(), Fail>
     ensures { Meets (λ x. x) result (whole_series pairs.now) }
 {
-    let all_versions = flag(pairs, Argument::AllVersions, true)?;
+    let all_versions = flag(pairs, ALL_VERSIONS, true)?;
     if !all_versions {
         return Err(Fail::Refused(not_served(alloc)?));
     }
@@ -69,7 +70,7 @@ pub fn delete_tree_of(alloc: Global, asking: &Asking) -> Result<DeleteTree, Fail
     let pairs = &asking.form.pairs;
     whole_series(alloc, pairs)?;
     let unfile_objects = unfiling_of(pairs)?;
-    let continue_on_failure = flag(pairs, Argument::ContinueOnFailure, false)?;
+    let continue_on_failure = flag(pairs, CONTINUE_ON_FAILURE, false)?;
     let place = place_of(alloc, asking)?;
     Ok(DeleteTree {
         place,

@@ -14,14 +14,21 @@ use cm_base::fail::Fail;
 use cm_base::text::Text;
 use form_args::choice::flag;
 use form_args::pairs::Pairs;
+use form_args::words::SUCCINCT;
 use std::alloc::Global;
 
+const FOLDER_ID: &str = "folderId";
+
+const SOURCE_FOLDER_ID: &str = "sourceFolderId";
+
+const TARGET_FOLDER_ID: &str = "targetFolderId";
+
 // The value of an argument that must be given.
-fn needed(alloc: Global, pairs: &Pairs, name: Argument) -> Result<Text, Fail>
-    ensures { Meets (λ t. t) result (needed pairs.now name) }
+fn needed(alloc: Global, pairs: &Pairs, name: &'static str) -> Result<Text, Fail>
+    ensures { Meets (λ t. t) result (needed pairs.now name.now) }
 {
-    match pairs.first(name.word()) {
-        None => Err(Fail::Refused(Cause::MissingArgument(name))),
+    match pairs.first(name) {
+        None => Err(Fail::Refused(Cause::MissingArgument(Argument::named(name)))),
         Some(value) => {
             let value = value.copied(alloc)?;
             Ok(value)
@@ -35,9 +42,9 @@ pub fn move_of(alloc: Global, asking: &Asking) -> Result<MoveObject, Fail>
     ensures { Meets (λ c. c) result (move_of asking.now) }
 {
     let pairs = &asking.form.pairs;
-    let succinct = flag(pairs, Argument::Succinct, false)?;
-    let source = needed(alloc, pairs, Argument::SourceFolderId)?;
-    let target = needed(alloc, pairs, Argument::TargetFolderId)?;
+    let succinct = flag(pairs, SUCCINCT, false)?;
+    let source = needed(alloc, pairs, SOURCE_FOLDER_ID)?;
+    let target = needed(alloc, pairs, TARGET_FOLDER_ID)?;
     Ok(MoveObject {
         place: place_of(alloc, asking)?,
         source,
@@ -52,8 +59,8 @@ pub fn add_to_folder_of(alloc: Global, asking: &Asking) -> Result<AddToFolder, F
     ensures { Meets (λ c. c) result (add_to_folder_of asking.now) }
 {
     let pairs = &asking.form.pairs;
-    let succinct = flag(pairs, Argument::Succinct, false)?;
-    let folder = needed(alloc, pairs, Argument::FolderId)?;
+    let succinct = flag(pairs, SUCCINCT, false)?;
+    let folder = needed(alloc, pairs, FOLDER_ID)?;
     Ok(AddToFolder {
         place: place_of(alloc, asking)?,
         folder,
@@ -67,10 +74,10 @@ pub fn remove_from_folder_of(alloc: Global, asking: &Asking) -> Result<RemoveFro
     ensures { Meets (λ c. c) result (remove_from_folder_of asking.now) }
 {
     let pairs = &asking.form.pairs;
-    let succinct = flag(pairs, Argument::Succinct, false)?;
+    let succinct = flag(pairs, SUCCINCT, false)?;
     Ok(RemoveFromFolder {
         place: place_of(alloc, asking)?,
-        folder: text_of(alloc, pairs, Argument::FolderId)?,
+        folder: text_of(alloc, pairs, FOLDER_ID)?,
         succinct,
     })
 }

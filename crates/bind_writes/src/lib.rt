@@ -19,3 +19,4 @@ pub mod source;
 pub mod type_change;
 pub mod update;
 pub mod versioning;
+mod words;

@@ -13,15 +13,18 @@ use cm_base::fail::Fail;
 use cm_base::text::Text;
 use form_args::choice::flag;
 use form_args::pairs::Pairs;
+use form_args::words::SUCCINCT;
 use policy_parts::writes::{ApplyPolicy, RemovePolicy};
 use std::alloc::Global;
 
+const POLICY_ID: &str = "policyId";
+
 // The value of an argument that must be given.
-fn needed(alloc: Global, pairs: &Pairs, name: Argument) -> Result<Text, Fail>
-    ensures { Meets (λ t. t) result (needed pairs.now name) }
+fn needed(alloc: Global, pairs: &Pairs, name: &'static str) -> Result<Text, Fail>
+    ensures { Meets (λ t. t) result (needed pairs.now name.now) }
 {
-    match pairs.first(name.word()) {
-        None => Err(Fail::Refused(Cause::MissingArgument(name))),
+    match pairs.first(name) {
+        None => Err(Fail::Refused(Cause::MissingArgument(Argument::named(name)))),
         Some(value) => {
             let value = value.copied(alloc)?;
             Ok(value)
@@ -35,8 +38,8 @@ pub fn apply_policy_of(alloc: Global, asking: &Asking) -> Result<ApplyPolicy, Fa
     ensures { Meets (λ c. c) result (apply_policy_of asking.now) }
 {
     let pairs = &asking.form.pairs;
-    let succinct = flag(pairs, Argument::Succinct, false)?;
-    let policy = needed(alloc, pairs, Argument::PolicyId)?;
+    let succinct = flag(pairs, SUCCINCT, false)?;
+    let policy = needed(alloc, pairs, POLICY_ID)?;
     Ok(ApplyPolicy {
         place: place_of(alloc, asking)?,
         policy,
@@ -50,7 +53,7 @@ pub fn remove_policy_of(alloc: Global, asking: &Asking) -> Result<RemovePolicy, 
     ensures { Meets (λ c. c) result (remove_policy_of asking.now) }
 {
     let pairs = &asking.form.pairs;
-    let policy = needed(alloc, pairs, Argument::PolicyId)?;
+    let policy = needed(alloc, pairs, POLICY_ID)?;
     Ok(RemovePolicy {
         place: place_of(alloc, asking)?,
         policy,

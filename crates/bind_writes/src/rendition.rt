@@ -5,6 +5,7 @@ ghost use Rattle.cm_base.specs.Names.{has_name_length};
 ghost use Rattle.bind_writes.specs.Content.{stream_of};
 ghost use Rattle.bind_writes.specs.Rendition.{add_rendition_of, fitting, kind_of, title_of};
 
+use crate::words::CONTENT;
 use bind_parts::asking::Asking;
 use bind_parts::parts::place_of;
 use call_parts::stream::GivenStream;
@@ -15,8 +16,13 @@ use cm_base::fail::Fail;
 use cm_base::text::Text;
 use form_args::choice::flag;
 use form_args::pairs::Pairs;
+use form_args::words::SUCCINCT;
 use rendition_parts::writes::AddRendition;
 use std::alloc::Global;
+
+const KIND: &str = "kind";
+
+const TITLE: &str = "title";
 
 /// The most bytes of the kind or the title of a rendition.
 const LONGEST_LABEL: usize = 255;
@@ -28,11 +34,11 @@ fn is_fitting(text: &Text) -> bool
 }
 
 // The text, where it has from 1 to 255 bytes.
-fn fitting(alloc: Global, name: Argument, text: &Text) -> Result<Text, Fail>
-    ensures { Meets (λ t. t) result (fitting name text.now) }
+fn fitting(alloc: Global, name: &'static str, text: &Text) -> Result<Text, Fail>
+    ensures { Meets (λ t. t) result (fitting name.now text.now) }
 {
     if !is_fitting(text) {
-        return Err(Fail::Refused(Cause::BadArgument(name)));
+        return Err(Fail::Refused(Cause::BadArgument(Argument::named(name))));
     }
     let text = text.copied(alloc)?;
     Ok(text)
@@ -41,9 +47,9 @@ fn fitting(alloc: Global, name: Argument, text: &Text) -> Result<Text, Fail>
 fn kind_of(alloc: Global, pairs: &Pairs) -> Result<Text, Fail>
     ensures { Meets (λ t. t) result (kind_of pairs.now) }
 {
-    match pairs.first(Argument::Kind.word()) {
-        None => Err(Fail::Refused(Cause::MissingArgument(Argument::Kind))),
-        Some(text) => fitting(alloc, Argument::Kind, text),
+    match pairs.first(KIND) {
+        None => Err(Fail::Refused(Cause::MissingArgument(Argument::named(KIND)))),
+        Some(text) => fitting(alloc, KIND, text),
     }
 }
 
@@ -51,10 +57,10 @@ fn kind_of(alloc: Global, pairs: &Pairs) -> Result<Text, Fail>
 fn title_of(alloc: Global, pairs: &Pairs) -> Result<Option<Text>, Fail>
     ensures { Meets (λ t. t) result (title_of pairs.now) }
 {
-    match pairs.first(Argument::Title.word()) {
+    match pairs.first(TITLE) {
         None => Ok(None),
         Some(text) => {
-            let title = fitting(alloc, Argument::Title, text)?;
+            let title = fitting(alloc, TITLE, text)?;
             Ok(Some(title))
         }
     }
@@ -66,7 +72,7 @@ fn stream_of(alloc: Global, asking: &Asking) -> Result<GivenStream, Fail>
 {
     match &asking.form.content {
         Some(stream) => Ok(stream.copied(alloc)?),
-        None => Err(Fail::Refused(Cause::MissingArgument(Argument::Content))),
+        None => Err(Fail::Refused(Cause::MissingArgument(Argument::named(CONTENT)))),
     }
 }
 
@@ -77,7 +83,7 @@ pub fn add_rendition_of(alloc: Global, asking: &Asking) -> Result<AddRendition, 
     ensures { Meets (λ c. c) result (add_rendition_of asking.now) }
 {
     let pairs = &asking.form.pairs;
-    let succinct = flag(pairs, Argument::Succinct, false)?;
+    let succinct = flag(pairs, SUCCINCT, false)?;
     let kind = kind_of(alloc, pairs)?;
     let title = title_of(alloc, pairs)?;
     let stream = stream_of(alloc, asking)?;

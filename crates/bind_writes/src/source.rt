@@ -5,6 +5,10 @@ ghost use Rattle.form_args.specs.Single.{needed};
 ghost use Rattle.bind_writes.specs.Documents.{state_of, folder_of};
 ghost use Rattle.bind_writes.specs.Source.{create_document_from_source_of};
 
+use crate::words::{
+    ADD_ACE_PERMISSION, ADD_ACE_PRINCIPAL, POLICY, REMOVE_ACE_PERMISSION, REMOVE_ACE_PRINCIPAL,
+    VERSIONING_STATE,
+};
 use bind_parts::asking::Asking;
 use bind_parts::parts::place_of;
 use call_parts::place::Place;
@@ -20,19 +24,22 @@ use form_args::entries::aces;
 use form_args::lists::texts;
 use form_args::pairs::Pairs;
 use form_args::properties::properties;
+use form_args::words::SUCCINCT;
 use request_target::target::Target;
 use source_parts::writes::CreateDocumentFromSource;
 use std::alloc::{AllocError, Global};
+
+const SOURCE_ID: &str = "sourceId";
 
 // The versioning state, where it is given.
 fn state_of(pairs: &Pairs) -> Result<Option<VersioningState>, Cause>
     ensures { result ≡ state_of pairs.now }
 {
-    match pairs.first(Argument::VersioningState.word()) {
+    match pairs.first(VERSIONING_STATE) {
         None => Ok(None),
         Some(word) => match VersioningState::of_word(word.as_str()) {
             Some(state) => Ok(Some(state)),
-            None => Err(Cause::BadArgument(Argument::VersioningState)),
+            None => Err(Cause::BadArgument(Argument::named(VERSIONING_STATE))),
         },
     }
 }
@@ -49,11 +56,11 @@ fn folder_of(alloc: Global, asking: &Asking) -> Result<Option<Place>, AllocError
 }
 
 // The value of an argument that must be given.
-fn needed(alloc: Global, pairs: &Pairs, name: Argument) -> Result<Text, Fail>
-    ensures { Meets (λ t. t) result (needed pairs.now name) }
+fn needed(alloc: Global, pairs: &Pairs, name: &'static str) -> Result<Text, Fail>
+    ensures { Meets (λ t. t) result (needed pairs.now name.now) }
 {
-    match pairs.first(name.word()) {
-        None => Err(Fail::Refused(Cause::MissingArgument(name))),
+    match pairs.first(name) {
+        None => Err(Fail::Refused(Cause::MissingArgument(Argument::named(name)))),
         Some(value) => {
             let value = value.copied(alloc)?;
             Ok(value)
@@ -72,26 +79,16 @@ pub fn create_document_from_source_of(
     ensures { Meets (λ c. c) result (create_document_from_source_of asking.now) }
 {
     let pairs = &asking.form.pairs;
-    let succinct = flag(pairs, Argument::Succinct, false)?;
+    let succinct = flag(pairs, SUCCINCT, false)?;
     let properties = properties(alloc, pairs)?;
-    let add = aces(
-        alloc,
-        pairs,
-        Argument::AddAcePrincipal,
-        Argument::AddAcePermission,
-    )?;
-    let remove = aces(
-        alloc,
-        pairs,
-        Argument::RemoveAcePrincipal,
-        Argument::RemoveAcePermission,
-    )?;
+    let add = aces(alloc, pairs, ADD_ACE_PRINCIPAL, ADD_ACE_PERMISSION)?;
+    let remove = aces(alloc, pairs, REMOVE_ACE_PRINCIPAL, REMOVE_ACE_PERMISSION)?;
     let state = state_of(pairs)?;
-    let source = needed(alloc, pairs, Argument::SourceId)?;
+    let source = needed(alloc, pairs, SOURCE_ID)?;
     let document = CreateDocument {
         place: folder_of(alloc, asking)?,
         properties,
-        policies: texts(alloc, pairs, Argument::Policy.word())?,
+        policies: texts(alloc, pairs, POLICY)?,
         remove,
         add,
         state,

@@ -1,7 +1,6 @@
 //! The arguments of createType, updateType and deleteType.
-ghost use Rattle.std.specs.Prelude.{◌≡◌};
+ghost use Rattle.std.specs.Prelude.{◌≡◌, codes};
 ghost use Rattle.cm_base.specs.Judged.{Meets};
-ghost use Rattle.cm_base.specs.declared.argument.Argument.TheVariants as args;
 ghost use Rattle.form_args.specs.Single.{needed};
 ghost use Rattle.bind_writes.specs.TypeChange.{definition_of, create_type_of, update_type_of, delete_type_of};
 
@@ -13,25 +12,28 @@ use cm_base::fail::Fail;
 use cm_base::text::Text;
 use cm_types::request::TypeRequest;
 use form_args::pairs::Pairs;
+use form_args::words::TYPE_ID;
 use std::alloc::Global;
 use type_change_parts::writes::{CreateType, DeleteType, UpdateType};
 use type_json::judge::read_type;
+
+const TYPE: &str = "type";
 
 // What the text of the definition asks of a type.
 fn definition_of(alloc: Global, pairs: &Pairs) -> Result<TypeRequest, Fail>
     ensures { Meets (λ q. q) result (definition_of pairs.now) }
 {
-    match pairs.first(Argument::Type.word()) {
-        None => Err(Fail::Refused(Cause::MissingArgument(Argument::Type))),
+    match pairs.first(TYPE) {
+        None => Err(Fail::Refused(Cause::MissingArgument(Argument::named(TYPE)))),
         Some(text) => read_type(alloc, text.as_str()),
     }
 }
 
 fn needed_id(alloc: Global, pairs: &Pairs) -> Result<Text, Fail>
-    ensures { Meets (λ t. t) result (needed pairs.now args.TypeId) }
+    ensures { Meets (λ t. t) result (needed pairs.now (codes "typeId")) }
 {
-    match pairs.first(Argument::TypeId.word()) {
-        None => Err(Fail::Refused(Cause::MissingArgument(Argument::TypeId))),
+    match pairs.first(TYPE_ID) {
+        None => Err(Fail::Refused(Cause::MissingArgument(Argument::named(TYPE_ID)))),
         Some(id) => {
             let id = id.copied(alloc)?;
             Ok(id)

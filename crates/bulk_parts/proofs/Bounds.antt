@@ -6,7 +6,7 @@ use Rattle.std.proofs.lemmas.List.Sums.{sum-map, sum_by-append, sum_by-cons}
 use Rattle.std.proofs.Math.Nat.{min-eq_left, min-eq_right}
 use Rattle.call_parts.specs.Weight.{bounded, text_weight, weight_of_texts}
 use Rattle.bulk_parts.specs.declared.writes.ObjectIdAndChangeToken.{ObjectIdAndChangeToken}
-use Rattle.bulk_parts.specs.Weight.{weight_of_object}
+use Rattle.bulk_parts.specs.Weight.{weight_of_object, weight_of_objects}
 
 texts_append : (xs ys : List (List ℕ)) → weight_of_texts (xs ++ ys) ≡ weight_of_texts xs + weight_of_texts ys
 texts_append xs ys =
@@ -40,11 +40,10 @@ objects_bounded s g (o ∷ os) = elim (nat_lt (2 ^ 64 - 1) g) as (λ b. nat_lt (
       ap (λ k. bounded (s + sum (map (weight_of_object k) (o ∷ os)))) (min-eq_left h)
 ] refl
 
--- the call, the texts, and the objects one after another
-pub weight_is : (rem add : List (List ℕ)) (g : ℕ) (os : List ObjectIdAndChangeToken)
+each_is : (rem add : List (List ℕ)) (g : ℕ) (os : List ObjectIdAndChangeToken)
     → bounded (bounded (bounded (64 + weight_of_texts rem) + weight_of_texts add) + sum (map (weight_of_object (bounded g)) os))
     ≡ bounded (64 + weight_of_texts (rem ++ add) + sum (map (weight_of_object g) os))
-weight_is rem add g os =
+each_is rem add g os =
     let t = texts_append rem add in
     let all = sum (map (weight_of_object (bounded g)) os) in
     inner (64 + weight_of_texts rem) (weight_of_texts add) all
@@ -52,3 +51,13 @@ weight_is rem add g os =
   where
     inner : (a b c : ℕ) → bounded (bounded (bounded a + b) + c) ≡ bounded (a + b + c)
     inner a b c = omega arith
+
+-- the call, the texts, and the objects one after another
+pub weight_is : (rem add : List (List ℕ)) (g : ℕ) (os : List ObjectIdAndChangeToken)
+    → bounded (bounded (bounded (64 + weight_of_texts rem) + weight_of_texts add) + weight_of_objects (bounded g) os)
+    ≡ bounded (64 + weight_of_texts (rem ++ add) + weight_of_objects g os)
+weight_is rem add g [] = alone (64 + weight_of_texts rem) (weight_of_texts add) g ∙ ap (λ k. bounded (k + g)) (let t = texts_append rem add in omega (arith, t))
+  where
+    alone : (a b c : ℕ) → bounded (bounded (bounded a + b) + bounded c) ≡ bounded (a + b + c)
+    alone a b c = omega arith
+weight_is rem add g (o ∷ os) = each_is rem add g (o ∷ os)

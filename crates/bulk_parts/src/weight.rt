@@ -3,7 +3,7 @@ ghost use Rattle.std.specs.Prelude.{◌≡◌, ◌+◌, map, sum};
 ghost use Rattle.std.specs.List.{flat_map};
 ghost use Rattle.call_parts.specs.Versions.{maybe};
 ghost use Rattle.call_parts.specs.Weight.{bounded, text_weight, texts_of_given, weight_of_texts};
-ghost use Rattle.bulk_parts.specs.Weight.{texts_of_object, weight_of_object, weight_of_bulk_update};
+ghost use Rattle.bulk_parts.specs.Weight.{texts_of_object, weight_of_object, weight_of_objects, weight_of_bulk_update};
 
 use crate::writes::{BulkUpdate, ObjectIdAndChangeToken};
 use cm_base::text::Text;
@@ -52,7 +52,7 @@ fn with_object(so_far: u64, object: &ObjectIdAndChangeToken, properties: u64) ->
     with_maybe(named, &object.token).saturating_add(properties)
 }
 
-fn with_objects(so_far: u64, objects: &[ObjectIdAndChangeToken], properties: u64) -> u64
+fn with_each(so_far: u64, objects: &[ObjectIdAndChangeToken], properties: u64) -> u64
     ensures { result ≡ bounded (so_far + sum (map (weight_of_object properties) objects.now)) }
 {
     let mut total = so_far;
@@ -62,8 +62,18 @@ fn with_objects(so_far: u64, objects: &[ObjectIdAndChangeToken], properties: u64
     total
 }
 
+// The objects, for each of which the properties weigh so much; where there is none, the properties alone.
+fn with_objects(so_far: u64, objects: &[ObjectIdAndChangeToken], properties: u64) -> u64
+    ensures { result ≡ bounded (so_far + weight_of_objects properties objects.now) }
+{
+    match objects {
+        [] => so_far.saturating_add(properties),
+        [_, ..] => with_each(so_far, objects, properties),
+    }
+}
+
 /// What a bulkUpdate weighs: 64 for the call, 256 for each object, and for each text its bytes and 64; the texts of the properties
-/// count once for each object. Takes no memory.
+/// count once for each object, and once where there is none. Takes no memory.
 pub fn weight_of_bulk_update(call: &BulkUpdate) -> u64
     ensures { result ≡ weight_of_bulk_update call.now }
 {

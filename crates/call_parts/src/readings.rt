@@ -3,6 +3,9 @@ use crate::names::Names;
 use crate::place::Place;
 use cm_base::text::Text;
 
+/// The word of the argument that names a stream of a document (section 5.4): its content, or one of its renditions.
+pub const STREAM_ID: &str = "streamId";
+
 /// Which properties a reply shows: all, or those of these query names (section 2.2.1.2.1). cmis:objectId is always shown.
 #[derive(Drop)]
 pub enum PropertyFilter {

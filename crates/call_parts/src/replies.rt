@@ -1,7 +1,7 @@
 //! What replies hold, one record a shape (CMIS 1.1, section 5.2.11).
-use bytes::Bytes;
 use cm_base::items::Items;
 use cm_base::media::MediaType;
+use cm_base::pieces::Pieces;
 use cm_base::text::{Text, Texts};
 use cm_base::value::{Value, Values};
 use cm_types::property::{Cardinality, PropertyKind};
@@ -94,5 +94,5 @@ pub struct AclReply {
 #[derive(Drop)]
 pub struct ContentReply {
     pub kind: MediaType,
-    pub body: Bytes,
+    pub body: Pieces,
 }

@@ -9,7 +9,6 @@ use Rattle.cm_base.specs.declared.cause.PropertyFault.TheVariants as faults
 use Rattle.cm_base.specs.declared.cause.Cause.{Cause}
 use Rattle.cm_base.specs.declared.cause.Cause.TheVariants as causes
 use Rattle.cm_base.specs.Exceptions.{status_of}
-use Rattle.cm_base.specs.Arguments.{word_of}
 
 abbrev pub fault_word : PropertyFault → List ℕ
 fault_word faults.Unknown = codes "unknown"
@@ -31,8 +30,8 @@ abbrev pub cause_row : Cause → Exception × (List ℕ × List (List ℕ))
 cause_row causes.NoUrl = (exceptions.ObjectNotFound, (codes "address is not found", []))
 cause_row causes.BadMethod = (exceptions.NotSupported, (codes "method is not supported", []))
 cause_row (causes.NotServed word) = (exceptions.NotSupported, (codes "call is not supported", word ∷ []))
-cause_row (causes.BadArgument name) = (exceptions.InvalidArgument, (codes "argument is not valid", word_of name ∷ []))
-cause_row (causes.MissingArgument name) = (exceptions.InvalidArgument, (codes "argument is missing", word_of name ∷ []))
+cause_row (causes.BadArgument name) = (exceptions.InvalidArgument, (codes "argument is not valid", name ∷ []))
+cause_row (causes.MissingArgument name) = (exceptions.InvalidArgument, (codes "argument is missing", name ∷ []))
 cause_row causes.BadFilter = (exceptions.FilterNotValid, (codes "filter is not valid", []))
 cause_row causes.BadBody = (exceptions.InvalidArgument, (codes "form is not valid", []))
 cause_row causes.BadTypeText = (exceptions.InvalidArgument, (codes "type is not valid", []))

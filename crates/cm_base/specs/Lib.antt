@@ -1,12 +1,15 @@
-pub mod Arguments
+pub mod Bodies
 pub mod Causes
 pub mod Decimals
 pub mod Exceptions
 pub mod Judged
+pub mod Limits
 pub mod Moments
 pub mod Names
 pub mod OrderLaws
 pub mod Orders
+pub mod Parted
+pub mod Placed
 pub mod States
 pub mod UserLists
 pub mod Whole

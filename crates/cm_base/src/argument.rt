@@ -1,132 +1,35 @@
 //! The names of arguments (CMIS 1.1, section 5.4).
 ghost use Rattle.std.specs.Prelude.{◌≡◌};
-ghost use Rattle.cm_base.specs.Arguments.{word_of};
 
-/// An argument of a call, a field of the request's head, or what else a cause may name.
-#[derive(Clone, Copy, Debug, PartialEq, Eq)]
-pub enum Argument {
-    AclPropagation,
-    AddAcePermission,
-    AddAcePrincipal,
-    AddSecondaryTypeId,
-    AllVersions,
-    ChangeLogToken,
-    ChangeToken,
-    CheckinComment,
-    CmisAction,
-    CmisSelector,
-    CmisStep,
-    Content,
-    ContinueOnFailure,
-    Depth,
-    Filter,
-    FolderId,
-    IncludeAcl,
-    IncludeAllowableActions,
-    IncludePathSegment,
-    IncludePolicyIds,
-    IncludePropertyDefinitions,
-    IncludeRelationships,
-    IncludeRelativePathSegment,
-    IncludeSubRelationshipTypes,
-    IsLastChunk,
-    Kind,
-    Major,
-    MaxItems,
-    ObjectId,
-    ObjectTypeId,
-    OrderBy,
-    OverwriteFlag,
-    Path,
-    Policy,
-    PolicyId,
-    PropertyId,
-    PropertyValue,
-    Query,
-    RelationshipDirection,
-    RemoveAcePermission,
-    RemoveAcePrincipal,
-    RemoveSecondaryTypeId,
-    RenditionFilter,
-    ReturnVersion,
-    SearchAllVersions,
-    SkipCount,
-    SourceFolderId,
-    SourceId,
-    Statement,
-    StreamId,
-    Succinct,
-    TargetFolderId,
-    Title,
-    Type,
-    TypeId,
-    UnfileObjects,
-    VersioningState,
+use std::marker::Model;
+
+/// The word by which a cause names an argument of a call, a field of the request's head, or a part of its target. Which words
+/// there are is said where they are read.
+#[derive(Drop)]
+pub struct Argument {
+    word: &'static str,
+}
+
+impl Model for Argument {
+    ghost use Rattle.std.specs.Prelude.{ℕ, List};
+
+    ghost Value = { List ℕ };
+
+    ghost view = { λ a. a.word.now };
 }
 
 impl Argument {
-    /// The word that a request has for it.
-    pub fn word(self) -> &'static str
-        ensures { result.now ≡ word_of self }
+    /// The argument of this word.
+    pub fn named(word: &'static str) -> Argument
+        ensures { result ≡ word.now }
     {
-        match self {
-            Argument::AclPropagation => "ACLPropagation",
-            Argument::AddAcePermission => "addACEPermission",
-            Argument::AddAcePrincipal => "addACEPrincipal",
-            Argument::AddSecondaryTypeId => "addSecondaryTypeId",
-            Argument::AllVersions => "allVersions",
-            Argument::ChangeLogToken => "changeLogToken",
-            Argument::ChangeToken => "changeToken",
-            Argument::CheckinComment => "checkinComment",
-            Argument::CmisAction => "cmisaction",
-            Argument::CmisSelector => "cmisselector",
-            Argument::CmisStep => "CMIS-Step",
-            Argument::Content => "content",
-            Argument::ContinueOnFailure => "continueOnFailure",
-            Argument::Depth => "depth",
-            Argument::Filter => "filter",
-            Argument::FolderId => "folderId",
-            Argument::IncludeAcl => "includeACL",
-            Argument::IncludeAllowableActions => "includeAllowableActions",
-            Argument::IncludePathSegment => "includePathSegment",
-            Argument::IncludePolicyIds => "includePolicyIds",
-            Argument::IncludePropertyDefinitions => "includePropertyDefinitions",
-            Argument::IncludeRelationships => "includeRelationships",
-            Argument::IncludeRelativePathSegment => "includeRelativePathSegment",
-            Argument::IncludeSubRelationshipTypes => "includeSubRelationshipTypes",
-            Argument::IsLastChunk => "isLastChunk",
-            Argument::Kind => "kind",
-            Argument::Major => "major",
-            Argument::MaxItems => "maxItems",
-            Argument::ObjectId => "objectId",
-            Argument::ObjectTypeId => "cmis:objectTypeId",
-            Argument::OrderBy => "orderBy",
-            Argument::OverwriteFlag => "overwriteFlag",
-            Argument::Path => "path",
-            Argument::Policy => "policy",
-            Argument::PolicyId => "policyId",
-            Argument::PropertyId => "propertyId",
-            Argument::PropertyValue => "propertyValue",
-            Argument::Query => "q",
-            Argument::RelationshipDirection => "relationshipDirection",
-            Argument::RemoveAcePermission => "removeACEPermission",
-            Argument::RemoveAcePrincipal => "removeACEPrincipal",
-            Argument::RemoveSecondaryTypeId => "removeSecondaryTypeId",
-            Argument::RenditionFilter => "renditionFilter",
-            Argument::ReturnVersion => "returnVersion",
-            Argument::SearchAllVersions => "searchAllVersions",
-            Argument::SkipCount => "skipCount",
-            Argument::SourceFolderId => "sourceFolderId",
-            Argument::SourceId => "sourceId",
-            Argument::Statement => "statement",
-            Argument::StreamId => "streamId",
-            Argument::Succinct => "succinct",
-            Argument::TargetFolderId => "targetFolderId",
-            Argument::Title => "title",
-            Argument::Type => "type",
-            Argument::TypeId => "typeId",
-            Argument::UnfileObjects => "unfileObjects",
-            Argument::VersioningState => "versioningState",
-        }
+        Argument { word }
+    }
+
+    /// The word that a request has for it.
+    pub fn word(&self) -> &'static str
+        ensures { result.now ≡ self.now }
+    {
+        self.word
     }
 }

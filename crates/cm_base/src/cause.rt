@@ -17,7 +17,7 @@ pub enum PropertyFault {
     Unknown,
     /// The call may not give it.
     Readonly,
-    /// One value for several, or several for one.
+    /// Several values, be it one item, for a property of one.
     Cardinality,
     /// A text is not of the property's form.
     Form,

@@ -81,7 +81,8 @@ fn below_zero(number: Option<u64>) -> Option<i64>
         None => None,
         Some(n) => {
             if 0 < n && n <= 9223372036854775808 {
-                Some(-((n - 1) as i64) - 1)
+                let least = (n - 1) as i64;
+                Some(-1 - least)
             } else {
                 None
             }

@@ -15,6 +15,8 @@ use type_parts::replies::{InfoReply, TypeReply, TypeTreeReply, TypesReply};
 /// What a call is answered.
 pub enum Reply {
     Object(ObjectReply),
+    /// The properties of an object alone.
+    Properties(ObjectReply),
     /// An object with what is asked for beside its properties.
     Included(IncludedReply),
     Children(IncludedChildrenReply),
@@ -46,6 +48,7 @@ impl Drop for Reply {
     fn drop(self) {
         match self {
             Reply::Object(_)
+            | Reply::Properties(_)
             | Reply::Included(_)
             | Reply::Children(_)
             | Reply::Content(_)

@@ -5,7 +5,7 @@ use Rattle.cmis_spec.specs.Repository.{same}
 use Rattle.cmis_laws.proofs.Lists.{same_eq}
 use Rattle.cm_folder.specs.declared.entry.FilingEntry.{FilingEntry}
 use Rattle.cm_folder.specs.declared.edit.Edit.TheVariants as edits
-use Rattle.cm_folder.specs.Filings.{edit_child, is_entry, in_folder, under_name, unfiled, shifted, renamed, told, retold}
+use Rattle.cm_folder.specs.Filings.{edit_child, is_entry, in_folder, unfiled, shifted, told, retold}
 use Rattle.place_laws.proofs.Placing.{by_test}
 
 pub taken_out : (f c : Oid) (es : List FilingEntry) → filter_map (edit_child (edits.TakeOut f) c) es ≡ unfiled es f c
@@ -27,12 +27,6 @@ put_in c s t (e ∷ es) = by_test (same e.child c)
     (λ a. by_test (same e.folder s)
     (λ b. rw (a, b) (ap (λ l. e ∷ l) (put_in c s t es)))
     (λ b. rw (a, b) (ap (λ l. e ∷ l) (put_in c s t es))))
-
-pub with_name : (c : Oid) (name : List ℕ) (es : List FilingEntry) → filter_map (edit_child (edits.Name name) c) es ≡ renamed es c name
-with_name c name [] = refl
-with_name c name (e ∷ es) = by_test (same e.child c)
-    (λ a. rw a (ap (λ l. under_name name e ∷ l) (with_name c name es)))
-    (λ a. rw a (ap (λ l. e ∷ l) (with_name c name es)))
 
 pub with_told : (c : Oid) (is_folder : Bool) (name : List ℕ) (es : List FilingEntry) → filter_map (edit_child (edits.Tell is_folder name) c) es ≡ retold es c is_folder name
 with_told c is_folder name [] = refl

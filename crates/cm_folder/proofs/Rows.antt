@@ -5,7 +5,7 @@ use Rattle.cm_base.specs.declared.number.Oid.{Oid}
 use Rattle.cm_base.specs.declared.cause.Cause.TheVariants as causes
 use Rattle.cmis_spec.specs.Repository.{most_levels, levels_up}
 use Rattle.cm_folder.specs.declared.entry.FilingEntry.{FilingEntry}
-use Rattle.cm_folder.specs.Filings.{depth_in, is_above_in, path_in, refusal_file, refusal_unfile, refusal_shift, refusal_rename}
+use Rattle.cm_folder.specs.Filings.{depth_in, path_in, refusal_shift}
 
 abbrev n1 : Oid
 n1 = record { 0 = 1 }
@@ -34,14 +34,6 @@ path_row : path_in tree n3 ≡ codes "/a/b"
 unfolding levels_up
 path_row = refl
 
-above_row : is_above_in tree n2 n4 ≡ true
-unfolding levels_up
-above_row = refl
-
-not_above_row : is_above_in tree n3 n2 ≡ false
-unfolding levels_up
-not_above_row = refl
-
 -- a folder would stand below itself
 below_row : refusal_shift tree n2 n1 n3 ≡ Err causes.Below
 unfolding levels_up
@@ -54,12 +46,3 @@ moved_row = refl
 already_row : refusal_shift tree n4 n3 n1 ≡ Err causes.AlreadyFiled
 unfolding levels_up
 already_row = refl
-
-not_filed_row : refusal_unfile tree n2 n4 ≡ Err causes.NotFiled
-not_filed_row = refl
-
-taken_row : refusal_rename tree n4 (codes "a") ≡ Err causes.NameTaken
-taken_row = refl
-
-new_row : refusal_file tree (record { folder = n2; child = record { 0 = 5 }; is_folder = false; name = codes "b" }) ≡ Err causes.NameTaken
-new_row = refl

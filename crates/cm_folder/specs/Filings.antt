@@ -63,27 +63,15 @@ depth_in entries f = length (folders_up_in levels_up entries f) - 1
 abbrev pub is_under_in : List FilingEntry → Oid → Oid → Bool
 is_under_in entries f top = list_any (same top) (folders_up_in levels_up entries f)
 
--- a is a folder of b, or stands above one
-abbrev pub is_above_in : List FilingEntry → Oid → Oid → Bool
-is_above_in entries a b = list_any (λ e. same e.child b && is_under_in entries e.folder a) entries
-
 abbrev pub path_in : List FilingEntry → Oid → List ℕ
 path_in entries f = path_over (folder_of entries) (name_in entries) f
 
 -- ---- a child more in a folder
 
-abbrev pub refusal_file : List FilingEntry → FilingEntry → Judged (Unit {0})
-refusal_file entries e = do
-  refuse causes.AlreadyFiled (is_filed_in entries e.folder e.child)
-  refuse causes.NameTaken (is_name_taken entries e.folder e.child e.name)
-
 abbrev pub filed_with : List FilingEntry → FilingEntry → List FilingEntry
 filed_with entries e = entries ++ e ∷ []
 
 -- ---- a child taken out of a folder
-
-abbrev pub refusal_unfile : List FilingEntry → Oid → Oid → Judged (Unit {0})
-refusal_unfile entries folder child = refuse causes.NotFiled (not (is_filed_in entries folder child))
 
 abbrev pub unfiled : List FilingEntry → Oid → Oid → List FilingEntry
 unfiled entries folder child = filter (λ e. not (is_entry folder child e)) entries
@@ -114,18 +102,6 @@ in_folder folder e = record { folder = folder; child = e.child; is_folder = e.is
 abbrev pub shifted : List FilingEntry → Oid → Oid → Oid → List FilingEntry
 shifted entries child source target = map (λ e. if is_entry source child e then in_folder target e else e) entries
 
--- ---- another name
-
--- in one of the child's folders another child has the name
-abbrev pub refusal_rename : List FilingEntry → Oid → List ℕ → Judged (Unit {0})
-refusal_rename entries child name = refuse causes.NameTaken (list_any (λ e. same e.child child && is_name_taken entries e.folder child name) entries)
-
-abbrev pub under_name : List ℕ → FilingEntry → FilingEntry
-under_name name e = record { folder = e.folder; child = e.child; is_folder = e.is_folder; name = name }
-
-abbrev pub renamed : List FilingEntry → Oid → List ℕ → List FilingEntry
-renamed entries child name = map (λ e. if same e.child child then under_name name e else e) entries
-
 -- ---- what is told of a child, told anew
 
 abbrev pub told : Bool → List ℕ → FilingEntry → FilingEntry
@@ -139,7 +115,6 @@ retold entries child is_folder name = map (λ e. if same e.child child then told
 abbrev pub edit_of : Edit → FilingEntry → Option FilingEntry
 edit_of (edits.TakeOut folder) e = if same e.folder folder then None else Some e
 edit_of (edits.Place source target) e = Some (if same e.folder source then in_folder target e else e)
-edit_of (edits.Name name) e = Some (under_name name e)
 edit_of (edits.Tell is_folder name) e = Some (told is_folder name e)
 
 abbrev pub edit_child : Edit → Oid → FilingEntry → Option FilingEntry

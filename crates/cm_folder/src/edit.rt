@@ -15,8 +15,6 @@ pub enum Edit {
     TakeOut(Oid),
     /// Its entry in the first folder stands in the second one.
     Place(Oid, Oid),
-    /// Each of its entries gets the name.
-    Name(Text),
     /// Each of its entries tells whether it is a folder, and gets the name.
     Tell(bool, Text),
 }
@@ -41,9 +39,6 @@ impl Edit {
                 if new.folder.0 == source.0 {
                     new.folder = *target;
                 }
-            }
-            Edit::Name(name) => {
-                new.name = name.copied(alloc)?;
             }
             Edit::Tell(is_folder, name) => {
                 new.is_folder = *is_folder;

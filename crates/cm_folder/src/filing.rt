@@ -1,20 +1,16 @@
 //! The filing of a repository.
-ghost use Rattle.std.specs.Prelude.{◌≡◌, ◌+◌, ◌-◌, ◌<◌, ◌≤◌, not, true, Option, None, Some, find, option_copied, option_map, unwrap_or, List, [], map, filter_map, length, IfOk, All, false};
+ghost use Rattle.std.specs.Prelude.{◌≡◌, ◌+◌, ◌-◌, ◌<◌, ◌≤◌, not, true, Option, None, Some, find, option_copied, option_map, unwrap_or, List, [], map, filter_map, length, IfOk, false};
 ghost use Rattle.std.specs.List.{list_any};
 ghost use Rattle.core.specs.Ordering.{nat_cmp};
 ghost use Rattle.core.specs.FinMap.Entries.{is_sorted};
 ghost use Rattle.std.specs.Prelude.{T};
-ghost use Rattle.cm_base.specs.Judged.{Leaves};
 ghost use Rattle.cmis_spec.specs.Repository.{same, levels_up};
-ghost use Rattle.cm_folder.specs.Trees.{IsTree, MayBeFiled};
-ghost use Rattle.cm_folder.specs.Filings.{is_entry, is_filed_in, is_name_taken, is_above_in, is_under_in, folders_up_in, depth_in, folder_of, refusal_file, filed_with, child_named, children_in, folders_in, refusal_unfile, unfiled, shifted, renamed, retold, edit_child};
+ghost use Rattle.cm_folder.specs.Filings.{is_entry, is_filed_in, is_name_taken, is_under_in, folders_up_in, depth_in, folder_of, filed_with, child_named, children_in, folders_in, unfiled, shifted, retold, edit_child};
 
 use crate::edit::Edit;
 use crate::entry::FilingEntry;
 use crate::parts::Parts;
-use cm_base::cause::Cause;
 use cm_base::copies::Copies;
-use cm_base::fail::Fail;
 use cm_base::number::Oid;
 use cm_base::text::Text;
 use cm_map::map::Map;
@@ -198,31 +194,6 @@ impl Filing {
         self.count_up(levels(), folder).saturating_sub(1)
     }
 
-    // Whether the folder is one of these, or stands above one.
-    fn over_one(&self, folder: Oid, folders: &Map<u64, Oid>) -> bool
-        ensures value { result ≡ list_any (λ e. is_under_in self.now e.1 folder) folders.now }
-        ensures sorted { T (is_sorted nat_cmp folders.now) }
-    {
-        let mut found = false;
-        for entry in folders.iter() {
-            let at: &(u64, Oid) = entry;
-            if self.is_under(at.1, folder) {
-                found = true;
-            }
-        }
-        found
-    }
-
-    /// Whether the folder is one of the child's, or stands above one of these. It takes no memory.
-    pub fn is_above(&self, folder: Oid, child: Oid) -> bool
-        ensures { result ≡ is_above_in self.now folder child }
-    {
-        match self.parts.by_child.bucket(&child.0) {
-            Some(folders) => self.over_one(folder, folders),
-            None => false,
-        }
-    }
-
     /// Whether another child of the folder has the name. It takes no memory.
     pub fn is_taken(&self, folder: Oid, child: Oid, name: &Text) -> bool
         ensures { result ≡ is_name_taken self.now folder child name.now }
@@ -330,64 +301,5 @@ impl Filing {
         let edit = Edit::Tell(is_folder, name.copied(alloc)?);
         let filing = self.edited(alloc, child, &edit)?;
         Ok(filing)
-    }
-
-    // The filing with the child under another name.
-    pub(crate) fn with_name(
-        &self,
-        alloc: Global,
-        child: Oid,
-        name: &Text,
-    ) -> Result<Filing, AllocError>
-        ensures { IfOk result (λ f. f ≡ renamed self.now child name.now) }
-    {
-        let edit = Edit::Name(name.copied(alloc)?);
-        let filing = self.edited(alloc, child, &edit)?;
-        Ok(filing)
-    }
-
-    // The filing with an entry more, or the cause.
-    fn file_judged(&self, alloc: Global, entry: FilingEntry) -> Result<Filing, Fail>
-        ensures { Leaves result (refusal_file self.now entry) (filed_with self.now entry) }
-    {
-        if self.is_filed(entry.folder, entry.child) {
-            return Err(Fail::Refused(Cause::AlreadyFiled));
-        }
-        if self.is_taken(entry.folder, entry.child, &entry.name) {
-            return Err(Fail::Refused(Cause::NameTaken));
-        }
-        let filing = self.with_entry(alloc, entry)?;
-        Ok(filing)
-    }
-
-    /// Files a child in a folder. It is refused as AlreadyFiled where the child is there, and else as NameTaken where another child has the name.
-    ///
-    /// Each entry takes a place that no later one gets, also where the entry goes: after 2^64 - 1 entries that were ever filed, the answer is want of memory.
-    pub fn file(&self, alloc: Global, entry: FilingEntry) -> Result<Filing, Fail>
-        ensures answer { Leaves result (refusal_file self.now entry) (filed_with self.now entry) }
-        ensures tree { IsTree self.now → MayBeFiled self.now entry → IfOk result IsTree }
-    {
-        let filing = self.file_judged(alloc, entry);
-        filing
-    }
-
-    // The filing with an entry less, or the cause.
-    fn unfile_judged(&self, alloc: Global, folder: Oid, child: Oid) -> Result<Filing, Fail>
-        ensures { Leaves result (refusal_unfile self.now folder child) (unfiled self.now folder child) }
-    {
-        if !self.is_filed(folder, child) {
-            return Err(Fail::Refused(Cause::NotFiled));
-        }
-        let filing = self.taken_out(alloc, folder, child)?;
-        Ok(filing)
-    }
-
-    /// Takes a child out of a folder. It is refused as NotFiled where the child is not there.
-    pub fn unfile(&self, alloc: Global, folder: Oid, child: Oid) -> Result<Filing, Fail>
-        ensures answer { Leaves result (refusal_unfile self.now folder child) (unfiled self.now folder child) }
-        ensures tree { IsTree self.now → All (λ e. same e.folder child ≡ false) self.now → IfOk result IsTree }
-    {
-        let filing = self.unfile_judged(alloc, folder, child);
-        filing
     }
 }

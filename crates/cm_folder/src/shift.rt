@@ -1,19 +1,14 @@
 //! Children that get another folder or another name.
-ghost use Rattle.std.specs.Prelude.{◌≡◌, ◌&&◌, IfOk, T};
-ghost use Rattle.core.specs.Ordering.{nat_cmp};
-ghost use Rattle.core.specs.FinMap.Entries.{is_sorted};
-ghost use Rattle.std.specs.List.{list_any};
+ghost use Rattle.std.specs.Prelude.{◌≡◌, IfOk};
 ghost use Rattle.cm_base.specs.Judged.{Leaves};
-ghost use Rattle.cmis_spec.specs.Repository.{same};
 ghost use Rattle.cm_folder.specs.Trees.{IsTree, IsFolderAt};
-ghost use Rattle.cm_folder.specs.Filings.{is_name_taken, name_under, refusal_place, refusal_shift, shifted, refusal_rename, renamed};
+ghost use Rattle.cm_folder.specs.Filings.{is_name_taken, name_under, refusal_place, refusal_shift, shifted};
 
 use crate::filing::Filing;
 use cm_base::cause::Cause;
 use cm_base::fail::Fail;
 use cm_base::number::Oid;
 use cm_base::text::Text;
-use cm_map::map::Map;
 use std::alloc::Global;
 
 impl Filing {
@@ -77,52 +72,6 @@ impl Filing {
         ensures tree { IsTree self.now → IsFolderAt self.now target → IfOk result IsTree }
     {
         let filing = self.shift_judged(alloc, child, source, target);
-        filing
-    }
-
-    // In one of the folders another child has the name.
-    fn is_taken_in_one(&self, child: Oid, folders: &Map<u64, Oid>, name: &Text) -> bool
-        ensures value { result ≡ list_any (λ e. is_name_taken self.now e.1 child name.now) folders.now }
-        ensures sorted { T (is_sorted nat_cmp folders.now) }
-    {
-        let mut found = false;
-        for entry in folders.iter() {
-            let at: &(u64, Oid) = entry;
-            if self.is_taken(at.1, child, name) {
-                found = true;
-            }
-        }
-        found
-    }
-
-    // In one of the child's folders another child has the name.
-    fn is_name_taken(&self, child: Oid, name: &Text) -> bool
-        ensures { result ≡ list_any (λ e. same e.child child
-            && is_name_taken self.now e.folder child name.now) self.now }
-    {
-        match self.parts.by_child.bucket(&child.0) {
-            Some(folders) => self.is_taken_in_one(child, folders, name),
-            None => false,
-        }
-    }
-
-    // The filing with the child under the name, or the cause.
-    fn rename_judged(&self, alloc: Global, child: Oid, name: &Text) -> Result<Filing, Fail>
-        ensures { Leaves result (refusal_rename self.now child name.now) (renamed self.now child name.now) }
-    {
-        if self.is_name_taken(child, name) {
-            return Err(Fail::Refused(Cause::NameTaken));
-        }
-        let filing = self.with_name(alloc, child, name)?;
-        Ok(filing)
-    }
-
-    /// Gives the child another name in each of its folders. It is refused as NameTaken where another child of one of these has the name.
-    pub fn rename(&self, alloc: Global, child: Oid, name: &Text) -> Result<Filing, Fail>
-        ensures answer { Leaves result (refusal_rename self.now child name.now) (renamed self.now child name.now) }
-        ensures tree { IsTree self.now → IfOk result IsTree }
-    {
-        let filing = self.rename_judged(alloc, child, name);
         filing
     }
 }

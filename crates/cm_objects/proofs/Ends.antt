@@ -14,9 +14,9 @@ use Rattle.cm_types.specs.Properties.{scalars_of, text_of_scalar, value_in}
 use Rattle.cmis_spec.specs.Repository.{same, is_of_type}
 use Rattle.cmis_spec.specs.Access.{oid_named}
 use Rattle.cmis_spec.specs.Removal.{ends_of, is_id_of}
-use Rattle.cm_map.specs.declared.index_key.IndexKey.{IndexKey}
-use Rattle.cm_map.specs.declared.index_key.IndexKey.TheVariants as keys
-use Rattle.cm_map.specs.Pairs.{same_key}
+use Rattle.cm_objects.specs.declared.index_key.IndexKey.{IndexKey}
+use Rattle.cm_objects.specs.declared.index_key.IndexKey.TheVariants as keys
+use Rattle.cm_objects.specs.Pairs.{same_key}
 use Rattle.cm_objects.specs.Indexed.{end_key, scalar_key, keys_of}
 
 -- what is no text has no key

@@ -10,8 +10,8 @@ use Rattle.cm_base.specs.declared.number.Oid.{Oid}
 use Rattle.cm_base.specs.declared.object.Object.{Object}
 use Rattle.cm_map.specs.Keyed.{Rises}
 use Rattle.cmis_spec.specs.Repository.{same}
-use Rattle.cm_map.specs.declared.index_key.IndexKey.{IndexKey}
-use Rattle.cm_map.specs.Pairs.{same_key, same_pair}
+use Rattle.cm_objects.specs.declared.index_key.IndexKey.{IndexKey}
+use Rattle.cm_objects.specs.Pairs.{same_key, same_pair}
 use Rattle.cm_objects.specs.Indexed.{keys_of, keys_at, is_pair_of, is_keyed}
 use Rattle.cm_objects.proofs.Rising.{by_test, same_eq, same_refl, differ}
 

@@ -1,3 +1,4 @@
+mod Pairing
 mod Indexing
 mod Ends
 mod Rising

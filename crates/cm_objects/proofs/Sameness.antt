@@ -4,9 +4,9 @@ use Rattle.std.proofs.Common.{refl, sym, ap, true≢false, nat_cmp, is_eq, Equal
 use Rattle.std.proofs.lemmas.Map.Lookups.{exact_bytes}
 use lib.Pointwise.{pointwise}
 use Rattle.std.specs.Cmp.Lexicographic.{slice_cmp}
-use Rattle.cm_map.specs.declared.index_key.IndexKey.{IndexKey}
-use Rattle.cm_map.specs.declared.index_key.IndexKey.TheVariants as keys
-use Rattle.cm_map.specs.contracts.index_key.IndexKeyPartialEq.TheImpl.{ghosts}
+use Rattle.cm_objects.specs.declared.index_key.IndexKey.{IndexKey}
+use Rattle.cm_objects.specs.declared.index_key.IndexKey.TheVariants as keys
+use Rattle.cm_objects.specs.contracts.index_key.IndexKeyPartialEq.TheImpl.{ghosts}
 use Rattle.cm_objects.proofs.Rising.{same_eq}
 
 equal_of : (o : Ordering) → is_eq o ≡ true → o ≡ Equal
@@ -17,13 +17,8 @@ equal_of Greater e = absurd (true≢false (sym e))
 key_eq : (x y : IndexKey) → ghosts.eq x y ≡ true → x ≡ y
 key_eq (keys.Kind a) (keys.Kind b) e = ap keys.Kind (exact_bytes a b (equal_of (slice_cmp nat_cmp a b) e))
 key_eq (keys.Kind a) (keys.End o) e = absurd (true≢false (sym e))
-key_eq (keys.Kind a) (keys.Series o) e = absurd (true≢false (sym e))
 key_eq (keys.End o) (keys.Kind b) e = absurd (true≢false (sym e))
 key_eq (keys.End o) (keys.End p) e = ap keys.End (same_eq o p e)
-key_eq (keys.End o) (keys.Series q) e = absurd (true≢false (sym e))
-key_eq (keys.Series o) (keys.Kind b) e = absurd (true≢false (sym e))
-key_eq (keys.Series o) (keys.End p) e = absurd (true≢false (sym e))
-key_eq (keys.Series o) (keys.Series p) e = ap keys.Series (same_eq o p e)
 
 both : (a b : Bool) → (a && b) ≡ true → (a ≡ true) × (b ≡ true)
 both true b h = (refl, h)

@@ -8,9 +8,9 @@ use Rattle.cm_types.specs.Properties.{text_of_scalar}
 use Rattle.cmis_spec.specs.Repository.{same}
 use Rattle.cmis_spec.specs.Access.{oid_named}
 use Rattle.cmis_spec.specs.Removal.{ends_of}
-use Rattle.cm_map.specs.declared.index_key.IndexKey.{IndexKey}
-use Rattle.cm_map.specs.declared.index_key.IndexKey.TheVariants as keys
-use Rattle.cm_map.specs.Pairs.{same_key, has_pair}
+use Rattle.cm_objects.specs.declared.index_key.IndexKey.{IndexKey}
+use Rattle.cm_objects.specs.declared.index_key.IndexKey.TheVariants as keys
+use Rattle.cm_objects.specs.Pairs.{same_key, has_pair}
 
 -- the end that an id names
 abbrev pub end_key : List ℕ → Option IndexKey

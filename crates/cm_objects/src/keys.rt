@@ -4,9 +4,10 @@ ghost use Rattle.std.specs.Option.{option_copied};
 ghost use Rattle.std.specs.List.{filter_map};
 ghost use Rattle.cm_types.specs.Properties.{value_in, scalars_of};
 ghost use Rattle.cmis_spec.specs.Removal.{ends_of};
-ghost use Rattle.cm_map.specs.declared.index_key.IndexKey.TheVariants.{Kind};
+ghost use Rattle.cm_objects.specs.declared.index_key.IndexKey.TheVariants.{Kind};
 ghost use Rattle.cm_objects.specs.Indexed.{end_key, scalar_key, keys_of};
 
+use crate::index_key::IndexKey;
 use cm_base::copies::Copies;
 use cm_base::decimal::read_u64;
 use cm_base::items::Items;
@@ -14,7 +15,6 @@ use cm_base::number::Oid;
 use cm_base::object::Object;
 use cm_base::text::Text;
 use cm_base::value::{Scalar, Slot, Value};
-use cm_map::index_key::IndexKey;
 use std::alloc::{AllocError, Global};
 
 /// Keys of an index.

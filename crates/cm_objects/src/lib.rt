@@ -3,6 +3,8 @@
 
 ghost use Rattle.std.specs.Prelude.{◌≡◌};
 
+pub mod index;
+pub mod index_key;
 pub mod keys;
 pub mod objects;
 mod pairs;

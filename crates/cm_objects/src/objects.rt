@@ -3,13 +3,15 @@ ghost use Rattle.std.specs.Prelude.{◌≡◌, ◌==◌, ◌<◌, ◌||◌, ◌&
 ghost use Rattle.std.specs.Option.{option_copied};
 ghost use Rattle.std.specs.List.{list_any};
 ghost use Rattle.cm_map.specs.Keyed.{Rises};
-ghost use Rattle.cm_map.specs.declared.index_key.IndexKey.{IndexKey};
+ghost use Rattle.cm_objects.specs.declared.index_key.IndexKey.{IndexKey};
 ghost use Rattle.cm_base.specs.declared.number.Oid.{Oid};
-ghost use Rattle.cm_map.specs.Pairs.{has_pair};
+ghost use Rattle.cm_objects.specs.Pairs.{has_pair};
 ghost use Rattle.cmis_spec.specs.Repository.{is_of_type};
 ghost use Rattle.cmis_spec.specs.Removal.{ends_of, is_id_of};
 ghost use Rattle.cm_objects.specs.Indexed.{keys_at, is_pair_of, is_keyed};
 
+use crate::index::Index;
+use crate::index_key::IndexKey;
 use crate::keys::{Keys, keys_of};
 use crate::pairs::{with_pairs, without_pairs};
 use cm_base::copies::Copies;
@@ -17,8 +19,6 @@ use cm_base::items::Items;
 use cm_base::number::{Oid, Oids};
 use cm_base::object::Object;
 use cm_base::text::Text;
-use cm_map::index::Index;
-use cm_map::index_key::IndexKey;
 use cm_map::table::Table;
 use std::alloc::{AllocError, Global};
 use std::marker::Model;

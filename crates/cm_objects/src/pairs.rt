@@ -1,13 +1,13 @@
 //! The pairs of one object.
 ghost use Rattle.std.specs.Prelude.{◌≡◌, ◌||◌, ◌&&◌, not, IfOk};
-ghost use Rattle.cm_map.specs.Pairs.{has_pair};
+ghost use Rattle.cm_objects.specs.Pairs.{has_pair};
 ghost use Rattle.cm_objects.specs.Indexed.{is_pair_of};
 
+use crate::index::Index;
+use crate::index_key::IndexKey;
 use crate::keys::Keys;
 use cm_base::copies::Copies;
 use cm_base::number::Oid;
-use cm_map::index::Index;
-use cm_map::index_key::IndexKey;
 use std::alloc::{AllocError, Global};
 
 /// The index with the number under each of the keys.

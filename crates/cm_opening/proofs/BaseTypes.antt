@@ -9,7 +9,8 @@ use Rattle.std.proofs.Common.{refl, sym, ap, subst, ◌∙◌}
 use Rattle.std.proofs.lemmas.Bool.{both_ways}
 use Rattle.cmis_laws.proofs.Kept.{bytes_true}
 use Rattle.std.proofs.lemmas.List.Elements.{All-nil, All-cons, All-weaker}
-use Rattle.cm_base.specs.declared.number.Moment.{Moment}
+use Rattle.cm_base.specs.declared.limits.Start.{Start}
+use Rattle.cm_base.specs.Limits.{greatest_limit, AreLimits}
 use Rattle.cm_base.specs.declared.user.User.{User}
 use Rattle.cm_base.specs.declared.user.Group.{Group}
 use Rattle.cm_base.specs.declared.value.Scalar.TheVariants.{Words}
@@ -26,7 +27,7 @@ use Rattle.cm_types.proofs.Sound.{row_is_sound}
 use Rattle.cm_types.specs.Properties.{is_faulty, is_of_kind, is_too_long, is_no_choice}
 use Rattle.cm_types.specs.BaseTypes.{prop, common_props, version_props, content_props, folder_props, relationship_props, policy_props, retention_props, hold_props, base_types}
 use Rattle.cmis_spec.specs.Values.{words, texts}
-use Rattle.cmis_spec.specs.Repository.{opening, most_steps, last_of}
+use Rattle.cmis_spec.specs.Repository.{opening, last_of}
 use Rattle.cmis_spec.specs.Well.{Apart, MayOpen, IsWellFormed, root_value, ends_at_base, HasBases, IsRooted, Agrees, TakesTexts, IsDef, HasDefs, HasGroups, define_apart}
 use Rattle.cmis_laws.proofs.Opening.{opening_is}
 use Rattle.cmis_laws.proofs.Lists.{by_test, some_eq, all_zip, apart_weaker}
@@ -232,6 +233,6 @@ base_types_may_open = record {
   root = root_fits;
 }
 
-pub opens : (types : List TypeDef) (users : List User) (groups : List Group) (m : Moment) (n : ℕ) → types ≡ base_types → HasGroups (map (λ u. u.name) users) groups → n ≤ most_steps
-    → IsWellFormed (opening types users groups m n)
-opens types users groups m n e g bound = opening_is types users groups m n (subst MayOpen (sym e) base_types_may_open) g bound
+pub opens : (types : List TypeDef) (users : List User) (groups : List Group) (start : Start) → types ≡ base_types → HasGroups (map (λ u. u.name) users) groups
+    → start.first_step ≤ greatest_limit → AreLimits start.limits → IsWellFormed (opening types users groups start)
+opens types users groups start e g bound within = opening_is types users groups start (subst MayOpen (sym e) base_types_may_open) g bound within

@@ -115,7 +115,7 @@ refusal_of r u m (writes.CreateDocumentFromSource call) = refusal_create_documen
 refusal_of r u m (writes.DeleteTree call) = refusal_delete_tree r u (cost_delete_tree call) call
 refusal_of r u m (writes.ApplyPolicy call) = refusal_apply_policy r u (cost_apply_policy call) call
 refusal_of r u m (writes.RemovePolicy call) = refusal_remove_policy r u (cost_remove_policy call) call
-refusal_of r u m (writes.BulkUpdate call) = refusal_bulk_update r (cost_bulk_update call)
+refusal_of r u m (writes.BulkUpdate call) = refusal_bulk_update r u (cost_bulk_update call)
 refusal_of r u m (writes.AddRendition call) = refusal_add_rendition r u (cost_add_rendition call) call
 
 -- the repository after the write, where it is not refused
@@ -190,7 +190,7 @@ answer_default r u q = find_or causes.NotFound (addressed r u q.children.childre
 -- what the user's question is answered
 abbrev pub answer_of : Repository → List ℕ → Question → Judged Reply
 answer_of r u (questions.Object q) = answer_show_object r u q >>= λ reply. Ok (replies.Included reply)
-answer_of r u (questions.Properties q) = answer_show_properties r u q >>= λ reply. Ok (replies.Object reply)
+answer_of r u (questions.Properties q) = answer_show_properties r u q >>= λ reply. Ok (replies.Properties reply)
 answer_of r u (questions.Children q) = answer_show_children r u q >>= λ reply. Ok (replies.Children reply)
 answer_of r u (questions.Content q) = answer_content r u q >>= λ reply. Ok (replies.Content reply)
 answer_of r u (questions.Default q) = answer_default r u q

@@ -32,6 +32,7 @@ left_has_number reply step false = refl
 -- a reply has the number of the step that it was made at
 reply_has_number : (reply : Reply) (step : ℕ) → (shown_reply reply step).number ≡ Some step
 reply_has_number (replies.Object reply) step = refl
+reply_has_number (replies.Properties reply) step = refl
 reply_has_number (replies.Children reply) step = refl
 reply_has_number (replies.Type reply) step = refl
 reply_has_number (replies.Types reply) step = refl

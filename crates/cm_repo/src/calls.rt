@@ -258,7 +258,7 @@ pub fn read(alloc: Global, state: &State, user: &Text, question: &Question) -> R
         }
         Question::Properties(q) => {
             let reply = show_properties(alloc, state, user, q)?;
-            Ok(Reply::Object(reply))
+            Ok(Reply::Properties(reply))
         }
         Question::Children(q) => {
             let reply = show_children(alloc, state, user, q)?;

@@ -34,7 +34,7 @@ fn has_other_form(cardinality: Cardinality, given: &Given) -> bool
 {
     match cardinality {
         Cardinality::Single => given.several || given.texts.len() > 1,
-        Cardinality::Multi => !given.several,
+        Cardinality::Multi => false,
     }
 }
 
@@ -58,7 +58,7 @@ fn breaks_form(def: &PropDef, given: &Given) -> bool
 pub fn stated(alloc: Global, def: &PropDef, given: &Given) -> Result<Value, AllocError>
     ensures { IfOk result (λ v. v ≡ stated def.now given.now) }
 {
-    value_of_texts(alloc, def.kind, given.several, given.texts.as_slice())
+    value_of_texts(alloc, def.kind, def.cardinality, given.texts.as_slice())
 }
 
 fn fault_by(

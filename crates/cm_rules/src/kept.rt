@@ -3,6 +3,7 @@ ghost use Rattle.std.specs.Prelude.{◌≡◌, IfOk, OnOk, [], ◌∷◌, ◌++�
 ghost use Rattle.cm_base.specs.Judged.{Meets, judge_by, first_cause};
 ghost use Rattle.cm_map.specs.Parts.{pointee};
 ghost use Rattle.cm_types.specs.Properties.{is_set, value_of_texts, stated, value_before, kept_value, is_missing, missing_cause};
+ghost use Rattle.cm_types.specs.declared.property.Cardinality.TheVariants.{Single};
 ghost use Rattle.cmis_spec.specs.Values.{is_apart, values_kept};
 
 use crate::fault::stated;
@@ -15,7 +16,7 @@ use cm_base::items::Items;
 use cm_base::text::Text;
 use cm_base::value::{Slot, Value, Values};
 use cm_types::given::{Given, PropertyCall};
-use cm_types::property::{PropDef, PropertyKind};
+use cm_types::property::{Cardinality, PropDef, PropertyKind};
 use std::alloc::{AllocError, Global};
 
 /// Whether a value is set.
@@ -120,23 +121,20 @@ pub fn values_kept(
 
 #[tactic(auto, using(crate::proofs::Lists::is_set_one))]
 fn states_one(kind: PropertyKind, text: &Text) -> bool
-    ensures { result ≡ is_set (value_of_texts kind false (text.now ∷ [])) }
+    ensures { result ≡ is_set (value_of_texts kind Single (text.now ∷ [])) }
 {
     !is_formless(kind, text)
 }
 
-fn states_some(kind: PropertyKind, several: bool, texts: &[Text]) -> bool
-    ensures { result ≡ is_set (value_of_texts kind several texts.now) }
+fn states_some(kind: PropertyKind, cardinality: Cardinality, texts: &[Text]) -> bool
+    ensures { result ≡ is_set (value_of_texts kind cardinality texts.now) }
 {
     match texts {
         [] => false,
-        [text, ..] => {
-            if several {
-                true
-            } else {
-                states_one(kind, text)
-            }
-        }
+        [text, ..] => match cardinality {
+            Cardinality::Single => states_one(kind, text),
+            Cardinality::Multi => true,
+        },
     }
 }
 
@@ -156,7 +154,7 @@ fn is_kept_set(call: PropertyCall, old: &[Slot], given: &[Given], def: &PropDef)
     ensures { result ≡ is_set (kept_value call old.now given.now def.now) }
 {
     match given_of(given, &def.id) {
-        Some(one) => states_some(def.kind, one.several, one.texts.as_slice()),
+        Some(one) => states_some(def.kind, def.cardinality, one.texts.as_slice()),
         None => is_set_before(call, old, def),
     }
 }

@@ -8,7 +8,7 @@ use cm_base::decimal::read_i64;
 use cm_base::items::Items;
 use cm_base::text::Text;
 use cm_base::value::{Scalar, Scalars, Value};
-use cm_types::property::PropertyKind;
+use cm_types::property::{Cardinality, PropertyKind};
 use std::alloc::{AllocError, Global};
 
 fn flag_of_text(text: &Text) -> Option<bool>
@@ -76,27 +76,26 @@ fn scalars_of_texts(
     Ok(all)
 }
 
-/// The value that texts state; no text unsets the property.
+/// The value that texts state for a property of one value or of several; no text unsets the property.
 pub fn value_of_texts(
     alloc: Global,
     kind: PropertyKind,
-    several: bool,
+    cardinality: Cardinality,
     texts: &[Text],
 ) -> Result<Value, AllocError>
-    ensures { IfOk result (λ v. v ≡ value_of_texts kind several texts.now) }
+    ensures { IfOk result (λ v. v ≡ value_of_texts kind cardinality texts.now) }
 {
     match texts {
         [] => Ok(Value::Unset),
-        [text, ..] => {
-            if several {
+        [text, ..] => match cardinality {
+            Cardinality::Single => match scalar_of_text(alloc, kind, text)? {
+                Some(scalar) => Ok(Value::One(scalar)),
+                None => Ok(Value::Unset),
+            },
+            Cardinality::Multi => {
                 let scalars = scalars_of_texts(alloc, kind, texts)?;
                 Ok(Value::Many(scalars))
-            } else {
-                match scalar_of_text(alloc, kind, text)? {
-                    Some(scalar) => Ok(Value::One(scalar)),
-                    None => Ok(Value::Unset),
-                }
             }
-        }
+        },
     }
 }

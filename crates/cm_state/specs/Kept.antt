@@ -22,6 +22,7 @@ repository_of s = record {
   next = s.next;
   step = s.step;
   cost = s.cost;
+  limits = s.limits;
 }
 
 -- all that the indexes need: the filing tells what its children are

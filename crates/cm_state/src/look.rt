@@ -12,6 +12,7 @@ use crate::parts::Parts;
 use crate::told::is_of_base;
 use cm_base::access::AccessList;
 use cm_base::content::{Content, Rendition};
+use cm_base::limits::Limits;
 use cm_base::number::{Oid, Oids};
 use cm_base::object::Object;
 use cm_base::series::Series;
@@ -301,5 +302,12 @@ impl Parts {
         ensures { result ≡ self.now.cost }
     {
         self.cost
+    }
+
+    /// The most steps that are taken, and the most bytes that these may cost.
+    pub fn limits(&self) -> Limits
+        ensures { result ≡ self.now.limits }
+    {
+        self.limits
     }
 }

@@ -10,6 +10,7 @@ use crate::state::State;
 use cm_base::access::{AccessList, Ace, Aces, Level};
 use cm_base::copies::Copies;
 use cm_base::items::Items;
+use cm_base::limits::Start;
 use cm_base::number::{Moment, Oid};
 use cm_base::object::Object;
 use cm_base::text::{Text, Texts};
@@ -121,21 +122,20 @@ fn first_lists(alloc: Global, folder: Object, aces: Aces) -> Result<Lists, Alloc
 }
 
 impl State {
-    /// The repository of these users and groups with the root alone, made by the first user at this moment, with this step number.
+    /// The repository of these users and groups with the root alone, made by the first user at the moment of the start.
     pub fn opening(
         alloc: Global,
         types: Types,
         users: &Users,
         groups: Groups,
-        moment: Moment,
-        first_step: u64,
+        start: Start,
     ) -> Result<State, AllocError>
-        requires well { IsWellFormed (opening types users.now groups moment first_step) }
-        ensures { IfOk result (λ s. s ≡ opening types users.now groups moment first_step) }
+        requires well { IsWellFormed (opening types users.now groups start) }
+        ensures { IfOk result (λ s. s ≡ opening types users.now groups start) }
     {
         let names = names_of(alloc, users.as_slice())?;
         let administrator = administrator_of(alloc, names.as_slice())?;
-        let root = root_folder(alloc, &administrator, moment, first_step)?;
+        let root = root_folder(alloc, &administrator, start.moment, start.first_step)?;
         let aces = root_aces(alloc, &administrator)?;
         let lists = first_lists(alloc, root, aces)?;
         let types = Arc::new(alloc, types)?;
@@ -147,8 +147,9 @@ impl State {
             filing: Filing::empty(alloc),
             lists,
             next: 2,
-            step: first_step,
+            step: start.first_step,
             cost: 0,
+            limits: start.limits,
         };
         Ok(parts.seal())
     }

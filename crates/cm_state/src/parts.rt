@@ -3,6 +3,7 @@ ghost use Rattle.std.specs.Prelude.{◌≡◌, IfOk};
 
 use crate::lists::Lists;
 use crate::people::People;
+use cm_base::limits::Limits;
 use cm_folder::filing::Filing;
 use cm_type_list::types::Types;
 use std::alloc::{AllocError, Global};
@@ -19,6 +20,7 @@ pub struct Parts {
     pub next: u64,
     pub step: u64,
     pub cost: u64,
+    pub limits: Limits,
 }
 
 impl Model for Parts {
@@ -49,6 +51,14 @@ impl Parts {
             next: self.next,
             step: self.step,
             cost: self.cost,
+            limits: self.limits,
         })
     }
+}
+
+/// The same parts under other limits.
+pub(crate) fn limited(parts: Parts, limits: Limits) -> Parts
+    ensures { result ≡ record parts { limits = limits } }
+{
+    Parts { limits, ..parts }
 }

@@ -2,6 +2,7 @@
 ghost use Rattle.std.specs.Prelude.{◌≡◌, Bool, if◌then◌else◌, option_and_then, unwrap_or, ◌+◌, ◌<◌, ◌&&◌, Option, Some, None, IfOk, [], map, find, bytes_eq, length};
 ghost use Rattle.std.specs.Option.{option_copied};
 ghost use Rattle.cm_base.specs.declared.object.Object.{Object};
+ghost use Rattle.cm_base.specs.Limits.{AreLimits};
 ghost use Rattle.cm_map.specs.Parts.{pointee};
 ghost use Rattle.cm_types.specs.Types.{type_in};
 ghost use Rattle.cmis_spec.specs.Repository.{object_at, series_at, series_of, owner_of, is_a, parent_in, is_filed, entry_of, entry_name, is_taken};
@@ -9,11 +10,12 @@ ghost use Rattle.cmis_spec.specs.Access.{stands, groups_of};
 ghost use Rattle.cmis_spec.specs.Well.{IsWellFormed};
 ghost use Rattle.cm_state.specs.Looks.{list_at, content_at, rendition_at, renditions_of, policies_on, is_applied, is_policy_used, folders_in, numbers_in, tied_to, numbers_of_type};
 
-use crate::parts::Parts;
+use crate::parts::{Parts, limited};
 use crate::standing::standing_among;
 use cm_base::access::AccessList;
 use cm_base::content::{Content, Rendition};
 use cm_base::items::Items;
+use cm_base::limits::Limits;
 use cm_base::number::{Oid, Oids};
 use cm_base::object::Object;
 use cm_base::series::Series;
@@ -60,6 +62,16 @@ impl Parts {
     }
 }
 
+// The state that the parts are under these limits.
+fn sealed_under(parts: Parts, limits: Limits) -> State
+    requires well { IsWellFormed parts }
+    requires within { AreLimits limits }
+    ensures { result ≡ record parts { limits = limits } }
+{
+    let other = limited(parts, limits);
+    other.seal()
+}
+
 impl State {
     /// The parts of the state.
     pub fn parts(&self) -> &Parts
@@ -74,6 +86,15 @@ impl State {
     {
         let parts = self.parts.share(alloc)?;
         Ok(State { parts })
+    }
+
+    /// The same state under other limits. All that it holds is shared with this one.
+    pub fn under(&self, alloc: Global, limits: Limits) -> Result<State, AllocError>
+        requires within { AreLimits limits }
+        ensures { IfOk result (λ s. s ≡ record self.now { limits = limits }) }
+    {
+        let parts = self.parts.share(alloc)?;
+        Ok(sealed_under(parts, limits))
     }
 
     /// The object of this number.
@@ -328,5 +349,12 @@ impl State {
         ensures { result ≡ self.now.cost }
     {
         self.parts.cost()
+    }
+
+    /// The most steps that are taken, and the most bytes that these may cost.
+    pub fn limits(&self) -> Limits
+        ensures { result ≡ self.now.limits }
+    {
+        self.parts.limits()
     }
 }

@@ -86,15 +86,15 @@ scalar_of_text kinds.Html text = Some (Words text)
 abbrev pub scalars_of_texts : PropertyKind → List (List ℕ) → List Scalar
 scalars_of_texts kind texts = filter_map (scalar_of_text kind) texts
 
--- the value that texts state; no text unsets the property
-abbrev pub value_of_texts : PropertyKind → Bool → List (List ℕ) → Value
-value_of_texts kind several [] = Unset
-value_of_texts kind false (t ∷ ts) = unwrap_or (option_map One (scalar_of_text kind t)) Unset
-value_of_texts kind true (t ∷ ts) = Many (scalars_of_texts kind (t ∷ ts))
+-- the value that texts state for a property of one value or of several; no text unsets the property
+abbrev pub value_of_texts : PropertyKind → Cardinality → List (List ℕ) → Value
+value_of_texts kind cardinality [] = Unset
+value_of_texts kind cardinalities.Single (t ∷ ts) = unwrap_or (option_map One (scalar_of_text kind t)) Unset
+value_of_texts kind cardinalities.Multi (t ∷ ts) = Many (scalars_of_texts kind (t ∷ ts))
 
 -- the value that a given property states
 abbrev pub stated : PropDef → Given → Value
-stated d g = value_of_texts d.kind g.several g.texts
+stated d g = value_of_texts d.kind d.cardinality g.texts
 
 -- ---- faults of a scalar
 
@@ -161,11 +161,12 @@ may_give _ may.OnCreate = false
 may_give (calls.Update working) may.WhenCheckedOut = working
 may_give _ may.WhenCheckedOut = true
 
+-- a property of several values takes one as well: it is a list of one then
 abbrev pub has_other_form : Cardinality → Given → Bool
 has_other_form cardinalities.Single g = g.several || nat_lt 1 (length g.texts)
-has_other_form cardinalities.Multi g = not g.several
+has_other_form cardinalities.Multi g = false
 
--- several values for a single property, or one value for one of several; what is unset fits both
+-- several values, be it one item, for a property of one; what is unset fits both
 abbrev pub breaks_cardinality : PropDef → Given → Bool
 breaks_cardinality d g = nat_lt 0 (length g.texts) && has_other_form d.cardinality g
 

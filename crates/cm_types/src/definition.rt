@@ -3,6 +3,7 @@ ghost use Rattle.std.specs.Prelude.{◌≡◌};
 ghost use Rattle.cm_types.specs.Changes.{base_id};
 
 use crate::property::PropDefs;
+use crate::together::{all_four, both};
 use cm_base::copies::Copies;
 use cm_base::items::Items;
 use cm_base::text::{Text, Texts};
@@ -84,15 +85,33 @@ pub type TypeDefs = Items<TypeDef>;
 
 impl Copies for TypeDef {
     fn copied(&self, alloc: Global) -> Result<TypeDef, AllocError> {
+        let names = all_four(
+            &self.local_name,
+            &self.local_namespace,
+            &self.display_name,
+            &self.query_name,
+            alloc,
+        )?;
+        let first = both(&self.id, &self.description, alloc)?;
+        let second = both(&self.parent, &self.properties, alloc)?;
+        let third = both(
+            &self.allowed_source_types,
+            &self.allowed_target_types,
+            alloc,
+        )?;
+        let (local_name, local_namespace, display_name, query_name) = names.apart();
+        let (id, description) = first.apart();
+        let (parent, properties) = second.apart();
+        let (allowed_source_types, allowed_target_types) = third.apart();
         Ok(TypeDef {
-            id: self.id.copied(alloc)?,
-            local_name: self.local_name.copied(alloc)?,
-            local_namespace: self.local_namespace.copied(alloc)?,
-            display_name: self.display_name.copied(alloc)?,
-            query_name: self.query_name.copied(alloc)?,
-            description: self.description.copied(alloc)?,
+            id,
+            local_name,
+            local_namespace,
+            display_name,
+            query_name,
+            description,
             base: self.base,
-            parent: Copies::copied(&self.parent, alloc)?,
+            parent,
             creatable: self.creatable,
             fileable: self.fileable,
             queryable: self.queryable,
@@ -103,9 +122,9 @@ impl Copies for TypeDef {
             mutability: self.mutability,
             versionable: self.versionable,
             content_allowed: self.content_allowed,
-            allowed_source_types: self.allowed_source_types.copied(alloc)?,
-            allowed_target_types: self.allowed_target_types.copied(alloc)?,
-            properties: self.properties.copied(alloc)?,
+            allowed_source_types,
+            allowed_target_types,
+            properties,
         })
     }
 }

@@ -8,3 +8,4 @@ pub mod fault;
 pub mod given;
 pub mod property;
 pub mod request;
+pub mod together;

@@ -1,6 +1,7 @@
 //! Definitions of properties (CMIS 1.1, section 2.1.3.3).
 ghost use Rattle.std.specs.Prelude.{◌≡◌};
 
+use crate::together::{all_four, both};
 use cm_base::copies::Copies;
 use cm_base::items::Items;
 use cm_base::text::Text;
@@ -86,13 +87,25 @@ impl Copies for Choice {
 
 impl Copies for PropDef {
     fn copied(&self, alloc: Global) -> Result<PropDef, AllocError> {
+        let names = all_four(
+            &self.local_name,
+            &self.local_namespace,
+            &self.display_name,
+            &self.query_name,
+            alloc,
+        )?;
+        let first = both(&self.id, &self.description, alloc)?;
+        let second = both(&self.choices, &self.default, alloc)?;
+        let (local_name, local_namespace, display_name, query_name) = names.apart();
+        let (id, description) = first.apart();
+        let (choices, default) = second.apart();
         Ok(PropDef {
-            id: self.id.copied(alloc)?,
-            local_name: self.local_name.copied(alloc)?,
-            local_namespace: self.local_namespace.copied(alloc)?,
-            display_name: self.display_name.copied(alloc)?,
-            query_name: self.query_name.copied(alloc)?,
-            description: self.description.copied(alloc)?,
+            id,
+            local_name,
+            local_namespace,
+            display_name,
+            query_name,
+            description,
             kind: self.kind,
             cardinality: self.cardinality,
             updatability: self.updatability,
@@ -100,8 +113,8 @@ impl Copies for PropDef {
             queryable: self.queryable,
             orderable: self.orderable,
             open_choice: self.open_choice,
-            choices: self.choices.copied(alloc)?,
-            default: self.default.copied(alloc)?,
+            choices,
+            default,
             max_length: self.max_length,
             min_value: self.min_value,
             max_value: self.max_value,

@@ -5,6 +5,7 @@ ghost use Rattle.std.specs.Prelude.{◌≡◌};
 
 use crate::definition::ContentAllowed;
 use crate::property::{Cardinality, Choices, PropertyKind, Updatability};
+use crate::together::{all_four, both};
 use cm_base::copies::Copies;
 use cm_base::items::Items;
 use cm_base::text::{Text, Texts};
@@ -76,13 +77,25 @@ pub struct TypeRequest {
 
 impl Copies for PropRequest {
     fn copied(&self, alloc: Global) -> Result<PropRequest, AllocError> {
+        let names = all_four(
+            &self.local_name,
+            &self.local_namespace,
+            &self.display_name,
+            &self.query_name,
+            alloc,
+        )?;
+        let first = both(&self.id, &self.description, alloc)?;
+        let second = both(&self.choices, &self.default, alloc)?;
+        let (local_name, local_namespace, display_name, query_name) = names.apart();
+        let (id, description) = first.apart();
+        let (choices, default) = second.apart();
         Ok(PropRequest {
-            id: self.id.copied(alloc)?,
-            local_name: Copies::copied(&self.local_name, alloc)?,
-            local_namespace: Copies::copied(&self.local_namespace, alloc)?,
-            display_name: Copies::copied(&self.display_name, alloc)?,
-            query_name: Copies::copied(&self.query_name, alloc)?,
-            description: Copies::copied(&self.description, alloc)?,
+            id,
+            local_name,
+            local_namespace,
+            display_name,
+            query_name,
+            description,
             kind: self.kind,
             cardinality: self.cardinality,
             updatability: self.updatability,
@@ -90,8 +103,8 @@ impl Copies for PropRequest {
             queryable: self.queryable,
             orderable: self.orderable,
             open_choice: self.open_choice,
-            choices: Copies::copied(&self.choices, alloc)?,
-            default: Copies::copied(&self.default, alloc)?,
+            choices,
+            default,
             max_length: self.max_length,
             min_value: self.min_value,
             max_value: self.max_value,
@@ -101,15 +114,34 @@ impl Copies for PropRequest {
 
 impl Copies for TypeRequest {
     fn copied(&self, alloc: Global) -> Result<TypeRequest, AllocError> {
+        let names = all_four(
+            &self.local_name,
+            &self.local_namespace,
+            &self.display_name,
+            &self.query_name,
+            alloc,
+        )?;
+        let first = both(&self.id, &self.base, alloc)?;
+        let second = both(&self.parent, &self.description, alloc)?;
+        let third = both(
+            &self.allowed_source_types,
+            &self.allowed_target_types,
+            alloc,
+        )?;
+        let properties = self.properties.copied(alloc)?;
+        let (local_name, local_namespace, display_name, query_name) = names.apart();
+        let (id, base) = first.apart();
+        let (parent, description) = second.apart();
+        let (allowed_source_types, allowed_target_types) = third.apart();
         Ok(TypeRequest {
-            id: self.id.copied(alloc)?,
-            base: self.base.copied(alloc)?,
-            parent: Copies::copied(&self.parent, alloc)?,
-            local_name: Copies::copied(&self.local_name, alloc)?,
-            local_namespace: Copies::copied(&self.local_namespace, alloc)?,
-            display_name: Copies::copied(&self.display_name, alloc)?,
-            query_name: Copies::copied(&self.query_name, alloc)?,
-            description: Copies::copied(&self.description, alloc)?,
+            id,
+            base,
+            parent,
+            local_name,
+            local_namespace,
+            display_name,
+            query_name,
+            description,
             creatable: self.creatable,
             fileable: self.fileable,
             queryable: self.queryable,
@@ -120,9 +152,9 @@ impl Copies for TypeRequest {
             mutability: self.mutability,
             versionable: self.versionable,
             content_allowed: self.content_allowed,
-            allowed_source_types: Copies::copied(&self.allowed_source_types, alloc)?,
-            allowed_target_types: Copies::copied(&self.allowed_target_types, alloc)?,
-            properties: self.properties.copied(alloc)?,
+            allowed_source_types,
+            allowed_target_types,
+            properties,
         })
     }
 }

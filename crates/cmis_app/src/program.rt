@@ -18,7 +18,7 @@ use std::thread::Threads;
 
 /// Runs the program with these words, and answers its status.
 ///
-/// `serve USERS PORT WORKERS [links=K] [groups=LIST]` serves the host's links at this port. 0: the host had none to give, or as many were served as may be;
+/// `serve USERS PORT WORKERS [links=K] [groups=LIST] [steps=N] [bytes=N]` serves the host's links at this port. 0: the host had none to give, or as many were served as may be;
 /// 4: the line at the end could not be written; 5: the host failed; 7: memory was wanted. Every other list of words is run by `cmis_runs::run_once`.
 pub fn run<I: Source, O: Sink, H: Host, C: Clock + Send, G: Gate + Sync, R: Threads + Wait + Sync>(
     rt: &R,
@@ -39,7 +39,7 @@ where
         × OnlyWhereFailed (I.told input.old) (O.told output.old) (I.told input.new) (O.told output.new) result.status) }
     ensures served { IfSome (serve_of (map string_bytes words.now)) (λ asked. MatchOption result.closing
         (Unserved (H.told host.old) (H.told host.new) result.status × (O.told output.new ≡ O.told output.old))
-        (λ c. ServedAll H.Link.Source.told H.Link.Sink.told asked.users asked.groups (C.words clock.old)
+        (λ c. ServedAll H.Link.Source.told H.Link.Sink.told asked (C.words clock.old)
         (H.left host.old) c.last c.ended
         × Hosted asked (H.told host.old) (H.left host.old) (H.told host.new) (H.left host.new) (length c.ended) c.end
         × Summed c.end (summary (length c.ended) (state_of shown_step c.last).step) (O.told output.old)

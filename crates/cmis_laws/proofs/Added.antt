@@ -187,4 +187,4 @@ module _ (r : Repository) (x : Object) (aces : List Ace) (policies : List Oid) (
   tokens_with = All-push (λ y. y.token ≤ r.step) r.objects x w.tokens f.token
 
   pub bounds_with : HasBounds after
-  bounds_with = (w.bounds.0, w.bounds.1, omega (arith, f.room))
+  bounds_with = (w.bounds.0, w.bounds.1, omega (arith, f.room), w.bounds.3)

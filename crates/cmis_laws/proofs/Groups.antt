@@ -101,5 +101,5 @@ step_groups r cost room g = record {
   lists = (g.lists.0, g.lists.1, contents_stepped r cost g.lists.2, g.lists.3);
   values = g.values;
   users = g.users;
-  bounds = ((room.steps, room.bytes, omega (arith, g.bounds.0.2)), tokens_stepped r cost g.bounds.1, labels_stepped r cost g.bounds.2);
+  bounds = ((omega (arith, room.steps, g.bounds.0.3.0), omega (arith, room.bytes, g.bounds.0.3.1), omega (arith, g.bounds.0.2), g.bounds.0.3), tokens_stepped r cost g.bounds.1, labels_stepped r cost g.bounds.2);
 }

@@ -189,7 +189,7 @@ module _ (r : Repository) (x : Object) (ss : List Series) (ls : List AccessList)
     kept = All-push (λ y. IsKept after (props_of r.types y.kind y.secondary) y) r.objects x
         (All-weaker (λ y. IsKept r (props_of r.types y.kind y.secondary) y) (λ y. IsKept after (props_of r.types y.kind y.secondary) y) (λ y k. kept_anywhere r after y y w.defs refl k) r.objects w.kept)
         (kept_anywhere r after x x w.defs refl f.kept);
-    bounds = (w.bounds.0, w.bounds.1, omega (arith, f.room));
+    bounds = (w.bounds.0, w.bounds.1, omega (arith, f.room), w.bounds.3);
     tokens = All-push (λ y. y.token ≤ r.step) r.objects x w.tokens f.token;
     labels = f.labels;
   }

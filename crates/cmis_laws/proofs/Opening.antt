@@ -10,7 +10,8 @@ use Rattle.core.specs.Cmp.Lexicographic.{slice_cmp, nat_list_cmp_total}
 use Rattle.cm_base.specs.declared.access.Ace.{Ace}
 use Rattle.cm_base.specs.declared.access.Level.TheVariants as levels
 use Rattle.cmis_spec.specs.Access.{rank}
-use Rattle.cm_base.specs.declared.number.Moment.{Moment}
+use Rattle.cm_base.specs.declared.limits.Start.{Start}
+use Rattle.cm_base.specs.Limits.{greatest_limit, AreLimits}
 use Rattle.cm_base.specs.declared.object.Object.{Object}
 use Rattle.cm_base.specs.declared.user.User.{User}
 use Rattle.cm_base.specs.declared.user.Group.{Group}
@@ -20,7 +21,7 @@ use Rattle.cm_types.specs.declared.definition.TypeDef.{TypeDef}
 use Rattle.cm_types.specs.declared.definition.BaseType.TheVariants as bases
 use Rattle.cm_types.specs.Types.{type_in, same_base, is_below, props_of}
 use Rattle.cm_types.specs.Properties.{is_faulty}
-use Rattle.cmis_spec.specs.Repository.{object_at, series_at, root, same, most_steps, most_cost, is_a, opening, root_folder, root_access, administrator_of, entry_of, longest_stream}
+use Rattle.cmis_spec.specs.Repository.{object_at, series_at, root, same, is_a, opening, root_folder, root_access, administrator_of, entry_of, longest_stream}
 use Rattle.cmis_spec.specs.Values.{words, form_value}
 use Rattle.cmis_spec.specs.Well.{MayOpen, root_value, IsTyped, IsKept, IsAceList, ComesBefore, IsAccess, is_listed, IsOwn, OwnsValues, IsRendition, HasGroups, IsPair, HasWay, Belongs, IsMember, members, HasSome, IsBaseAt, IsThere, HasEnds, IsLabel, IsAlone, is_plain, is_version, Apart, IsWellFormed}
 use Rattle.cmis_laws.proofs.Entries.{not_both}
@@ -33,9 +34,9 @@ there None h = absurd (both_ways false refl h)
 there (Some t) h = refl
 
 -- the root has no value of its own but its name and its type
-root_kept : (types : List TypeDef) (users : List User) (groups : List Group) (m : Moment) (n : ℕ) (x : Object) → x ≡ root_folder (administrator_of (map (λ u. u.name) users)) m n
-    → (id : List ℕ) → root_value id ≡ form_value (opening types users groups m n) x id
-root_kept types users groups m n x e id = rw e (same (bytes_eq id (codes "cmis:name")) (bytes_eq id (codes "cmis:objectTypeId")) (bytes_eq id (codes "cmis:secondaryObjectTypeIds")) (words (codes "root")) (words (codes "cmis:folder")))
+root_kept : (types : List TypeDef) (users : List User) (groups : List Group) (start : Start) (x : Object) → x ≡ root_folder (administrator_of (map (λ u. u.name) users)) start.moment start.first_step
+    → (id : List ℕ) → root_value id ≡ form_value (opening types users groups start) x id
+root_kept types users groups start x e id = rw e (same (bytes_eq id (codes "cmis:name")) (bytes_eq id (codes "cmis:objectTypeId")) (bytes_eq id (codes "cmis:secondaryObjectTypeIds")) (words (codes "root")) (words (codes "cmis:folder")))
   where
     same : (a b c : Bool) (v w : Value) → (if a then v else if b then w else Unset) ≡ (if a then v else if b then w else if c then Unset else Unset)
     same true b c v w = refl
@@ -60,13 +61,13 @@ two_aces a b Equal e = turned a b (ap (λ o. ordering_then o Less) (nat_list_cmp
 two_aces a b Greater e = turned a b (ap (λ o. ordering_then o Less) (nat_list_cmp_total.antisymm b a ∙ ap ordering_reverse e))
 
 -- by the types and the groups alone: they are well formed, and the root is a folder of the types without a fault
-pub opening_is : (types : List TypeDef) (users : List User) (groups : List Group) (m : Moment) (n : ℕ) → MayOpen types → HasGroups (map (λ u. u.name) users) groups → n ≤ most_steps
-    → IsWellFormed (opening types users groups m n)
-unfolding most_cost
-opening_is types users groups m n f g bound =
-    let r = opening types users groups m n in
+pub opening_is : (types : List TypeDef) (users : List User) (groups : List Group) (start : Start) → MayOpen types → HasGroups (map (λ u. u.name) users) groups
+    → start.first_step ≤ greatest_limit → AreLimits start.limits → IsWellFormed (opening types users groups start)
+opening_is types users groups start f g bound within =
+    let r = opening types users groups start in
+    let n = start.first_step in
     let admin : List ℕ = administrator_of (map (λ u. u.name) users) in
-    let x : Object = root_folder admin m n in
+    let x : Object = root_folder admin start.moment n in
     record {
       numbers = ((All-nil (λ y. x.id.0 < y.id.0), tt), one (λ y. y.id.0 < 2) x (omega arith));
       series_numbers = (tt, All-nil (λ s. s.id.0 < 2));
@@ -93,8 +94,8 @@ opening_is types users groups m n f g bound =
       types = f.well;
       defs = f.defs;
       kept = one (λ y. IsKept r (props_of types y.kind y.secondary) y) x
-          (All-weaker (λ d. is_faulty d (root_value d.id) ≡ false) (λ d. is_faulty d (form_value r x d.id) ≡ false) (λ d e. subst (λ v. is_faulty d v ≡ false) (root_kept types users groups m n x refl d.id) e) (props_of types (codes "cmis:folder") []) f.root);
-      bounds = (bound, omega arith, omega arith);
+          (All-weaker (λ d. is_faulty d (root_value d.id) ≡ false) (λ d. is_faulty d (form_value r x d.id) ≡ false) (λ d e. subst (λ v. is_faulty d v ≡ false) (root_kept types users groups start x refl d.id) e) (props_of types (codes "cmis:folder") []) f.root);
+      bounds = (bound, omega arith, omega arith, within);
       tokens = one (λ y. y.token ≤ n) x (omega arith);
       labels = All-nil (λ s. All (λ v. IfSome v.label (IsLabel n)) s.versions);
     }

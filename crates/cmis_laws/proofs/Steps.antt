@@ -6,15 +6,17 @@ use Rattle.cm_base.specs.declared.number.Oid.{Oid}
 use Rattle.cm_base.specs.declared.number.Moment.{Moment}
 use Rattle.cm_base.specs.declared.log.ChangeKind.{ChangeKind}
 use Rattle.cm_base.specs.declared.series.Label.{Label}
+use Rattle.cm_base.specs.declared.limits.Limits.{Limits}
+use Rattle.cm_base.specs.Limits.{AreLimits}
 use Rattle.cm_types.specs.declared.definition.BaseType.TheVariants as bases
-use Rattle.cmis_spec.specs.Repository.{Repository, most_steps, most_cost}
+use Rattle.cmis_spec.specs.Repository.{Repository}
 use Rattle.cmis_spec.specs.Changes.{stepped, noted}
 use Rattle.cmis_spec.specs.Well.{IsBaseAt, HasContents, HasTokens, HasLabels, IsLabel, IsWellFormed}
 
 -- there is room for one step more, at this cost
 pub record HasRoom (r : Repository) (cost : ℕ) : Type 0 where
-  pub steps : r.step + 1 ≤ most_steps
-  pub bytes : r.cost + cost ≤ most_cost
+  pub steps : r.step + 1 ≤ r.limits.most_steps
+  pub bytes : r.cost + cost ≤ r.limits.most_bytes
 
 label_stepped : (step : ℕ) (o : Option Label) → IfSome o (IsLabel step) → IfSome o (IsLabel (step + 1))
 label_stepped step None h = h
@@ -57,7 +59,7 @@ step_keeps r cost w room = record {
   kept = w.kept;
   own_values = w.own_values;
   groups = w.groups;
-  bounds = (room.steps, room.bytes, omega (arith, w.bounds.2));
+  bounds = (omega (arith, room.steps, w.bounds.3.0), omega (arith, room.bytes, w.bounds.3.1), omega (arith, w.bounds.2), w.bounds.3);
   tokens = tokens_stepped r cost w.tokens;
   labels = labels_stepped r cost w.labels;
 }
@@ -91,6 +93,39 @@ note_keeps r kind n m readers w = record {
   own_values = w.own_values;
   groups = w.groups;
   bounds = w.bounds;
+  tokens = w.tokens;
+  labels = w.labels;
+}
+
+-- one fact reads the limits, and it says only that they are such as a repository may have
+pub limits_keep : (r : Repository) (limits : Limits) → IsWellFormed r → AreLimits limits → IsWellFormed (record r { limits = limits })
+limits_keep r limits w within = record {
+  numbers = w.numbers;
+  series_numbers = w.series_numbers;
+  firsts = w.firsts;
+  renditions = w.renditions;
+  root = w.root;
+  ways = w.ways;
+  one_parent = w.one_parent;
+  pairs = w.pairs;
+  names = w.names;
+  documents = w.documents;
+  series = w.series;
+  plain = w.plain;
+  own_names = w.own_names;
+  relationships = w.relationships;
+  policies = w.policies;
+  access = w.access;
+  listed = w.listed;
+  contents = w.contents;
+  sizes = w.sizes;
+  typed = w.typed;
+  types = w.types;
+  defs = w.defs;
+  kept = w.kept;
+  own_values = w.own_values;
+  groups = w.groups;
+  bounds = (w.bounds.0, w.bounds.1, w.bounds.2, within);
   tokens = w.tokens;
   labels = w.labels;
 }

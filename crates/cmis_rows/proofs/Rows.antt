@@ -8,6 +8,7 @@ use Rattle.cm_base.specs.declared.access.Ace.{Ace}
 use Rattle.cm_base.specs.declared.access.Level.TheVariants as levels
 use Rattle.cm_base.specs.declared.log.ChangeKind.TheVariants as changes
 use Rattle.cm_base.specs.declared.user.User.{User}
+use Rattle.cm_base.specs.Limits.{usual_limits}
 use Rattle.cm_types.specs.BaseTypes.{base_types}
 use Rattle.cmis_spec.specs.Repository.{Repository, opening, root, depth_of, is_under, is_taken, path_of, levels_up}
 use Rattle.cmis_spec.specs.Access.{level_of_caller, reads, object_named, read_named, at_path, children_of, lacks}
@@ -55,7 +56,7 @@ abbrev users : List User
 users = record { name = admin; secret = codes "pw" } ∷ record { name = bob; secret = codes "b" } ∷ []
 
 abbrev begun : Repository
-begun = opening base_types users [] dawn 0
+begun = opening base_types users [] (record { moment = dawn; first_step = 0; limits = usual_limits })
 
 -- the first folder has this name
 abbrev small : List ℕ → Repository

@@ -16,6 +16,7 @@ use Rattle.cm_base.specs.declared.user.Group.{Group}
 use Rattle.cm_base.specs.declared.value.Slot.{Slot}
 use Rattle.cm_base.specs.declared.value.Value.TheVariants.{One, Many}
 use Rattle.cm_base.specs.declared.value.Scalar.TheVariants.{Time, Words}
+use Rattle.cm_base.specs.Limits.{usual_limits}
 use Rattle.cm_base.specs.Judged.{cause_of}
 use Rattle.cm_types.specs.Types.{longest_chain}
 use Rattle.cmis_spec.specs.Repository.{Repository, opening, root, is_latest, series_at, levels_up, name_of}
@@ -96,7 +97,7 @@ abbrev made : ℕ → Change
 made n = record { kind = changes.Created; object = number n; moment = dawn; readers = [] }
 
 abbrev begun : Repository
-begun = opening base_types (record { name = admin; secret = codes "pw" } ∷ record { name = ann; secret = codes "a" } ∷ record { name = bob; secret = codes "b" } ∷ []) (staff ∷ []) dawn 0
+begun = opening base_types (record { name = admin; secret = codes "pw" } ∷ record { name = ann; secret = codes "a" } ∷ record { name = bob; secret = codes "b" } ∷ []) (staff ∷ []) (record { moment = dawn; first_step = 0; limits = usual_limits })
 
 -- the working copy has this value beside the others
 abbrev whole : Object → Repository

@@ -6,3 +6,4 @@ pub mod Once
 pub mod Runs
 pub mod Schedules
 pub mod Scripting
+pub mod Starts

@@ -4,6 +4,7 @@ use Rattle.cm_base.specs.declared.user.User.{User}
 use Rattle.cm_base.specs.Judged.{Judged}
 use Rattle.cm_types.specs.BaseTypes.{base_types}
 use Rattle.cmis_spec.specs.Repository.{Repository, opening}
+use Rattle.cmis_runs.specs.Starts.{start_at}
 use Rattle.http_reply.specs.Sent.{TookFront}
 use Rattle.include_parts.specs.declared.readings.Includes.{Includes}
 use Rattle.include_parts.specs.declared.readings.IncludeRelationships.TheVariants as ends
@@ -21,7 +22,7 @@ the_users = record { name = codes "admin"; secret = codes "pw" } ∷ []
 
 -- the repository before the first request: the root alone, made at the first moment
 abbrev pub beginning : Repository
-beginning = opening base_types the_users [] (record { 0 = pos 0 }) 0
+beginning = opening base_types the_users [] (start_at (record { 0 = pos 0 }) 0)
 
 -- the repository after the sessions of n requests
 abbrev pub IsMade : {C Q : Type 0} → Kind Repository C Q → ℕ → Repository → Type 0

@@ -16,6 +16,7 @@ use Rattle.run_status.specs.Status.{status_of, Refused, Unbegun}
 use Rattle.cmis_words.specs.declared.words.Words.{Words as Asked}
 use Rattle.cmis_words.specs.declared.words.Words.TheVariants.{Pipe}
 use Rattle.cmis_runs.specs.Alike.{RepliesOfSeen}
+use Rattle.cmis_runs.specs.Starts.{start_at}
 
 -- A session over this opening and a clock with these words, with nobody beside it; the session takes no other words of the clock than its turns need, and leaves these.
 -- A session that ends well or by a fault of its bytes is the session alone on all that the source had left. What a reading is replied is that of every
@@ -42,7 +43,7 @@ pub record Piped {C Q : Type 0} (kind : Kind Repository C Q) (users : List User)
   pub root : Moment
   pub words : Option Words
   pub begins : Begins at clock root words
-  pub served : Served kind (opening base_types users groups root from) users words before empty after full status
+  pub served : Served kind (opening base_types users groups (start_at root from)) users words before empty after full status
 
 -- Of a run with these words, by the words that the clock had to give. Other words than the program's read nothing.
 abbrev pub Ran : {C Q : Type 0} → Kind Repository C Q → Option Asked → Option Words → SourceTold → SinkTold → SourceTold → SinkTold → ℕ → Type 0

@@ -11,6 +11,7 @@ mod program;
 mod running;
 mod scheduled;
 pub mod scripting;
+mod start;
 mod summary;
 
 pub use loaded::load;

@@ -5,10 +5,10 @@ ghost use Rattle.cmis_runs.specs.Kinds.{kind_of};
 ghost use Rattle.cmis_runs.specs.Loads.{beginning, IsMade, the_users};
 
 use crate::program::Program;
+use crate::start::open_at;
 use cm_base::number::Moment;
 use cm_base::text::Text;
 use cm_base::user::{Groups, User, Users};
-use cm_opening::open::open;
 use cm_state::state::State;
 use load_sessions::{numbers_in, run_session, sessions_of};
 use std::alloc::{AllocError, Global};
@@ -25,12 +25,11 @@ pub(crate) fn users(alloc: Global) -> Result<Users, AllocError>
 }
 
 /// The repository with the root alone.
-#[tactic(auto, unfolding(cmis_spec::specs::Repository::most_steps))]
 pub(crate) fn beginning(alloc: Global, users: &Users) -> Result<State, AllocError>
     requires { users.now ≡ the_users }
     ensures { IfOk result (λ state. state ≡ beginning) }
 {
-    let state = open(alloc, users, Groups::new(alloc), Moment(0), 0)?;
+    let state = open_at(alloc, users, Groups::new(alloc), Moment(0), 0)?;
     Ok(state)
 }
 

@@ -1,11 +1,13 @@
 //! Many connections over one repository.
 ghost use Rattle.std.specs.Prelude.{◌≡◌, length, map, IfOk, OnErr};
+ghost use Rattle.cm_base.specs.Limits.{AreLimits};
 ghost use Rattle.cmis_spec.specs.Well.{HasGroups};
 ghost use Rattle.desk_serve.specs.Sessions.{Taken, EndsFor};
 ghost use Rattle.cmis_runs.specs.Kinds.{kind_of};
 ghost use Rattle.cmis_runs.specs.Many.{ServedAll};
 
 use crate::program::Program;
+use cm_base::limits::Start;
 use cm_opening::open::open;
 use cmis_words::serve::Serve;
 use desk_model::{Machine, moment_of_word};
@@ -15,8 +17,7 @@ use std::alloc::{AllocError, Global};
 use std::sync::Wait;
 use std::thread::Threads;
 
-/// Serves the host's links, which began with these words, over the repository with the root alone, each by a session of its own, at most so many at once. Where memory is wanted before the first one, the host isn't asked.
-#[tactic(auto, unfolding(cmis_spec::specs::Repository::most_steps))]
+/// Serves the host's links, which began with these words, over the repository with the root alone and the limits of the words, each by a session of its own, at most so many at once. Where memory is wanted before the first one, the host isn't asked.
 pub fn serve<P: Program, H: Host, C: Clock + Send, G: Gate + Sync, R: Threads + Wait + Sync>(
     rt: &R,
     alloc: Global,
@@ -32,9 +33,10 @@ where
     <P::Face as Machine>::Question: Send,
     H::Link: Send,
     requires groups { HasGroups (map (λ u. u.name) asked.users) asked.groups }
+    requires limits { AreLimits asked.limits }
     ensures served { IfOk result (λ c. ServedAll
         (kind_of P.Face.next P.Face.answer P.Face.number P.Face.call P.Face.user P.Face.least P.Face.closes)
-        H.Link.Source.told H.Link.Sink.told asked.users asked.groups
+        H.Link.Source.told H.Link.Sink.told asked
         (C.words clock.old) (H.left host.old) c.last c.ended) }
     ensures taken { IfOk result (λ c. Taken (H.told host.old) (H.left host.old) (H.told host.new) (H.left host.new)
         (length c.ended)) }
@@ -44,7 +46,12 @@ where
 {
     let users = asked.users;
     let root = moment_of_word(clock.now());
-    let opening = open(alloc, &users, asked.groups, root, 0)?;
+    let start = Start {
+        moment: root,
+        first_step: 0,
+        limits: asked.limits,
+    };
+    let opening = open(alloc, &users, asked.groups, start)?;
     P::replies_of_seen();
     let _step = opening.step();
     match desk_serve::serve::<P::Face, H, &mut C, G, R>(

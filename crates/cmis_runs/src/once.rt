@@ -10,13 +10,14 @@ ghost use Rattle.cmis_runs.specs.Kinds.{kind_of, rules_of};
 ghost use Rattle.cmis_runs.specs.Once.{LoadsOrServes, RunsOnce};
 ghost use Rattle.run_status.specs.Status.{OnlyWhereFailed, Unbegun};
 ghost use Rattle.cmis_runs.specs.Runs.{always, Served, Piped, Ran};
+ghost use Rattle.cmis_runs.specs.Starts.{start_at};
 
 use crate::loaded::load;
 use crate::program::Program;
 use crate::scheduled::schedule;
+use crate::start::open_at;
 use cm_base::number::Moment;
 use cm_base::user::{Groups, Users};
-use cm_opening::open::open;
 use cm_state::state::State;
 use cmis_words::laws::words_are_bounded;
 use cmis_words::load::read_load;
@@ -65,7 +66,6 @@ fn word_of(moment: Moment) -> u64
 }
 
 // Serves a session of which each moment is this one.
-#[tactic(auto, unfolding(cmis_spec::specs::Repository::most_steps))]
 fn at_moment<P: Program, L: Link>(
     alloc: Global,
     users: &Users,
@@ -82,19 +82,18 @@ fn at_moment<P: Program, L: Link>(
         ⊎ ((word : ℕ) × (moment ≡ moment_of word)
         × Served
         (kind_of P.Face.next P.Face.answer P.Face.number P.Face.call P.Face.user P.Face.least P.Face.closes)
-        (opening base_types users.now groups moment from) users.now (Some (always word))
+        (opening base_types users.now groups (start_at moment from)) users.now (Some (always word))
         (L.Source.told link.old) (L.Sink.told link.old) (L.Source.told link.new) (L.Sink.told link.new) result) }
     ensures stands_for { L.stands_for link.new ≡ L.stands_for link.old }
 {
     let word = word_of(moment);
-    match open(alloc, users, groups, moment, from) {
+    match open_at(alloc, users, groups, moment, from) {
         Ok(state) => serve::<P, L, FixedClock>(alloc, state, FixedClock::new(word), users, link),
         Err(_) => WANTS_MEMORY,
     }
 }
 
 // Serves a session of which the clock's first word is the moment of the root, and the next ones are those of the writes.
-#[tactic(auto, unfolding(cmis_spec::specs::Repository::most_steps))]
 fn by_clock<P: Program, L: Link, C: Clock>(
     alloc: Global,
     users: &Users,
@@ -114,7 +113,7 @@ fn by_clock<P: Program, L: Link, C: Clock>(
     ensures stands_for { L.stands_for link.new ≡ L.stands_for link.old }
 {
     let root = moment_of_word(clock.now());
-    match open(alloc, users, groups, root, from) {
+    match open_at(alloc, users, groups, root, from) {
         Ok(state) => serve::<P, L, &mut C>(alloc, state, clock, users, link),
         Err(_) => WANTS_MEMORY,
     }

@@ -1,5 +1,6 @@
 //! One run of the program, with one connection or with many.
 ghost use Rattle.std.specs.Prelude.{◌≡◌, ◌⊎◌, map, string_bytes, length, Some, None, IfSome, MatchOption};
+ghost use Rattle.cm_base.specs.Limits.{AreLimits};
 ghost use Rattle.cmis_spec.specs.Well.{HasGroups};
 ghost use Rattle.desk_model.specs.Histories.{state_of};
 ghost use Rattle.cmis_words.specs.Serving.{serve_of};
@@ -58,11 +59,12 @@ where
     <P::Face as Machine>::Question: Send,
     H::Link: Send,
     requires groups { HasGroups (map (λ u. u.name) asked.users) asked.groups }
+    requires limits { AreLimits asked.limits }
     ensures served { MatchOption result.closing (Unserved (H.told host.old) (H.told host.new) result.status
         × (O.told output.new ≡ O.told output.old))
         (λ c. ServedAll
         (kind_of P.Face.next P.Face.answer P.Face.number P.Face.call P.Face.user P.Face.least P.Face.closes)
-        H.Link.Source.told H.Link.Sink.told asked.users asked.groups (C.words clock.old)
+        H.Link.Source.told H.Link.Sink.told asked (C.words clock.old)
         (H.left host.old) c.last c.ended
         × Hosted asked (H.told host.old) (H.left host.old) (H.told host.new) (H.left host.new)
         (length c.ended) c.end
@@ -97,7 +99,7 @@ where
 
 /// Runs the program with these words, and answers its status.
 ///
-/// `serve USERS PORT WORKERS [links=K] [groups=LIST]` serves the host's links at this port. 0: the host had none to give, or as many were served as may be;
+/// `serve USERS PORT WORKERS [links=K] [groups=LIST] [steps=N] [bytes=N]` serves the host's links at this port. 0: the host had none to give, or as many were served as may be;
 /// 4: the line at the end could not be written; 5: the host failed; 7: memory was wanted. Every other list of words is run by `run_once`.
 pub fn run<
     P: Program,
@@ -135,7 +137,7 @@ where
         (Unserved (H.told host.old) (H.told host.new) result.status × (O.told output.new ≡ O.told output.old))
         (λ c. ServedAll
         (kind_of P.Face.next P.Face.answer P.Face.number P.Face.call P.Face.user P.Face.least P.Face.closes)
-        H.Link.Source.told H.Link.Sink.told asked.users asked.groups (C.words clock.old)
+        H.Link.Source.told H.Link.Sink.told asked (C.words clock.old)
         (H.left host.old) c.last c.ended
         × Hosted asked (H.told host.old) (H.left host.old) (H.told host.new) (H.left host.new) (length c.ended) c.end
         × Summed c.end (summary (length c.ended) (P.Face.number (state_of P.Face.next c.last)))

@@ -5,6 +5,8 @@ use Rattle.core.specs.Ordering.{nat_cmp, is_lt}
 use Rattle.core.specs.Cmp.Lexicographic.{slice_cmp}
 use Rattle.cm_base.specs.declared.number.Oid.{Oid}
 use Rattle.cm_base.specs.declared.number.Moment.{Moment}
+use Rattle.cm_base.specs.declared.limits.Limits.{Limits}
+use Rattle.cm_base.specs.declared.limits.Start.{Start}
 use Rattle.cm_base.specs.declared.object.Object.{Object}
 use Rattle.cm_base.specs.declared.series.Series.{Series}
 use Rattle.cm_base.specs.declared.filing.Filed.{Filed}
@@ -46,6 +48,8 @@ pub record Repository : Type 0 where
   -- the number of accepted writes, and what they cost
   pub step : ℕ
   pub cost : ℕ
+  -- the most steps that it takes, and the most bytes that these may cost
+  pub limits : Limits
 
 -- ---- limits
 
@@ -56,12 +60,6 @@ most_levels = 48
 -- the most folders on a way up, the root counted
 unfoldable pub levels_up : ℕ
 levels_up = 49
-
-unfoldable pub most_steps : ℕ
-most_steps = 1048576
-
-unfoldable pub most_cost : ℕ
-most_cost = 2147483648
 
 -- the most bytes of a content
 unfoldable pub longest_stream : ℕ
@@ -109,15 +107,15 @@ root_aces administrator =
 abbrev pub root_access : List ℕ → AccessList
 root_access administrator = record { at = root; aces = root_aces administrator }
 
--- the root alone, made by the administrator at this moment, with this step number
-abbrev pub opening : List TypeDef → List User → List Group → Moment → ℕ → Repository
-opening types users groups m step =
+-- the root alone, made by the administrator at the moment of the start
+abbrev pub opening : List TypeDef → List User → List Group → Start → Repository
+opening types users groups start =
     let names = map (λ u. u.name) users in
     record {
       types = types;
       users = names;
       groups = groups;
-      objects = root_folder (administrator_of names) m step ∷ [];
+      objects = root_folder (administrator_of names) start.moment start.first_step ∷ [];
       series = [];
       filed = [];
       access = root_access (administrator_of names) ∷ [];
@@ -126,8 +124,9 @@ opening types users groups m step =
       renditions = [];
       log = [];
       next = 2;
-      step = step;
+      step = start.first_step;
       cost = 0;
+      limits = start.limits;
     }
 
 -- ---- objects and their types

@@ -16,6 +16,7 @@ use Rattle.cm_base.specs.declared.user.Group.{Group}
 use Rattle.cm_base.specs.declared.value.Slot.{Slot}
 use Rattle.cm_base.specs.declared.value.Value.{Value}
 use Rattle.cm_base.specs.declared.value.Value.TheVariants.{Unset}
+use Rattle.cm_base.specs.Limits.{greatest_limit, AreLimits}
 use Rattle.cm_base.specs.UserLists.{is_reserved_name, is_user_name, all_differ}
 use Rattle.cm_types.specs.declared.definition.TypeDef.{TypeDef}
 use Rattle.cm_types.specs.declared.definition.BaseType.{BaseType}
@@ -26,7 +27,7 @@ use Rattle.cm_types.specs.Changes.{base_id}
 use Rattle.cm_types.specs.BaseTypes.{base_types}
 use Rattle.cm_types.specs.Properties.{value_in, texts_of, is_faulty, def_of}
 use Rattle.cm_types.specs.Sound.{IsSoundDef}
-use Rattle.cmis_spec.specs.Repository.{Repository, same, root, most_levels, most_steps, most_cost, longest_stream, object_at, series_at, is_a, type_of, entry_of, entry_name, parent_in, last_of}
+use Rattle.cmis_spec.specs.Repository.{Repository, same, root, most_levels, longest_stream, object_at, series_at, is_a, type_of, entry_of, entry_name, parent_in, last_of}
 use Rattle.cmis_spec.specs.Access.{object_named, rank}
 use Rattle.cmis_spec.specs.Values.{words, texts, form_value}
 
@@ -299,8 +300,9 @@ HasGroups users groups = Apart (λ g h. slice_cmp nat_cmp g.name h.name ≡ Less
 
 -- ---- bounds
 
+-- the limits are such as a repository may have; what was used of them may stand above them, and then no more is taken
 abbrev pub HasBounds : Repository → Type 0
-HasBounds r = (r.step ≤ most_steps) × (r.cost ≤ most_cost) × (r.next ≤ r.step + 2)
+HasBounds r = (r.step ≤ greatest_limit) × (r.cost ≤ greatest_limit) × (r.next ≤ r.step + 2) × AreLimits r.limits
 
 abbrev pub HasTokens : Repository → Type 0
 HasTokens r = All (λ x. x.token ≤ r.step) r.objects

@@ -1,7 +1,7 @@
 -- The program's words for a load: load N.
 use Rattle.std.specs.Prelude.{ℕ, List, [], ◌∷◌, codes, bytes_eq, Option, None, if◌then◌else◌}
 use Rattle.cm_base.specs.Decimals.{decimal_u64}
-use Rattle.cmis_words.specs.Serving.{within}
+use Rattle.cmis_words.specs.Programs.{within}
 
 abbrev pub requests_of : List ℕ → Option ℕ
 requests_of word = within 1 10000 (decimal_u64 word)

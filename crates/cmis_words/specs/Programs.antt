@@ -19,6 +19,11 @@ abbrev pub at_most : ℕ → Option ℕ → Option ℕ
 at_most most None = None
 at_most most (Some n) = if nat_le n most then Some n else None
 
+-- a number of at least and at most this size
+abbrev pub within : ℕ → ℕ → Option ℕ → Option ℕ
+within least most None = None
+within least most (Some n) = if nat_le least n && nat_le n most then Some n else None
+
 -- the moment of a number in decimal, up to the last moment
 abbrev pub moment_of : List ℕ → Option Moment
 moment_of digits = option_map (λ n. record { 0 = pos n }) (at_most last_moment (decimal_u64 digits))

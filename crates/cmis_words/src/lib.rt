@@ -5,6 +5,7 @@ ghost use Rattle.std.specs.Prelude.{◌≡◌};
 
 pub mod groups;
 pub mod laws;
+mod limits;
 pub mod load;
 mod options;
 pub mod schedule;

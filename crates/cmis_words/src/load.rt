@@ -2,7 +2,7 @@
 ghost use Rattle.std.specs.Prelude.{◌≡◌, codes, bytes_eq, map, string_bytes};
 ghost use Rattle.cmis_words.specs.Loading.{requests_of, load_of};
 
-use crate::serve::within;
+use crate::words::within;
 use cm_base::decimal::read_u64;
 
 /// The most requests of a load.

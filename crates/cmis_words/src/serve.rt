@@ -1,18 +1,21 @@
-//! The words of the program for many connections: `serve USERS PORT WORKERS [links=K] [groups=LIST]`.
+//! The words of the program for many connections: `serve USERS PORT WORKERS [links=K] [groups=LIST] [steps=N] [bytes=N]`.
 ghost use Rattle.std.specs.Prelude.{◌≡◌, ◌≤◌, codes, bytes_eq, map, string_bytes, IfOk, IfSome};
 ghost use Rattle.std.specs.List.{list_all};
+ghost use Rattle.cm_base.specs.Limits.{AreLimits};
 ghost use Rattle.cmis_spec.specs.Well.{HasGroups};
 ghost use Rattle.cmis_words.specs.Options.{option_of};
-ghost use Rattle.cmis_words.specs.Serving.{within, port_of, workers_of, is_serve_option, are_serve_options, links_by, ReadsServe};
+ghost use Rattle.cmis_words.specs.Serving.{port_of, workers_of, is_serve_option, are_serve_options, links_by, ReadsServe};
 
+use crate::limits::limits;
 use crate::options::{behind, option, stands_once};
-use crate::words::{WordsStop, groups, users};
+use crate::words::{WordsStop, groups, users, within};
 use cm_base::decimal::read_u64;
+use cm_base::limits::Limits;
 use cm_base::user::{Groups, Users};
 use std::alloc::Global;
 
 /// Many connections on loopback: the users, their groups in byte order of the names, the port, how many sessions run at once,
-/// and how many links are served at most.
+/// how many links are served at most, and the limits of the repository.
 #[derive(Drop)]
 pub struct Serve {
     pub users: Users,
@@ -20,22 +23,7 @@ pub struct Serve {
     pub port: u16,
     pub workers: usize,
     pub links: Option<u64>,
-}
-
-pub(crate) fn within(least: u64, most: u64, number: Option<u64>) -> Option<u64>
-    ensures value { result ≡ within least most number }
-    ensures bounds { IfSome result (λ n. (least ≤ n) × (n ≤ most)) }
-{
-    match number {
-        None => None,
-        Some(n) => {
-            if least <= n && n <= most {
-                Some(n)
-            } else {
-                None
-            }
-        }
-    }
+    pub limits: Limits,
 }
 
 fn port(word: &[u8]) -> Option<u16>
@@ -60,7 +48,10 @@ fn workers(word: &[u8]) -> Option<usize>
 fn is_option(word: &str) -> bool
     ensures { result ≡ is_serve_option word.now }
 {
-    behind(word, "links").is_some() || behind(word, "groups").is_some()
+    behind(word, "links").is_some()
+        || behind(word, "groups").is_some()
+        || behind(word, "steps").is_some()
+        || behind(word, "bytes").is_some()
 }
 
 fn are_options(options: &[String]) -> bool
@@ -75,10 +66,12 @@ fn are_options(options: &[String]) -> bool
 fn are_serve_options(options: &[String]) -> bool
     ensures { result ≡ are_serve_options (map string_bytes options.now) }
 {
-    options.len() <= 2
+    options.len() <= 4
         && are_options(options)
         && stands_once(options, "links")
         && stands_once(options, "groups")
+        && stands_once(options, "steps")
+        && stands_once(options, "bytes")
 }
 
 fn links(options: &[String]) -> Option<Option<u64>>
@@ -99,12 +92,13 @@ fn is_serve(word: &String) -> bool
     word.as_bytes() == "serve".as_bytes()
 }
 
-/// What the words ask for: `serve USERS PORT WORKERS [links=K] [groups=LIST]`, the options in any order, each at most once. PORT is 1 to 65535,
-/// WORKERS 1 to 64 and K 1 to 1048576, decimal without sign or leading zeros, LIST a list of groups.
+/// What the words ask for: `serve USERS PORT WORKERS [links=K] [groups=LIST] [steps=N] [bytes=N]`, the options in any order, each at most once. PORT is 1 to 65535,
+/// WORKERS 1 to 64, K 1 to 1048576 and N 1 to 9007199254740991, decimal without sign or leading zeros, LIST a list of groups.
 pub fn read_serve(alloc: Global, words: &[String]) -> Result<Serve, WordsStop>
     ensures asked { ReadsServe result (map string_bytes words.now) }
     ensures workers { IfOk result (λ s. (1 ≤ s.workers) × (s.workers ≤ 64)) }
     ensures groups { IfOk result (λ s. HasGroups (map (λ u. u.name) s.users) s.groups) }
+    ensures limits { IfOk result (λ s. AreLimits s.limits) }
 {
     match words {
         [word, list, port_word, workers_word, options @ ..] => {
@@ -112,6 +106,9 @@ pub fn read_serve(alloc: Global, words: &[String]) -> Result<Serve, WordsStop>
                 return Err(WordsStop::NotValid);
             }
             let Some(links) = links(options) else {
+                return Err(WordsStop::NotValid);
+            };
+            let Some(limits) = limits(options) else {
                 return Err(WordsStop::NotValid);
             };
             let Some(port) = port(port_word.as_bytes()) else {
@@ -129,6 +126,7 @@ pub fn read_serve(alloc: Global, words: &[String]) -> Result<Serve, WordsStop>
                 port,
                 workers,
                 links,
+                limits,
             })
         }
         _ => Err(WordsStop::NotValid),

@@ -1,9 +1,9 @@
 //! The words of the program: `pipe USERS [at=MS] [from=N] [groups=LIST]`.
-ghost use Rattle.std.specs.Prelude.{◌≡◌, map, codes, bytes_eq, option_map, string_bytes};
+ghost use Rattle.std.specs.Prelude.{◌≡◌, ◌≤◌, IfSome, map, codes, bytes_eq, option_map, string_bytes};
 ghost use Rattle.std.specs.List.{list_all};
 ghost use Rattle.cmis_words.specs.declared.words.WordsStop.TheVariants.{Memory};
 ghost use Rattle.cmis_words.specs.Options.{option_of};
-ghost use Rattle.cmis_words.specs.Programs.{at_most, moment_of, step_of, is_pipe_option, are_pipe_options, at_by, from_by, ReadsList, ReadsOption, ReadsWords};
+ghost use Rattle.cmis_words.specs.Programs.{at_most, within, moment_of, step_of, is_pipe_option, are_pipe_options, at_by, from_by, ReadsList, ReadsOption, ReadsWords};
 
 use crate::groups::read_groups;
 use crate::options::{behind, option, stands_once};
@@ -64,6 +64,22 @@ fn at_most(most: u64, number: Option<u64>) -> Option<u64>
     match number {
         None => None,
         Some(n) => { if n <= most { Some(n) } else { None } }
+    }
+}
+
+pub(crate) fn within(least: u64, most: u64, number: Option<u64>) -> Option<u64>
+    ensures value { result ≡ within least most number }
+    ensures bounds { IfSome result (λ n. (least ≤ n) × (n ≤ most)) }
+{
+    match number {
+        None => None,
+        Some(n) => {
+            if least <= n && n <= most {
+                Some(n)
+            } else {
+                None
+            }
+        }
     }
 }
 

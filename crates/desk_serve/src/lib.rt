@@ -8,6 +8,7 @@ mod marks;
 mod running;
 mod serving;
 mod session;
+mod task;
 
 pub use ended::{Closing, Ended, HostEnd};
 pub use serving::serve;

@@ -5,6 +5,7 @@ ghost use Rattle.desk_serve.specs.Keeping.{IsFresh, IsOver};
 
 use crate::marks::Marks;
 use crate::session::{Seat, seated};
+use crate::task::{Task, started};
 use cm_base::user::Users;
 use desk_lock::{Lock, Pass};
 use desk_model::Machine;
@@ -27,6 +28,45 @@ pub(crate) struct Kept<M: Machine, L, C: Clock> {
 impl<M: Served, L: Link, C: Clock> Promise<Seat<M, L>> for Kept<M, L, C> {
     ghost kept_by = { λ p r. IsOver (terms M.next M.answer M.number M.call M.user M.least M.closes L.Source.told
         L.Sink.told p.users.value None) p.lock.value p.pass.value p.link.value r.pass r.link r.outcome };
+}
+
+/// A session that is to be held, and the mark that its thread sets in the end.
+#[derive(Drop)]
+struct Session<'s, M: Machine, L, C: Clock, G, R> {
+    rt: &'s R,
+    alloc: Global,
+    lock: &'s Lock<M, C>,
+    users: &'s Users,
+    gate: &'s G,
+    marks: &'s Marks,
+    row: usize,
+    pass: Pass<M>,
+    link: L,
+}
+
+impl<'s, M: Served, L: Link, C: Clock + Drop, G: Gate, R: Wait> Task<Seat<M, L>>
+    for Session<'s, M, L, C, G, R> {
+    ghost begins = { λ s. IsFresh M.next s.lock.now s.pass };
+
+    ghost makes = { λ s r. IsOver (terms M.next M.answer M.number M.call M.user M.least M.closes L.Source.told
+        L.Sink.told s.users.now None) s.lock.now s.pass s.link r.pass r.link r.outcome };
+
+    fn run(self) -> Seat<M, L> {
+        let Session {
+            rt,
+            alloc,
+            lock,
+            users,
+            gate,
+            marks,
+            row,
+            pass,
+            link,
+        } = self;
+        let seat = seated(rt, alloc, lock, users, gate, pass, link);
+        marks.set(rt, row);
+        seat
+    }
 }
 
 /// A session that runs.
@@ -71,17 +111,16 @@ where
         pass: Snapshot::of(&pass),
         link: Snapshot::of(&link),
     };
-    let run = move || -> Seat<M, L>
-        requires { IsFresh M.next lock.now pass }
-        ensures { IsOver (terms M.next M.answer M.number M.call M.user M.least M.closes L.Source.told L.Sink.told
-            users.entry.now None) lock.entry.now pass link result.pass result.link result.outcome }
-    {
-        let seat = seated(rt, alloc, lock, users, gate, pass, link);
-        marks.set(rt, row);
-        seat
+    let session = Session {
+        rt,
+        alloc,
+        lock,
+        users,
+        gate,
+        marks,
+        row,
+        pass,
+        link,
     };
-    match scope.spawn_with::<Kept<M, L, C>, _, Seat<M, L>>(promise, run) {
-        Ok(child) => Ok(child),
-        Err(refused) => Err((refused.value)()),
-    }
+    started::<E, Seat<M, L>, Session<'s, M, L, C, G, R>, Kept<M, L, C>>(scope, promise, session)
 }

@@ -6,6 +6,7 @@ ghost use Rattle.cm_base.specs.declared.asked.Asked.TheVariants.{Write, Question
 
 use bytes::Bytes;
 use cm_base::asked::Asked;
+use cm_base::body::Body;
 use cm_base::cause::Cause;
 use cm_base::fail::Fail;
 use cm_base::media::MediaType;
@@ -28,7 +29,7 @@ fn bare(alloc: Global, status: u16, number: u64) -> Shown
         Some(kind) => Shown {
             status,
             kind,
-            body: Bytes::new(),
+            body: Body::of(Bytes::new()),
             number: Some(number),
         },
         None => unreachable!(),

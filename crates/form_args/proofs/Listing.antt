@@ -1,7 +1,6 @@
 -- What one more place of a list control adds.
 use Rattle.std.proofs.Common.{◌≡◌, ℕ, ◌+◌, ◌-◌, ◌<◌, zero, suc, List, [], ◌∷◌, ◌++◌, length, take, get_or, refl, sym, ap, ◌∙◌, append_assoc, append-nil, arith}
 use Rattle.std.specs.Prelude.{Some, None}
-use Rattle.cm_base.specs.declared.argument.Argument.{Argument}
 use Rattle.std.proofs.lemmas.List.{take_more, length-take}
 use Rattle.cm_types.specs.declared.given.Given.{Given}
 use Rattle.call_parts.specs.declared.writes.AceRequest.{AceRequest}
@@ -38,7 +37,7 @@ givens_more : (pairs : List Pair) (i : ℕ) (ids : List (List ℕ)) (id : List �
 givens_more pairs i [] id = ap (λ n. given_at pairs n id ∷ []) (omega arith)
 givens_more pairs i (x ∷ ids) id = ap (λ r. given_at pairs i x ∷ r) (givens_more pairs (i + 1) ids id ∙ ap (λ n. givens_from pairs (i + 1) ids ++ given_at pairs n id ∷ []) (omega arith))
 
-aces_more : (pairs : List Pair) (permission : Argument) (i : ℕ) (all : List (List ℕ)) (who : List ℕ) → aces_from pairs permission i (all ++ who ∷ []) ≡ aces_from pairs permission i all ++ ace_at pairs permission (i + length all) who ∷ []
+aces_more : (pairs : List Pair) (permission : List ℕ) (i : ℕ) (all : List (List ℕ)) (who : List ℕ) → aces_from pairs permission i (all ++ who ∷ []) ≡ aces_from pairs permission i all ++ ace_at pairs permission (i + length all) who ∷ []
 aces_more pairs permission i [] who = ap (λ n. ace_at pairs permission n who ∷ []) (omega arith)
 aces_more pairs permission i (x ∷ all) who = ap (λ r. ace_at pairs permission i x ∷ r) (aces_more pairs permission (i + 1) all who ∙ ap (λ n. aces_from pairs permission (i + 1) all ++ ace_at pairs permission n who ∷ []) (omega arith))
 
@@ -49,7 +48,7 @@ givens_next pairs ids i d done lt h =
     let at : 0 + length (take i ids) ≡ i = omega (arith, length-take i ids) in
     rw (h, take_more ids i d lt, givens_more pairs 0 (take i ids) (get_or ids i d), at) refl
 
-pub aces_next : (pairs : List Pair) (permission : Argument) (all : List (List ℕ)) (i : ℕ) (d : List ℕ) (done : List AceRequest) → i < length all → done ≡ aces_from pairs permission 0 (take i all)
+pub aces_next : (pairs : List Pair) (permission : List ℕ) (all : List (List ℕ)) (i : ℕ) (d : List ℕ) (done : List AceRequest) → i < length all → done ≡ aces_from pairs permission 0 (take i all)
     → done ++ ace_at pairs permission i (get_or all i d) ∷ [] ≡ aces_from pairs permission 0 (take (i + 1) all)
 aces_next pairs permission all i d done lt h =
     let at : 0 + length (take i all) ≡ i = omega (arith, length-take i all) in

@@ -2,7 +2,6 @@
 use Rattle.std.proofs.Common.{◌≡◌, List, [], ◌∷◌, true, false, refl}
 use Rattle.std.specs.Prelude.{codes, Ok, Err, Some}
 use Rattle.std.specs.Fmt.{digits}
-use Rattle.cm_base.specs.declared.argument.Argument.TheVariants as args
 use Rattle.cm_base.specs.declared.cause.Cause.TheVariants as causes
 use Rattle.call_parts.specs.declared.readings.PropertyFilter.TheVariants as filters
 use Rattle.form_args.specs.declared.pairs.Pair.{Pair}
@@ -31,26 +30,26 @@ row_list_ends : texts_of folder_form (codes "policy") ≡ codes "7" ∷ []
 unfolding digits
 row_list_ends = refl
 
-row_entries : aces_of folder_form args.AddAcePrincipal args.AddAcePermission ≡ Ok (record { principal = codes "bob"; permissions = codes "cmis:read" ∷ [] } ∷ [])
+row_entries : aces_of folder_form (codes "addACEPrincipal") (codes "addACEPermission") ≡ Ok (record { principal = codes "bob"; permissions = codes "cmis:read" ∷ [] } ∷ [])
 unfolding digits
 row_entries = refl
 
-row_empty_principal : aces_of (record { name = codes "removeACEPrincipal[0]"; value = [] } ∷ []) args.RemoveAcePrincipal args.RemoveAcePermission ≡ Err (causes.BadArgument args.RemoveAcePrincipal)
+row_empty_principal : aces_of (record { name = codes "removeACEPrincipal[0]"; value = [] } ∷ []) (codes "removeACEPrincipal") (codes "removeACEPermission") ≡ Err (causes.BadArgument (codes "removeACEPrincipal"))
 unfolding digits
 row_empty_principal = refl
 
-row_given_twice : properties_of (record { name = codes "propertyId[0]"; value = codes "a" } ∷ record { name = codes "propertyId[1]"; value = codes "a" } ∷ []) ≡ Err (causes.BadArgument args.PropertyId)
+row_given_twice : properties_of (record { name = codes "propertyId[0]"; value = codes "a" } ∷ record { name = codes "propertyId[1]"; value = codes "a" } ∷ []) ≡ Err (causes.BadArgument (codes "propertyId"))
 unfolding most_properties most_values digits
 row_given_twice = refl
 
 -- a type that is given as unset is missing
-row_unset_type : typed (record { id = codes "cmis:objectTypeId"; texts = []; several = false } ∷ []) ≡ Err (causes.MissingArgument args.ObjectTypeId)
+row_unset_type : typed (record { id = codes "cmis:objectTypeId"; texts = []; several = false } ∷ []) ≡ Err (causes.MissingArgument (codes "cmis:objectTypeId"))
 row_unset_type = refl
 
-row_flag : flag_of (record { name = codes "succinct"; value = codes "TRUE" } ∷ []) args.Succinct false ≡ Err (causes.BadArgument args.Succinct)
+row_flag : flag_of (record { name = codes "succinct"; value = codes "TRUE" } ∷ []) (codes "succinct") false ≡ Err (causes.BadArgument (codes "succinct"))
 row_flag = refl
 
-row_number : number_of (record { name = codes "maxItems"; value = codes "120" } ∷ record { name = codes "maxItems"; value = codes "x" } ∷ []) args.MaxItems 100 ≡ Ok 120
+row_number : number_of (record { name = codes "maxItems"; value = codes "120" } ∷ record { name = codes "maxItems"; value = codes "x" } ∷ []) (codes "maxItems") 100 ≡ Ok 120
 row_number = refl
 
 row_blanks : filter_by (Some (codes " a , b\tc")) ≡ Err causes.BadFilter

@@ -1,13 +1,12 @@
 -- The property filter (CMIS 1.1, section 2.2.1.2.1).
 use Rattle.std.specs.Prelude.{ℕ, List, [], ◌∷◌, ◌++◌, ◌==◌, codes, bytes_eq, filter, Bool, true, false, if◌then◌else◌, Option, Some, None, Ok, Err}
 use Rattle.std.specs.List.{slice_split, flat_map}
-use Rattle.cm_base.specs.declared.argument.Argument.TheVariants as args
 use Rattle.cm_base.specs.declared.cause.Cause.TheVariants as causes
 use Rattle.cm_base.specs.Judged.{Judged, ◌>>=◌}
 use Rattle.call_parts.specs.declared.readings.PropertyFilter.{PropertyFilter}
 use Rattle.call_parts.specs.declared.readings.PropertyFilter.TheVariants as filters
 use Rattle.form_args.specs.declared.pairs.Pair.{Pair}
-use Rattle.form_args.specs.Pairs.{value_of}
+use Rattle.form_args.specs.Pairs.{first_of}
 
 -- what stands between commas, between spaces, between tabs
 abbrev pub commas : List ℕ → List (List ℕ)
@@ -54,4 +53,4 @@ filter_by None = Ok filters.All
 filter_by (Some text) = read_filter text
 
 abbrev pub filter_of : List Pair → Judged PropertyFilter
-filter_of pairs = filter_by (value_of pairs args.Filter)
+filter_of pairs = filter_by (first_of pairs (codes "filter"))

@@ -1,20 +1,15 @@
 -- The pairs of a form and of a target's query, and what is read from them by name.
 use Rattle.std.specs.Prelude.{ℕ, ◌+◌, zero, suc, List, [], ◌∷◌, ◌++◌, length, decimal, codes, find, bytes_eq, Bool, Option, Some, None, option_map}
 use Rattle.std.specs.Option.{is_some}
-use Rattle.cm_base.specs.declared.argument.Argument.{Argument}
-use Rattle.cm_base.specs.Arguments.{word_of}
 use Rattle.form_args.specs.declared.pairs.Pair.{Pair}
 
 -- the value of the first pair of this name
 abbrev pub first_of : List Pair → List ℕ → Option (List ℕ)
 first_of pairs name = option_map (λ p. p.value) (find (λ p. bytes_eq p.name name) pairs)
 
--- the value of an argument, where it is given
-abbrev pub value_of : List Pair → Argument → Option (List ℕ)
-value_of pairs name = first_of pairs (word_of name)
-
-abbrev pub is_given : List Pair → Argument → Bool
-is_given pairs name = is_some (value_of pairs name)
+-- whether an argument is given
+abbrev pub is_given : List Pair → List ℕ → Bool
+is_given pairs name = is_some (first_of pairs name)
 
 -- NAME[i]
 abbrev pub indexed : List ℕ → ℕ → List ℕ

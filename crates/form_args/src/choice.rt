@@ -34,21 +34,21 @@ impl Choice for bool {
 }
 
 /// The choice that is given, or the default. A word that means none is BadArgument.
-pub fn chosen<C: Choice>(pairs: &Pairs, name: Argument, default: C) -> Result<C, Cause>
-    ensures { result ≡ chosen C.meaning pairs.now name default }
+pub fn chosen<C: Choice>(pairs: &Pairs, name: &'static str, default: C) -> Result<C, Cause>
+    ensures { result ≡ chosen C.meaning pairs.now name.now default }
 {
-    match pairs.first(name.word()) {
+    match pairs.first(name) {
         None => Ok(default),
         Some(word) => match C::read(word.as_str()) {
             Some(choice) => Ok(choice),
-            None => Err(Cause::BadArgument(name)),
+            None => Err(Cause::BadArgument(Argument::named(name))),
         },
     }
 }
 
 /// `true` or `false`, or the default. Another word is BadArgument.
-pub fn flag(pairs: &Pairs, name: Argument, default: bool) -> Result<bool, Cause>
-    ensures { result ≡ flag_of pairs.now name default }
+pub fn flag(pairs: &Pairs, name: &'static str, default: bool) -> Result<bool, Cause>
+    ensures { result ≡ flag_of pairs.now name.now default }
 {
     chosen(pairs, name, default)
 }

@@ -18,13 +18,13 @@ use std::alloc::{AllocError, Global};
 fn ace_at(
     alloc: Global,
     pairs: &Pairs,
-    permission: Argument,
+    permission: &str,
     i: usize,
     who: &Text,
 ) -> Result<AceRequest, AllocError>
-    ensures { IfOk result (λ a. a ≡ ace_at pairs.now permission i who.now) }
+    ensures { IfOk result (λ a. a ≡ ace_at pairs.now permission.now i who.now) }
 {
-    let key = indexed(alloc, permission.word(), i)?;
+    let key = indexed(alloc, permission, i)?;
     Ok(AceRequest {
         principal: who.copied(alloc)?,
         permissions: texts(alloc, pairs, key.as_str())?,
@@ -34,10 +34,10 @@ fn ace_at(
 fn aces_by(
     alloc: Global,
     pairs: &Pairs,
-    permission: Argument,
+    permission: &str,
     principals: &[Text],
 ) -> Result<AceRequests, AllocError>
-    ensures { IfOk result (λ v. v ≡ aces_from pairs.now permission 0 principals.now) }
+    ensures { IfOk result (λ v. v ≡ aces_from pairs.now permission.now 0 principals.now) }
 {
     let mut aces = Vec::new(alloc);
     for (i, who) in principals.iter().enumerate() {
@@ -63,14 +63,14 @@ fn has_empty(texts: &[Text]) -> bool
 pub fn aces(
     alloc: Global,
     pairs: &Pairs,
-    principal: Argument,
-    permission: Argument,
+    principal: &'static str,
+    permission: &str,
 ) -> Result<AceRequests, Fail>
-    ensures { Meets (λ v. v) result (aces_of pairs.now principal permission) }
+    ensures { Meets (λ v. v) result (aces_of pairs.now principal.now permission.now) }
 {
-    let principals = texts(alloc, pairs, principal.word())?;
+    let principals = texts(alloc, pairs, principal)?;
     if has_empty(principals.as_slice()) {
-        return Err(Fail::Refused(Cause::BadArgument(principal)));
+        return Err(Fail::Refused(Cause::BadArgument(Argument::named(principal))));
     }
     Ok(aces_by(alloc, pairs, permission, principals.as_slice())?)
 }

@@ -8,14 +8,16 @@ ghost use Rattle.form_args.specs.Filter.{commas, spaces, tabs, has_bytes, words,
 use crate::pairs::Pairs;
 use call_parts::names::Names;
 use call_parts::readings::PropertyFilter;
-use cm_base::argument::Argument;
 use cm_base::cause::Cause;
 use cm_base::fail::Fail;
 use cm_base::items::Items;
 use cm_base::text::{Text, Texts};
 use std::alloc::{AllocError, Global};
 
-fn commas<'a>(alloc: Global, text: &'a str) -> Result<Vec<&'a str>, AllocError>
+const FILTER: &str = "filter";
+
+/// What stands between the commas of a text.
+pub fn commas<'a>(alloc: Global, text: &'a str) -> Result<Vec<&'a str>, AllocError>
     ensures { IfOk result (λ v. map (λ x. x.now) v.items ≡ commas text.now) }
 {
     text.split(',').collect(alloc)
@@ -65,8 +67,8 @@ fn words_in<'a>(alloc: Global, parts: &[&'a str]) -> Result<Vec<&'a str>, AllocE
     Ok(words)
 }
 
-// What stands between the blanks of a text.
-fn words<'a>(alloc: Global, text: &'a str) -> Result<Vec<&'a str>, AllocError>
+/// The words of a text: what stands between its blanks, which are spaces and tabs.
+pub fn words<'a>(alloc: Global, text: &'a str) -> Result<Vec<&'a str>, AllocError>
     ensures { IfOk result (λ v. map (λ x. x.now) v.items ≡ words text.now) }
 {
     let parts = spaces(alloc, text)?;
@@ -145,5 +147,5 @@ fn filter_by(alloc: Global, given: Option<&Text>) -> Result<PropertyFilter, Fail
 pub fn property_filter(alloc: Global, pairs: &Pairs) -> Result<PropertyFilter, Fail>
     ensures { Meets (λ f. f) result (filter_of pairs.now) }
 {
-    filter_by(alloc, pairs.first(Argument::Filter.word()))
+    filter_by(alloc, pairs.first(FILTER))
 }

@@ -11,3 +11,4 @@ pub mod number;
 pub mod pairs;
 pub mod properties;
 pub mod read;
+pub mod words;

@@ -8,14 +8,14 @@ use cm_base::cause::Cause;
 use cm_base::decimal::read_u64;
 
 /// The number that is given, or the default. Anything but decimal digits without a sign or a leading zero, below 2^64, is BadArgument.
-pub fn number(pairs: &Pairs, name: Argument, default: u64) -> Result<u64, Cause>
-    ensures { result ≡ number_of pairs.now name default }
+pub fn number(pairs: &Pairs, name: &'static str, default: u64) -> Result<u64, Cause>
+    ensures { result ≡ number_of pairs.now name.now default }
 {
-    match pairs.first(name.word()) {
+    match pairs.first(name) {
         None => Ok(default),
         Some(word) => match read_u64(word.bytes()) {
             Some(number) => Ok(number),
-            None => Err(Cause::BadArgument(name)),
+            None => Err(Cause::BadArgument(Argument::named(name))),
         },
     }
 }

@@ -6,9 +6,7 @@ ghost use Rattle.form_args.specs.Pairs.{first_of, is_given};
 ghost use Rattle.form_args.specs.declared.pairs.Pair.{Pair};
 ghost use Rattle.form_args.specs.Index.{FindsFirst};
 ghost use Rattle.std.specs.BTreeMap.{get_by_text};
-ghost use Rattle.cm_base.specs.Arguments.{word_of};
 
-use cm_base::argument::Argument;
 use cm_base::text::Text;
 use std::alloc::{AllocError, Global};
 use std::collections::BTreeMap;
@@ -148,9 +146,9 @@ impl Pairs {
     }
 
     /// Whether an argument is given.
-    pub fn has(&self, name: Argument) -> bool
-        ensures { result ≡ is_given self.now name }
+    pub fn has(&self, name: &str) -> bool
+        ensures { result ≡ is_given self.now name.now }
     {
-        self.first(name.word()).is_some()
+        self.first(name).is_some()
     }
 }

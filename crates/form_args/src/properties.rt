@@ -2,7 +2,7 @@
 ghost use Rattle.std.specs.Prelude.{◌≡◌, [], ◌∷◌, bytes_eq, IfOk};
 ghost use Rattle.std.specs.List.{list_any};
 ghost use Rattle.cm_base.specs.Judged.{Meets};
-ghost use Rattle.form_args.specs.Properties.{most_properties, most_values, has_some, given_at, givens_from, repeats, is_long, properties_of, names_type, typed};
+ghost use Rattle.form_args.specs.Properties.{most_properties, most_values, has_some, given_under, given_at, givens_from, repeats, is_long, properties_of, names_type, typed};
 
 use crate::lists::{indexed, texts};
 use crate::pairs::Pairs;
@@ -14,6 +14,12 @@ use cm_base::items::Items;
 use cm_base::text::{Text, Texts};
 use cm_types::given::{Given, Givens};
 use std::alloc::{AllocError, Global};
+
+const OBJECT_TYPE_ID: &str = "cmis:objectTypeId";
+
+const PROPERTY_ID: &str = "propertyId";
+
+const PROPERTY_VALUE: &str = "propertyValue";
 
 // A call gives at most so many properties.
 #[tactic(auto, unfolding(crate::specs::Properties::most_properties))]
@@ -48,10 +54,16 @@ fn one(alloc: Global, value: &Text) -> Result<Texts, AllocError>
     Ok(Items::from_vec(texts))
 }
 
-fn given_at(alloc: Global, pairs: &Pairs, i: usize, id: &Text) -> Result<Given, AllocError>
-    ensures { IfOk result (λ g. g ≡ given_at pairs.now i id.now) }
+fn given_under(
+    alloc: Global,
+    pairs: &Pairs,
+    name: &str,
+    i: usize,
+    id: &Text,
+) -> Result<Given, AllocError>
+    ensures { IfOk result (λ g. g ≡ given_under pairs.now name.now i id.now) }
 {
-    let key = indexed(alloc, Argument::PropertyValue.word(), i)?;
+    let key = indexed(alloc, name, i)?;
     let id = id.copied(alloc)?;
     match pairs.first(key.as_str()) {
         Some(value) => Ok(Given {
@@ -65,6 +77,13 @@ fn given_at(alloc: Global, pairs: &Pairs, i: usize, id: &Text) -> Result<Given, 
             Ok(Given { id, texts, several })
         }
     }
+}
+
+fn given_at(alloc: Global, pairs: &Pairs, i: usize, id: &Text) -> Result<Given, AllocError>
+    ensures { IfOk result (λ g. g ≡ given_at pairs.now i id.now) }
+{
+    let given = given_under(alloc, pairs, PROPERTY_VALUE, i, id)?;
+    Ok(given)
 }
 
 fn givens(alloc: Global, pairs: &Pairs, ids: &[Text]) -> Result<Givens, AllocError>
@@ -109,16 +128,16 @@ fn has_long(givens: &[Given]) -> bool
 pub fn properties(alloc: Global, pairs: &Pairs) -> Result<Givens, Fail>
     ensures { Meets (λ g. g) result (properties_of pairs.now) }
 {
-    let ids = texts(alloc, pairs, Argument::PropertyId.word())?;
+    let ids = texts(alloc, pairs, PROPERTY_ID)?;
     if most_properties() < ids.len() {
-        return Err(Fail::Refused(Cause::BadArgument(Argument::PropertyId)));
+        return Err(Fail::Refused(Cause::BadArgument(Argument::named(PROPERTY_ID))));
     }
     if repeats(ids.as_slice()) {
-        return Err(Fail::Refused(Cause::BadArgument(Argument::PropertyId)));
+        return Err(Fail::Refused(Cause::BadArgument(Argument::named(PROPERTY_ID))));
     }
     let givens = givens(alloc, pairs, ids.as_slice())?;
     if has_long(givens.as_slice()) {
-        return Err(Fail::Refused(Cause::BadArgument(Argument::PropertyValue)));
+        return Err(Fail::Refused(Cause::BadArgument(Argument::named(PROPERTY_VALUE))));
     }
     Ok(givens)
 }
@@ -142,6 +161,6 @@ pub fn typed(properties: &[Given]) -> Result<(), Cause>
     if names_types(properties) {
         Ok(())
     } else {
-        Err(Cause::MissingArgument(Argument::ObjectTypeId))
+        Err(Cause::MissingArgument(Argument::named(OBJECT_TYPE_ID)))
     }
 }

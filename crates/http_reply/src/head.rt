@@ -174,7 +174,7 @@ pub fn make_head(shown: &Shown, last: bool) -> Head
     let mut head = Head::new();
     push_status(&mut head, shown.status);
     push_media(&mut head, &shown.kind);
-    push_number(&mut head, b"Content-Length: ", shown.body.len() as u64);
+    push_number(&mut head, b"Content-Length: ", shown.body.len());
     push_allow(&mut head, shown.status);
     push_challenge(&mut head, shown.status);
     push_step(&mut head, shown.number);

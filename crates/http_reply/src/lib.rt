@@ -1,7 +1,9 @@
 //! Replies to bytes: heads from a fixed array, without taking memory, and bodies as they are.
 #![tactic(auto)]
 
+mod extent;
 mod head;
+mod pieces;
 mod reply;
 mod sending;
 mod shown;

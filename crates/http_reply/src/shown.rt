@@ -3,6 +3,7 @@ ghost use Rattle.std.specs.Prelude.{◌≡◌, IfOk, codes};
 ghost use Rattle.http_reply.specs.Replies as replies;
 
 use bytes::Bytes;
+use cm_base::body::Body;
 use cm_base::cause::Cause;
 use cm_base::media::MediaType;
 use cm_base::shown::Shown;
@@ -31,7 +32,7 @@ pub fn cause_shown(alloc: Global, cause: &Cause, number: Option<u64>) -> Result<
     Ok(Shown {
         status: cause.status(),
         kind,
-        body,
+        body: Body::of(body),
         number,
     })
 }
@@ -44,7 +45,7 @@ pub fn without_body(alloc: Global, shown: Shown) -> Shown
         Some(kind) => Shown {
             status: shown.status,
             kind,
-            body: Bytes::new(),
+            body: Body::of(Bytes::new()),
             number: shown.number,
         },
         None => shown,

@@ -41,6 +41,10 @@ abbrev pub properties_of_object : Properties → List ℕ × Data
 properties_of_object (shown.Full ps) = (codes "properties", properties_data ps)
 properties_of_object (shown.Succinct slots) = (codes "succinctProperties", values_data slots)
 
+-- the properties of an object alone: from ids to properties, in succinct form to values
+abbrev pub properties_alone_data : ShownObject → Data
+properties_alone_data o = (properties_of_object o.properties).1
+
 -- an object
 abbrev pub shown_data : ShownObject → Data
 shown_data o = object_data (properties_of_object o.properties ∷ [])

@@ -5,6 +5,7 @@ ghost use Rattle.json_text.specs.Shown.{data_of};
 ghost use Rattle.object_json.specs.Sent.{shown_json, shown_nothing};
 
 use bytes::Bytes;
+use cm_base::body::Body;
 use cm_base::media::MediaType;
 use cm_base::shown::Shown;
 use cm_base::text::Text;
@@ -12,7 +13,7 @@ use json_text::tree::Json;
 use std::alloc::{AllocError, Global};
 
 /// What is sent of bytes of this type that are made at this step, with this status.
-pub fn shown_as(status: u16, kind: MediaType, body: Bytes, number: u64) -> Shown
+pub fn shown_as(status: u16, kind: MediaType, body: Body, number: u64) -> Shown
     ensures { result ≡ record { status = status; kind = kind; body = body; number = Some number } }
 {
     Shown {
@@ -38,7 +39,7 @@ pub fn shown_json(alloc: Global, status: u16, body: Bytes, number: u64) -> Resul
     ensures { IfOk result (λ s. s ≡ shown_json status body number) }
 {
     let kind = json_kind(alloc)?;
-    Ok(shown_as(status, kind, body, number))
+    Ok(shown_as(status, kind, Body::of(body), number))
 }
 
 /// What is sent of a JSON value that is made at this step, as compact text, with this status.
@@ -56,7 +57,7 @@ pub fn shown_nothing(alloc: Global, number: u64) -> Shown
     ensures { result ≡ shown_nothing number }
 {
     match MediaType::from_text(Text::empty(alloc)) {
-        Some(kind) => shown_as(200, kind, Bytes::new(), number),
+        Some(kind) => shown_as(200, kind, Body::of(Bytes::new()), number),
         None => unreachable!(),
     }
 }

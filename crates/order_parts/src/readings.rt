@@ -2,6 +2,9 @@
 use cm_base::items::Items;
 use cm_base::text::Text;
 
+/// The word of this argument (section 5.4).
+pub const ORDER_BY: &str = "orderBy";
+
 /// What objects are put in order by: the value of a property, which is named by its query name (section 2.1.14.2.5).
 #[derive(Drop)]
 pub struct SortSpecification {

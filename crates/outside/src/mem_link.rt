@@ -1,11 +1,12 @@
 //! A source and a sink in memory, as one.
 ghost use Rattle.std.specs.Prelude.{◌≡◌, ◌+◌, ◌≤◌, ◌<◌, ◌⊎◌, ℕ, List, [], length, IfOk, OnErr, is_err, true, false, min, refl, if◌then◌else◌};
 ghost use Rattle.outside.specs.Memory.{MemLinkTold, IsNewSink, source_told, sink_told, is_listed, counted};
-ghost use Rattle.outside.specs.Outside.{Reads, Writes, HasCause};
+ghost use Rattle.outside.specs.Outside.{Reads, Writes, HasCause, Rose};
 
 use crate::mem_sink::MemSink;
 use crate::mem_source::MemSource;
 use crate::traits::{Failed, Link, Sink, Source};
+use archive::Unread;
 use std::alloc::{AllocError, Global};
 use std::marker::Model;
 
@@ -82,6 +83,19 @@ impl Sink for MemLink {
     ghost told = { λ l. sink_told l.sink };
 
     ghost aside = { λ l. record { source = source_told l.source; stands_for = [] } };
+
+    fn tells(&self) -> bool {
+        true
+    }
+
+    fn unread(&mut self, unread: Unread) -> Failed
+        ensures held { self.new.sink.held ≡ self.old.sink.held }
+        ensures rose { Rose self.old.sink.faults self.new.sink.faults }
+        ensures later { self.old.sink.faults ≤ self.new.sink.faults }
+        ensures source { self.new.source ≡ self.old.source }
+    {
+        self.sink.unread(unread)
+    }
 
     fn write(&mut self, piece: &[u8]) -> Result<usize, Failed>
         requires { 0 < length piece.now }

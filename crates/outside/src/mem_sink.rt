@@ -4,6 +4,7 @@ ghost use Rattle.outside.specs.Memory.{MemSinkTold, sink_told, is_listed, counte
 ghost use Rattle.outside.specs.Outside.{Writes, HasCause, nothing_beside_sink};
 
 use crate::traits::{Failed, Sink};
+use archive::Unread;
 use std::alloc::{AllocError, Global};
 use std::marker::Model;
 
@@ -60,6 +61,15 @@ impl Sink for MemSink {
     ghost told = { sink_told };
 
     ghost aside = { λ _. nothing_beside_sink };
+
+    fn tells(&self) -> bool {
+        true
+    }
+
+    fn unread(&mut self, _unread: Unread) -> Failed {
+        self.faults = self.faults.saturating_add(1);
+        Failed
+    }
 
     fn write(&mut self, piece: &[u8]) -> Result<usize, Failed>
         requires { 0 < length piece.now }

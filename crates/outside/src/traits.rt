@@ -1,8 +1,10 @@
 //! Sources, sinks, and links of both.
-ghost use Rattle.std.specs.Prelude.{◌≡◌, ◌<◌, ◌≤◌, ℕ, List, [], ◌∷◌, Bool, true, length, IfOk, None};
+ghost use Rattle.std.specs.Prelude.{◌≡◌, ◌<◌, ◌≤◌, ℕ, List, [], ◌∷◌, Bool, true, length, IfOk, None, is_some};
 ghost use Rattle.std.specs.declared.option.Option.{Option};
 ghost use Rattle.std.specs.Io.KnownBytes.{IsAtEnd};
-ghost use Rattle.outside.specs.Outside.{HasCause, KeptByReads, KeptByWrites, Reads, Writes, SinkTold, SourceTold, with_pieces};
+ghost use Rattle.outside.specs.Outside.{Rose, HasCause, KeptByReads, KeptByWrites, Reads, Writes, SinkTold, SourceTold, with_pieces};
+
+use archive::Unread;
 
 /// The outside failed, and has counted it.
 #[derive(Clone, Copy, Debug, PartialEq, Eq)]
@@ -38,6 +40,18 @@ pub trait Sink {
 
     /// The pieces that its writes were given, in their order, where the sink tells them.
     ghost offered: { Self → Option (List (List ℕ)) } = { λ _. None };
+
+    /// Whether it tells what it holds.
+    fn tells(&self) -> bool
+        ensures { result ≡ is_some (told self.now).held };
+
+    /// Counts a fault: what was to be written could not be read.
+    fn unread(&mut self, unread: Unread) -> Failed
+        ensures held { (told self.new).held ≡ (told self.old).held }
+        ensures rose { Rose (told self.old).faults (told self.new).faults }
+        ensures later { (told self.old).faults ≤ (told self.new).faults }
+        ensures offered { offered self.new ≡ offered self.old }
+        ensures aside { aside self.new ≡ aside self.old };
 
     /// Writes the front of the piece, and answers how many bytes of it were taken: at least one. A write that fails takes nothing.
     fn write(&mut self, piece: &[u8]) -> Result<usize, Failed>
@@ -95,6 +109,14 @@ impl<K: Sink> Sink for &mut K {
     } };
 
     ghost offered = { λ s. K.offered s.now };
+
+    fn tells(&self) -> bool {
+        Sink::tells(&**self)
+    }
+
+    fn unread(&mut self, unread: Unread) -> Failed {
+        Sink::unread(&mut **self, unread)
+    }
 
     fn write(&mut self, piece: &[u8]) -> Result<usize, Failed> {
         Sink::write(&mut **self, piece)

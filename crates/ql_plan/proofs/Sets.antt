@@ -9,9 +9,10 @@ use Rattle.cm_base.specs.declared.object.Object.{Object}
 use Rattle.cm_base.specs.declared.value.Value.{Value}
 use Rattle.cm_base.specs.declared.value.Value.TheVariants.{Unset, One}
 use Rattle.cm_base.specs.declared.value.Scalar.TheVariants.{Words}
+use Rattle.cm_base.specs.Limits.{greatest_limit}
 use Rattle.cm_types.specs.Types.{props_of}
 use Rattle.cm_types.specs.Properties.{value_in, is_set}
-use Rattle.cmis_spec.specs.Repository.{Repository, same, object_at, owner_of, entry_of, is_filed, most_steps}
+use Rattle.cmis_spec.specs.Repository.{Repository, same, object_at, owner_of, entry_of, is_filed}
 use Rattle.cmis_spec.specs.Access.{reads, stands, oid_named}
 use Rattle.cmis_spec.specs.Well.{Apart, IsWellFormed}
 use Rattle.cmis_laws.proofs.Lists.{by_test, same_eq, same_refl, differ, find_yes, find_no, all_zip}
@@ -146,7 +147,7 @@ fits_set r u versions (keys.Folder (Some f)) x small row fits =
     rw (filed, own) refl
 
 small_numbers : (r : Repository) → IsWellFormed r → All (λ x. x.id.0 < 2 ^ 64) r.objects
-unfolding most_steps
+unfolding greatest_limit
 small_numbers r w = All-weaker (λ x. x.id.0 < r.next) (λ x. x.id.0 < 2 ^ 64) (λ x l. omega (arith, l, w.bounds.0, w.bounds.2)) r.objects w.numbers.1
 
 -- ---- every row is among what is chosen

@@ -9,6 +9,7 @@ use Rattle.cm_base.specs.declared.value.Slot.{Slot}
 use Rattle.cm_base.specs.declared.value.Value.TheVariants.{Unset, One}
 use Rattle.cm_base.specs.declared.value.Scalar.TheVariants.{Words}
 use Rattle.cm_base.specs.declared.access.Level.TheVariants as levels
+use Rattle.cm_base.specs.Limits.{usual_limits}
 use Rattle.cm_base.specs.Judged.{Judged, ◌>>=◌}
 use Rattle.cm_types.specs.BaseTypes.{base_types}
 use Rattle.cmis_spec.specs.Repository.{Repository, opening, root, levels_up}
@@ -56,7 +57,7 @@ abbrev series : ℕ → List ℕ → Series
 series n name = record { id = number n; name = name; versions = record { object = number n; label = Some (record { major = 1; minor = 0 }) } ∷ []; working = None }
 
 abbrev begun : Repository
-begun = opening base_types (record { name = admin; secret = codes "pw" } ∷ []) [] dawn 0
+begun = opening base_types (record { name = admin; secret = codes "pw" } ∷ []) [] (record { moment = dawn; first_step = 0; limits = usual_limits })
 
 abbrev description : List Slot
 description = record { id = codes "cmis:description"; value = One (Words (codes "k")) } ∷ []
@@ -77,6 +78,7 @@ r = record {
   next = 4;
   step = 2;
   cost = 0;
+  limits = usual_limits;
 }
 
 abbrev column : List ℕ → Column

@@ -1,11 +1,8 @@
 //! The change log, from a token on.
 ghost use Rattle.std.specs.Prelude.{◌≡◌, ◌-◌, ◌<◌, ◌≤◌, ◌++◌, List, [], ◌∷◌, length, IfOk};
-ghost use Rattle.std.specs.Ordering.{nat_cmp};
-ghost use Rattle.std.specs.BTreeMap.{get};
 ghost use Rattle.cm_base.specs.Judged.{Meets};
 ghost use Rattle.cmis_spec.specs.Seen.{SeenEvent, place_among, seen_events};
 ghost use Rattle.rd_nav.specs.ReadChildren.{page_size};
-ghost use Rattle.rd_types.specs.Latest.{KeepsMarks};
 ghost use Rattle.rd_log.specs.EventsIn.{events_in, seen_event};
 ghost use Rattle.rd_log.specs.ReadChanges.{answer_changes, changes_reply, events_from};
 
@@ -16,9 +13,8 @@ use cm_base::text::Text;
 use cm_state::state::State;
 use log_parts::readings::ReadChanges;
 use log_parts::replies::{ChangesReply, ShownEvent};
-use rd_types::events::{is_visible, marks_of, place_among};
+use rd_types::events::{is_visible, place_among};
 use std::alloc::{AllocError, Global};
-use std::collections::BTreeMap;
 
 #[tactic(auto, unfolding(rd_nav::specs::ReadChildren::most_items))]
 fn page_size(asked: u64) -> u64
@@ -84,12 +80,12 @@ fn with_event(
 fn with_number(
     state: &State,
     user: &Text,
-    marks: &BTreeMap<u64, bool>,
+    place: usize,
     q: &ReadChanges,
     reply: ChangesReply,
     number: u64,
 ) -> Result<ChangesReply, AllocError>
-    requires marks { KeepsMarks (get nat_cmp marks.now) (place_among state.now.users user.now) state.now.log }
+    requires place { place ≡ place_among state.now.users user.now }
     requires within { 0 < number × number ≤ length state.now.log }
     requires from { q.now.token ≤ number }
     requires before { reply ≡ changes_reply q.now (events_in state.now user.now q.now.token (number - 1)) }
@@ -97,7 +93,7 @@ fn with_number(
 {
     match state.log().get(number - 1) {
         Some(event) => {
-            if is_visible(state, user, marks, event) {
+            if is_visible(state, user, place, event) {
                 with_event(reply, q, number, event)
             } else {
                 Ok(reply)
@@ -111,24 +107,24 @@ fn gathered(
     alloc: Global,
     state: &State,
     user: &Text,
-    marks: &BTreeMap<u64, bool>,
+    place: usize,
     q: &ReadChanges,
 ) -> Result<ChangesReply, AllocError>
-    requires marks { KeepsMarks (get nat_cmp marks.now) (place_among state.now.users user.now) state.now.log }
+    requires place { place ≡ place_among state.now.users user.now }
     ensures { IfOk result (λ reply. reply
         ≡ changes_reply q.now (events_from q.now.token (seen_events state.now user.now 1 state.now.log))) }
 {
     let count = state.events();
     let first = q.token.saturating_sub(1).min(count);
     let mut reply = without_events(alloc, q);
-    for place in first..count {
-        reply = with_number(state, user, marks, q, reply, place + 1)?;
+    for before in first..count {
+        reply = with_number(state, user, place, q, reply, before + 1)?;
     }
     Ok(reply)
 }
 
 /// A page of the events that the caller sees, from the one that has the token on, and how many there are in all. What is outside the
-/// page is counted and not shown. The log before the token is looked at only for what deletions keep.
+/// page is counted and not shown. Of the log before the token nothing is looked at but the deletions of what later events name.
 pub fn changes(
     alloc: Global,
     state: &State,
@@ -138,7 +134,6 @@ pub fn changes(
     ensures { Meets (λ x. x) result (answer_changes state.now user.now q.now) }
 {
     let place = place_among(state.users().as_slice(), user);
-    let marks = marks_of(alloc, state.log(), place)?;
-    let reply = gathered(alloc, state, user, &marks, q)?;
+    let reply = gathered(alloc, state, user, place, q)?;
     Ok(reply)
 }

@@ -1,7 +1,6 @@
 -- Worked rows: three objects, of which the first has no size.
 use Rattle.std.specs.Prelude.{◌≡◌, ℕ, pos, Bool, true, false, List, [], ◌∷◌, map, codes, Ok, Err}
 use Rattle.std.proofs.Common.{refl}
-use Rattle.cm_base.specs.declared.argument.Argument.TheVariants as args
 use Rattle.cm_base.specs.declared.cause.Cause.TheVariants as causes
 use Rattle.cm_base.specs.declared.value.Value.TheVariants.{Unset, One}
 use Rattle.cm_base.specs.declared.value.Scalar.TheVariants.{Whole}
@@ -36,9 +35,9 @@ by name descending = record { query_name = name; descending = descending }
 row_keys : sort_keys base_types (by (codes "cmis:creationDate") true ∷ by (codes "cmis:name") false ∷ []) ≡ Ok (record { id = codes "cmis:creationDate"; descending = true } ∷ record { id = codes "cmis:name"; descending = false } ∷ [])
 row_keys = refl
 
-row_unknown : sort_keys base_types (by (codes "cmis:name") false ∷ by (codes "cmis:nothing") false ∷ []) ≡ Err (causes.BadArgument args.OrderBy)
+row_unknown : sort_keys base_types (by (codes "cmis:name") false ∷ by (codes "cmis:nothing") false ∷ []) ≡ Err (causes.BadArgument (codes "orderBy"))
 row_unknown = refl
 
 -- a property that is not orderable
-row_not_orderable : sort_keys base_types (by (codes "cmis:secondaryObjectTypeIds") false ∷ []) ≡ Err (causes.BadArgument args.OrderBy)
+row_not_orderable : sort_keys base_types (by (codes "cmis:secondaryObjectTypeIds") false ∷ []) ≡ Err (causes.BadArgument (codes "orderBy"))
 row_not_orderable = refl

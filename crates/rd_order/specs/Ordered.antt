@@ -1,8 +1,7 @@
 -- The order in which objects are listed (CMIS 1.1, section 2.2.1.2.7).
-use Rattle.std.specs.Prelude.{ℕ, true, ◌&&◌, if◌then◌else◌, List, [], ◌∷◌, map, find, Option, option_map, bytes_eq, Ok}
+use Rattle.std.specs.Prelude.{ℕ, true, ◌&&◌, if◌then◌else◌, List, [], ◌∷◌, map, find, Option, option_map, bytes_eq, Ok, codes}
 use Rattle.core.specs.declared.cmp.Ordering.{Ordering}
 use Rattle.core.specs.Ordering.{is_gt}
-use Rattle.cm_base.specs.declared.argument.Argument.TheVariants as args
 use Rattle.cm_base.specs.declared.cause.Cause.TheVariants as causes
 use Rattle.cm_base.specs.Judged.{Judged, ◌>>=◌, find_or}
 use Rattle.cm_base.specs.declared.object.Object.{Object}
@@ -32,7 +31,7 @@ abbrev pub key_of : SortSpecification → PropDef → OrderKey
 key_of s d = record { id = d.id; descending = s.descending }
 
 abbrev pub sort_key : List TypeDef → SortSpecification → Judged OrderKey
-sort_key types s = find_or (causes.BadArgument args.OrderBy) (option_map (key_of s) (orderable_named types s.query_name))
+sort_key types s = find_or (causes.BadArgument (codes "orderBy")) (option_map (key_of s) (orderable_named types s.query_name))
 
 -- the properties in their order, or the cause where one is none or is not orderable
 abbrev pub sort_keys : List TypeDef → List SortSpecification → Judged (List OrderKey)

@@ -15,7 +15,7 @@ use cm_base::text::Text;
 use cm_type_list::types::Types;
 use cm_types::definition::TypeDef;
 use cm_types::property::PropDef;
-use order_parts::readings::SortSpecification;
+use order_parts::readings::{ORDER_BY, SortSpecification};
 use ql_bind::bound::{OrderKey, OrderKeys};
 use std::alloc::Global;
 
@@ -59,7 +59,7 @@ fn sort_key(
                 descending: specification.descending,
             })
         }
-        None => Err(Fail::Refused(Cause::BadArgument(Argument::OrderBy))),
+        None => Err(Fail::Refused(Cause::BadArgument(Argument::named(ORDER_BY)))),
     }
 }
 

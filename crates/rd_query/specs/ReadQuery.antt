@@ -23,7 +23,7 @@ use Rattle.rd_query.specs.Said.{bound_of}
 abbrev pub slot_of : Row → ShownColumn → Slot
 slot_of row c = record { id = c.key; value = value_in row.values c.property.id }
 
--- a column in full, under its key
+-- a column in full, under its key, which is its query name here: clients look columns up by it
 abbrev pub cell_of : Row → ShownColumn → ShownCell
 cell_of row c = record {
   key = c.key;
@@ -31,7 +31,7 @@ cell_of row c = record {
     id = c.property.id;
     local_name = c.property.local_name;
     display_name = c.property.display_name;
-    query_name = c.property.query_name;
+    query_name = c.key;
     kind = c.property.kind;
     cardinality = c.property.cardinality;
     value = value_in row.values c.property.id;

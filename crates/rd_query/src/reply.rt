@@ -62,7 +62,7 @@ fn cell(alloc: Global, row: &Row, column: &ShownColumn) -> Result<ShownCell, All
         id: def.id.copied(alloc)?,
         local_name: def.local_name.copied(alloc)?,
         display_name: def.display_name.copied(alloc)?,
-        query_name: def.query_name.copied(alloc)?,
+        query_name: column.key.copied(alloc)?,
         kind: def.kind,
         cardinality: def.cardinality,
         value,

@@ -1,3 +1,2 @@
-mod Marks
 mod Pages
 pub mod Visible

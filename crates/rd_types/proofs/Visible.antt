@@ -1,14 +1,11 @@
 -- One event more: the last one of the first so many events that the caller sees.
 use Rattle.std.proofs.Common.{◌≡◌, ◌∙◌, ℕ, ◌+◌, ◌-◌, ◌<◌, Bool, true, false, List, [], ◌∷◌, ◌++◌, length, take, refl, sym, ap, arith, append-nil, length-append}
-use Rattle.std.specs.Prelude.{Some, not, unwrap_or, option_map, slice_get, if◌then◌else◌}
-use Rattle.std.specs.Bool.{OnTrue}
+use Rattle.std.specs.Prelude.{Some, unwrap_or, option_map, slice_get, if◌then◌else◌}
 use Rattle.std.proofs.lemmas.List.{take_more, length-take}
 use Rattle.std.proofs.lemmas.Option.{slice_get_within, get_or_from_slice_get}
 use Rattle.cm_base.specs.declared.log.Change.{Change}
-use Rattle.cm_base.specs.declared.object.Object.{Object}
-use Rattle.cmis_spec.specs.Repository.{Repository, last_of, object_at}
-use Rattle.cmis_spec.specs.Access.{reads}
-use Rattle.cmis_spec.specs.Seen.{SeenEvent, is_visible, kept_readers, marked, place_among, seen_events}
+use Rattle.cmis_spec.specs.Repository.{Repository, last_of}
+use Rattle.cmis_spec.specs.Seen.{SeenEvent, is_visible, seen_events}
 use Rattle.rd_types.specs.ReadInfo.{latest_of}
 use Rattle.rd_types.specs.Latest.{latest_in}
 
@@ -45,18 +42,3 @@ latest_more r u i c h =
     ap (λ cs. latest_of (seen_events r u 1 cs)) front
     ∙ (ap latest_of (seen_more r u 1 (take i r.log) c ∙ ap (λ n. seen_events r u 1 (take i r.log) ++ seen_events r u n (c ∷ [])) long)
     ∙ latest_if (is_visible r u c) (seen_events r u 1 (take i r.log)) (record { number = i + 1; kind = c.kind; object = c.object; moment = c.moment }))
-
--- the event is of an object that is there
-pub latest_by : (r : Repository) (u : List ℕ) (i : ℕ) (c : Change) (x : Object) (b : Bool) → slice_get r.log i ≡ Some c → object_at r c.object ≡ Some x → b ≡ reads r u x
-    → latest_in r u (i + 1) ≡ (if b then i + 1 else latest_in r u i)
-latest_by r u i c x b h found e =
-    let visible : is_visible r u c ≡ b = ap (λ o. unwrap_or (option_map (reads r u) o) (marked (kept_readers r c.object) (place_among r.users u))) found ∙ sym e in
-    latest_more r u i c h ∙ ap (λ a. if a then i + 1 else latest_in r u i) visible
-
-pub of_read : (r : Repository) (u : List ℕ) (i : ℕ) (b : Bool) → latest_in r u (i + 1) ≡ (if b then i + 1 else latest_in r u i) → OnTrue b (latest_in r u (i + 1) ≡ i + 1)
-of_read r u i true h = h
-of_read r u i false h = tt
-
-pub of_unread : (r : Repository) (u : List ℕ) (i : ℕ) (b : Bool) → latest_in r u (i + 1) ≡ (if b then i + 1 else latest_in r u i) → OnTrue (not b) (latest_in r u (i + 1) ≡ latest_in r u i)
-of_unread r u i true h = tt
-of_unread r u i false h = h

@@ -16,7 +16,7 @@ use type_parts::replies::InfoReply;
 pub fn info(alloc: Global, state: &State, user: &Text, q: &ReadInfo) -> Result<InfoReply, Fail>
     ensures { Meets (λ x. x) result (answer_info state.now user.now q.now) }
 {
-    let latest_event = latest_event(alloc, state, user)?;
+    let latest_event = latest_event(state, user);
     let host = q.host.copied(alloc)?;
     Ok(InfoReply {
         host,

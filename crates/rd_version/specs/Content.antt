@@ -1,10 +1,9 @@
 -- The content of a document, or one of its renditions (CMIS 1.1, section 2.2.4.11).
-use Rattle.std.specs.Prelude.{ℕ, not, List, find, Option, Some, None, option_map, option_and_then}
+use Rattle.std.specs.Prelude.{ℕ, not, List, find, Option, Some, None, option_map, option_and_then, codes}
 use Rattle.cm_base.specs.declared.number.Oid.{Oid}
 use Rattle.cm_base.specs.declared.object.Object.{Object}
 use Rattle.cm_base.specs.declared.content.Content.{Content}
 use Rattle.cm_base.specs.declared.content.Rendition.{Rendition}
-use Rattle.cm_base.specs.declared.argument.Argument.TheVariants as args
 use Rattle.cm_base.specs.declared.cause.Cause.TheVariants as causes
 use Rattle.cm_base.specs.Judged.{Judged, ◌>>=◌, ◌>>◌, find_or, refuse}
 use Rattle.cm_types.specs.declared.definition.BaseType.TheVariants as bases
@@ -33,7 +32,7 @@ rendition_named r x id = option_and_then (rendition_of r x) (oid_named id)
 -- the content, or the rendition that is named
 abbrev pub stream_of : Repository → Object → Option (List ℕ) → Judged ContentReply
 stream_of r x None = find_or causes.NoContent (option_map content_reply (content_at r x.id))
-stream_of r x (Some id) = find_or (causes.BadArgument args.StreamId) (option_map rendition_reply (rendition_named r x id))
+stream_of r x (Some id) = find_or (causes.BadArgument (codes "streamId")) (option_map rendition_reply (rendition_named r x id))
 
 abbrev pub content_in : Repository → Option (List ℕ) → Object → Judged ContentReply
 content_in r stream x = do

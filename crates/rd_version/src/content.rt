@@ -5,9 +5,8 @@ ghost use Rattle.cm_base.specs.Judged.{Meets};
 ghost use Rattle.cmis_spec.specs.Repository.{same};
 ghost use Rattle.rd_version.specs.Content.{answer_content, answer_stream, content_in, content_reply, rendition_named, rendition_of, rendition_reply, stream_of};
 
-use crate::whole::body_of;
 use call_parts::place::Place;
-use call_parts::readings::ReadContent;
+use call_parts::readings::{ReadContent, STREAM_ID};
 use call_parts::replies::ContentReply;
 use cm_base::argument::Argument;
 use cm_base::cause::Cause;
@@ -27,7 +26,7 @@ fn content_reply(alloc: Global, content: &Content) -> Result<ContentReply, Alloc
     ensures { IfOk result (λ reply. reply ≡ content_reply content.now) }
 {
     let kind = content.stream.kind.copied(alloc)?;
-    let body = body_of(alloc, &content.stream.pieces)?;
+    let body = content.stream.pieces.copied(alloc)?;
     Ok(ContentReply { kind, body })
 }
 
@@ -35,7 +34,7 @@ fn rendition_reply(alloc: Global, rendition: &Rendition) -> Result<ContentReply,
     ensures { IfOk result (λ reply. reply ≡ rendition_reply rendition.now) }
 {
     let kind = rendition.media.copied(alloc)?;
-    let body = body_of(alloc, &rendition.pieces)?;
+    let body = rendition.pieces.copied(alloc)?;
     Ok(ContentReply { kind, body })
 }
 
@@ -83,9 +82,9 @@ fn stream_of(
 {
     match stream {
         Some(id) => {
-            let rendition = rendition_named(state, x, id).ok_or(Cause::BadArgument(
-                Argument::StreamId,
-            ))?;
+            let rendition = rendition_named(state, x, id).ok_or(Cause::BadArgument(Argument::named(
+                STREAM_ID,
+            )))?;
             let reply = rendition_reply(alloc, rendition)?;
             Ok(reply)
         }
@@ -112,7 +111,7 @@ fn content_in(
 }
 
 /// The bytes of a document's content, or of its rendition with the stream id, and their media type. What the caller doesn't read is
-/// not found; what is no document is of the wrong kind. Bytes that came in one piece are shared.
+/// not found; what is no document is of the wrong kind. The bytes are shared, or stay in their archive.
 pub fn stream(
     alloc: Global,
     state: &State,

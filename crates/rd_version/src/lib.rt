@@ -5,4 +5,3 @@ ghost use Rattle.std.specs.Prelude.{◌≡◌};
 
 pub mod content;
 pub mod law;
-mod whole;

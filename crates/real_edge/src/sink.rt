@@ -3,6 +3,7 @@ ghost use Rattle.std.specs.Prelude.{◌≡◌, None};
 ghost use Rattle.outside.specs.Outside.{nothing_beside_sink};
 
 use crate::again::write_some;
+use archive::Unread;
 use outside::{Failed, Sink};
 use std::io::Write;
 
@@ -33,6 +34,15 @@ impl<W: Write> Sink for StdSink<W> {
     ghost told = { λ s. record { held = None; faults = s.faults } };
 
     ghost aside = { λ _. nothing_beside_sink };
+
+    fn tells(&self) -> bool {
+        false
+    }
+
+    fn unread(&mut self, _unread: Unread) -> Failed {
+        self.faults = self.faults.saturating_add(1);
+        Failed
+    }
 
     fn write(&mut self, piece: &[u8]) -> Result<usize, Failed> {
         match write_some(&mut self.writer, piece) {

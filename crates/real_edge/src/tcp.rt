@@ -2,6 +2,7 @@
 ghost use Rattle.std.specs.Prelude.{◌≡◌, ◌≤◌, [], None, false, refl};
 
 use crate::again::{read_some, write_some};
+use archive::Unread;
 use outside::{Failed, Host, Link, Sink, Source};
 use std::io::{Read, Write};
 use std::net::{IpAddr, Ipv4Addr, Net, OpenListener, OpenStream, Shutdown, SocketAddr};
@@ -79,6 +80,15 @@ impl<S: Read + Write + OpenStream + Drop> Sink for TcpLink<S> {
       };
       stands_for = [];
     } };
+
+    fn tells(&self) -> bool {
+        false
+    }
+
+    fn unread(&mut self, _unread: Unread) -> Failed {
+        self.write_faults = self.write_faults.saturating_add(1);
+        Failed
+    }
 
     fn write(&mut self, piece: &[u8]) -> Result<usize, Failed> {
         let count = match &mut self.stream {

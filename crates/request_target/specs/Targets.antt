@@ -3,7 +3,6 @@
 use Rattle.std.specs.Prelude.{ℕ, List, [], ◌∷◌, codes, bytes_eq, not, Option, Some, None, Ok, Err, if◌then◌else◌}
 use Rattle.std.specs.List.{list_all}
 use Rattle.std.specs.Str.{is_utf8}
-use Rattle.cm_base.specs.declared.argument.Argument.TheVariants as args
 use Rattle.cm_base.specs.declared.cause.Cause.TheVariants as causes
 use Rattle.cm_base.specs.Judged.{Judged, ◌>>◌, ◌>>=◌, refuse, find_or}
 use Rattle.request_target.specs.declared.target.Target.{Target}
@@ -28,7 +27,7 @@ address_of (n ∷ names) = if bytes_eq n (codes "cmis") then below_cmis names el
 -- each segment is UTF-8, and then the path is one of the three
 abbrev pub target_at : List ℕ → Judged Target
 target_at path = do
-  refuse (causes.BadArgument args.Path) (not (list_all is_utf8 (names_of path)))
+  refuse (causes.BadArgument (codes "path")) (not (list_all is_utf8 (names_of path)))
   address_of (names_of path)
 
 -- the address that a target names

@@ -13,6 +13,8 @@ use cm_base::items::Items;
 use cm_base::text::{Text, Texts};
 use std::alloc::Global;
 
+const PATH: &str = "path";
+
 /// What a target addresses: the service, the repository, or an object by the names on its path from the root.
 #[derive(Drop)]
 pub enum Target {
@@ -72,7 +74,7 @@ fn target_at(alloc: Global, bytes: &[u8]) -> Result<Target, Fail>
 {
     match path(alloc, bytes) {
         Ok(names) => address_of(alloc, &names),
-        Err(PathStop::Bad) => Err(Fail::Refused(Cause::BadArgument(Argument::Path))),
+        Err(PathStop::Bad) => Err(Fail::Refused(Cause::BadArgument(Argument::named(PATH)))),
         Err(PathStop::Memory) => Err(Fail::Memory),
     }
 }

@@ -1,6 +1,7 @@
 //! A source and a sink that are lent, as the two sides of one link.
 ghost use Rattle.std.specs.Prelude.{◌≡◌, [], ◌∷◌, refl};
 
+use archive::Unread;
 use outside::{Failed, Link, Sink, Source};
 
 /// What is read from the one, and written to the other. It stands for these two for as long as it holds the same references.
@@ -32,6 +33,14 @@ impl<'a, I: Source, O: Sink> Sink for Lent<'a, I, O> {
       source = I.told l.input.now;
       stands_for = l.input.ghost_name ∷ l.output.ghost_name ∷ [];
     } };
+
+    fn tells(&self) -> bool {
+        self.output.tells()
+    }
+
+    fn unread(&mut self, unread: Unread) -> Failed {
+        self.output.unread(unread)
+    }
 
     fn write(&mut self, piece: &[u8]) -> Result<usize, Failed> {
         self.output.write(piece)

@@ -18,6 +18,7 @@ use Rattle.cm_state.proofs.Numbers.{flip}
 use Rattle.cm_state.specs.Looks.{entries_in}
 use Rattle.row_store.specs.Rows.{filed_in, is_filed_in}
 use Rattle.state_rows.specs.Entries.{own_number, rows_by, rows_at}
+use Rattle.state_rows.proofs.Membership.{any_append, any_flat, any_by, any_never}
 use Rattle.state_rows.proofs.RisingLists.{rising_filter}
 
 -- ---- truth
@@ -34,30 +35,11 @@ and_both a b h k = grind (arith, h, k)
 
 -- ---- lists
 
-any_append : (t : Oid → Bool) (xs ys : List Oid) → list_any t (xs ++ ys) ≡ (list_any t xs || list_any t ys)
-any_append t [] ys = refl
-any_append t (x ∷ xs) ys = ap (λ b. t x || b) (any_append t xs ys) ∙ turned (t x) (list_any t xs) (list_any t ys)
-  where
-    turned : (a b c : Bool) → (a || (b || c)) ≡ ((a || b) || c)
-    turned a b c = grind arith
-
-any_flat : (t : Oid → Bool) (f : Oid → List Oid) (cs : List Oid) → list_any t (flat_map f cs) ≡ list_any (λ c. list_any t (f c)) cs
-any_flat t f [] = refl
-any_flat t f (c ∷ cs) = any_append t (f c) (flat_map f cs) ∙ ap (λ b. list_any t (f c) || b) (any_flat t f cs)
-
 any_entry : (t : Oid → Bool) (f : Oid) (ps : List Filed) → list_any t (map (λ p. p.child) (filter (λ p. same p.folder f) ps)) ≡ list_any (λ p. same p.folder f && t p.child) ps
 any_entry t f [] = refl
 any_entry t f (p ∷ ps) = by_test (same p.folder f)
     (λ e. rw e (ap (λ b. t p.child || b) (any_entry t f ps)))
     (λ e. rw e (any_entry t f ps))
-
-any_by : {A : Type 0} (p q : A → Bool) → ((a : A) → p a ≡ q a) → (xs : List A) → list_any p xs ≡ list_any q xs
-any_by p q e [] = refl
-any_by p q e (x ∷ xs) = λ i. e x i || any_by p q e xs i
-
-any_never : {A : Type 0} (p : A → Bool) (xs : List A) → ((a : A) → p a ≡ false) → list_any p xs ≡ false
-any_never p [] h = refl
-any_never p (x ∷ xs) h = λ i. h x i || any_never p xs h i
 
 any_and : {A : Type 0} (p : A → Bool) (b : Bool) (xs : List A) → list_any (λ a. p a && b) xs ≡ (list_any p xs && b)
 any_and p b [] = refl

@@ -1,6 +1,7 @@
-mod Walks
 mod RisingLists
 mod Sets
+mod Membership
 mod FiledIn
+mod OfTypes
 pub mod Parents
 mod Tested

@@ -1,41 +1,50 @@
-//! Objects found by going through all of them, by their numbers.
+//! Objects found by their types.
 ghost use Rattle.std.specs.Prelude.{◌≡◌, ◌++◌, IfOk, OnOk};
-ghost use Rattle.std.specs.Option.{option_copied};
-ghost use Rattle.row_store.specs.Rows.{is_of_types, of_types};
-ghost use Rattle.state_rows.specs.Walks.{number_if};
+ghost use Rattle.std.specs.List.{flat_map};
+ghost use Rattle.cm_state.specs.Looks.{numbers_of_type};
+ghost use Rattle.row_store.specs.Rows.{of_types};
 
-use crate::kinds::is_of_types;
+use crate::rising::rising;
 use cm_base::items::Items;
-use cm_base::number::{Oid, Oids};
-use cm_base::object::Object;
-use cm_base::text::Texts;
+use cm_base::number::Oids;
+use cm_base::text::{Text, Texts};
 use cm_state::state::State;
 use std::alloc::{AllocError, Global};
 
-// Adds the number of the object, if there is one and it is of the types.
-fn push_typed(all: &mut Oids, kinds: &Texts, x: Option<&Object>) -> Result<(), AllocError>
-    ensures { OnOk result (all.new ≡ all.old ++ number_if (is_of_types kinds.now) (option_copied x.entry)) }
+fn push_all(all: &mut Oids, numbers: &Oids) -> Result<(), AllocError>
+    ensures { OnOk result (all.new ≡ all.old ++ numbers.now) }
 {
-    match x {
-        Some(x) => {
-            if is_of_types(kinds, x) {
-                all.push(x.id)?;
-            }
-            Ok(())
-        }
-        None => Ok(()),
+    for number in numbers.as_slice() {
+        all.push(*number)?;
     }
+    Ok(())
 }
 
-/// The numbers of the objects of the types, rising. It looks at each number that was given to an object.
+// Adds the numbers of the objects of the type.
+fn push_typed(alloc: Global, all: &mut Oids, state: &State, kind: &Text) -> Result<(), AllocError>
+    ensures { OnOk result (all.new ≡ all.old ++ numbers_of_type state.now kind.now) }
+{
+    let numbers = state.of_type(alloc, kind)?;
+    push_all(all, &numbers)
+}
+
+// The numbers of the objects of each type, one type after another.
+fn gathered(alloc: Global, state: &State, kinds: &[Text]) -> Result<Oids, AllocError>
+    ensures { IfOk result (λ all. all ≡ flat_map (numbers_of_type state.now) kinds.now) }
+{
+    let mut all = Items::new(alloc);
+    for kind in kinds {
+        push_typed(alloc, &mut all, state, kind)?;
+    }
+    Ok(all)
+}
+
+/// The numbers of the objects of the types, rising, each once. It looks at these, and at a bounded number of others for each type.
 pub(crate) fn of_types(alloc: Global, state: &State, kinds: &Texts) -> Result<Oids, AllocError>
     ensures { IfOk result (λ all. all ≡ of_types state.now kinds.now) }
 {
     let _step = state.step();
-    let next = state.next_number();
-    let mut all = Items::new(alloc);
-    for n in 0..next {
-        push_typed(&mut all, kinds, state.object(Oid(n)))?;
-    }
+    let found = gathered(alloc, state, kinds.as_slice())?;
+    let all = rising(alloc, found)?;
     Ok(all)
 }

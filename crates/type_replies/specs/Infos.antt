@@ -1,7 +1,7 @@
 -- The JSON of the repository's information (CMIS 1.1, sections 2.2.2.2 and 5.2.11).
 use Rattle.std.specs.Prelude.{ℕ, Bool, true, false, List, [], ◌∷◌, ◌++◌, codes, decimal, map, if◌then◌else◌}
 use Rattle.serde_json.specs.Data.{Data, boolean, string, object, no_members}
-use Rattle.json_text.specs.Build.{object_data, with_field}
+use Rattle.json_text.specs.Build.{list_data, object_data, with_field}
 use Rattle.cm_types.specs.declared.definition.BaseType.TheVariants as bases
 use Rattle.cm_types.specs.declared.property.PropertyKind.TheVariants as kinds
 use Rattle.cm_types.specs.Changes.{base_id}
@@ -59,12 +59,19 @@ change_fields latest =
 abbrev pub permissions : List (List ℕ)
 permissions = codes "cmis:read" ∷ codes "cmis:write" ∷ codes "cmis:all" ∷ []
 
+-- a permission with what is said of it: its id (section 5.2.11)
+unfoldable pub permission_data : List ℕ → Data
+permission_data id = object_data ((codes "description", string id) ∷ (codes "permission", string id) ∷ [])
+
+abbrev pub permissions_data : Data
+permissions_data = list_data (map permission_data permissions)
+
 -- access control (section 2.1.12)
 unfoldable pub acl_data : Data
 acl_data = object_data
     ((codes "supportedPermissions", string (codes "basic"))
     ∷ (codes "propagation", string (codes "objectonly"))
-    ∷ (codes "permissions", texts_data permissions)
+    ∷ (codes "permissions", permissions_data)
     ∷ [])
 
 -- the kinds of properties that a new type may have

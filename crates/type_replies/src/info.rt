@@ -1,13 +1,13 @@
 //! The repository's information.
-ghost use Rattle.std.specs.Prelude.{◌≡◌, IfOk, OnOk, decimal, string_bytes};
-ghost use Rattle.json_text.specs.Shown.{data_of, fields_of};
+ghost use Rattle.std.specs.Prelude.{◌≡◌, IfOk, OnOk, decimal, map, string_bytes};
+ghost use Rattle.json_text.specs.Shown.{data_of, fields_of, listed};
 ghost use Rattle.type_show.specs.Showing.{texts_data, with_fields};
-ghost use Rattle.type_replies.specs.Infos.{acl_data, by_id, capabilities_data, change_fields, changes_on, creatable_data, info_data, infos_data, kinds_shown, offered_flags, offered_words, permissions, principal_fields, product_fields, repository_url, root_url, url_fields};
+ghost use Rattle.type_replies.specs.Infos.{acl_data, by_id, capabilities_data, change_fields, changes_on, creatable_data, info_data, infos_data, kinds_shown, offered_flags, offered_words, permission_data, permissions, permissions_data, principal_fields, product_fields, repository_url, root_url, url_fields};
 
 use crate::put::{put_flags, put_texts, words_json};
 use cm_types::definition::BaseType;
 use cm_types::property::PropertyKind;
-use json_text::tree::{Fields, Json};
+use json_text::tree::{Elements, Fields, Json};
 use object_json::objects::alone;
 use std::alloc::{AllocError, Global};
 use type_keys::word::Worded;
@@ -100,10 +100,31 @@ fn put_changes(alloc: Global, fields: &mut Fields, latest: u64) -> Result<(), Al
     Ok(())
 }
 
-fn permissions(alloc: Global) -> Result<Json, AllocError>
-    ensures { IfOk result (λ j. data_of j ≡ texts_data permissions) }
+#[tactic(auto, unfolding(crate::specs::Infos::permission_data))]
+fn permission_json(alloc: Global, id: &str) -> Result<Json, AllocError>
+    ensures { IfOk result (λ j. data_of j ≡ permission_data id.now) }
 {
-    words_json(alloc, &["cmis:read", "cmis:write", "cmis:all"])
+    let mut fields = Fields::new(alloc);
+    fields.put(alloc, "description", Json::text(alloc, id)?)?;
+    fields.put(alloc, "permission", Json::text(alloc, id)?)?;
+    Ok(Json::object(fields))
+}
+
+fn each_permission(alloc: Global, ids: &[&str]) -> Result<Elements, AllocError>
+    ensures { IfOk result (λ e. listed e ≡ map permission_data (map (λ id. id.now) ids.now)) }
+{
+    let mut elements = Elements::new(alloc);
+    for id in ids {
+        elements.push(permission_json(alloc, id)?)?;
+    }
+    Ok(elements)
+}
+
+fn permissions_json(alloc: Global) -> Result<Json, AllocError>
+    ensures { IfOk result (λ j. data_of j ≡ permissions_data) }
+{
+    let elements = each_permission(alloc, &["cmis:read", "cmis:write", "cmis:all"])?;
+    Ok(Json::array(elements))
 }
 
 #[tactic(auto, unfolding(crate::specs::Infos::acl_data))]
@@ -113,7 +134,7 @@ fn acl_json(alloc: Global) -> Result<Json, AllocError>
     let mut fields = Fields::new(alloc);
     fields.put(alloc, "supportedPermissions", Json::text(alloc, "basic")?)?;
     fields.put(alloc, "propagation", Json::text(alloc, "objectonly")?)?;
-    fields.put(alloc, "permissions", permissions(alloc)?)?;
+    fields.put(alloc, "permissions", permissions_json(alloc)?)?;
     Ok(Json::object(fields))
 }
 

@@ -11,6 +11,7 @@ use cm_base::value::{Scalar, Value};
 use cm_types::definition::{BaseType, ContentAllowed, TypeDef, TypeMutability};
 use cm_types::property::{Cardinality, Choices, PropDef, PropDefs, PropertyKind, Updatability};
 use cm_types::request::{MutabilityRequest, PropRequest, TypeRequest};
+use cm_types::together::{Pair, Quad, all_four, both};
 use std::alloc::{AllocError, Global};
 
 fn text_or(alloc: Global, default: &Text, given: &Option<Text>) -> Result<Text, AllocError>
@@ -29,6 +30,43 @@ fn text_or_empty(alloc: Global, given: &Option<Text>) -> Result<Text, AllocError
         Some(text) => text.copied(alloc),
         None => Ok(Text::empty(alloc)),
     }
+}
+
+/// The names that are asked for of a new definition.
+fn names_made(
+    alloc: Global,
+    id: &Text,
+    local_name: &Option<Text>,
+    local_namespace: &Option<Text>,
+    display_name: &Option<Text>,
+    query_name: &Option<Text>,
+) -> Result<Quad<Text>, AllocError>
+    ensures { IfOk result (λ n. n.one ≡ text_or id.now local_name.now × n.two ≡ text_or [] local_namespace.now
+        × n.three ≡ text_or id.now display_name.now × n.four ≡ text_or id.now query_name.now) }
+{
+    let one = text_or(alloc, id, local_name)?;
+    let two = text_or_empty(alloc, local_namespace)?;
+    let three = text_or(alloc, id, display_name)?;
+    let four = text_or(alloc, id, query_name)?;
+    Ok(Quad {
+        one,
+        two,
+        three,
+        four,
+    })
+}
+
+/// The id and the description of a new definition.
+fn marks_made(
+    alloc: Global,
+    id: &Text,
+    description: &Option<Text>,
+) -> Result<Pair<Text, Text>, AllocError>
+    ensures { IfOk result (λ m. m.one ≡ id.now × m.two ≡ text_or [] description.now) }
+{
+    let one = id.copied(alloc)?;
+    let two = text_or_empty(alloc, description)?;
+    Ok(Pair { one, two })
 }
 
 /// The query name that is asked for; where none is given, the id.
@@ -166,13 +204,26 @@ pub fn made_prop(alloc: Global, request: &PropRequest) -> Result<PropDef, AllocE
     ensures { IfOk result (λ d. d ≡ made_prop request.now) }
 {
     let cardinality = cardinality_of(request);
+    let names = names_made(
+        alloc,
+        &request.id,
+        &request.local_name,
+        &request.local_namespace,
+        &request.display_name,
+        &request.query_name,
+    )?;
+    let marks = marks_made(alloc, &request.id, &request.description)?;
+    let choices = choices_of(alloc, request)?;
+    let default = default_of(alloc, cardinality, scalars_asked(request))?;
+    let (local_name, local_namespace, display_name, query_name) = names.apart();
+    let (id, description) = marks.apart();
     Ok(PropDef {
-        id: request.id.copied(alloc)?,
-        local_name: text_or(alloc, &request.id, &request.local_name)?,
-        local_namespace: text_or_empty(alloc, &request.local_namespace)?,
-        display_name: text_or(alloc, &request.id, &request.display_name)?,
-        query_name: text_or(alloc, &request.id, &request.query_name)?,
-        description: text_or_empty(alloc, &request.description)?,
+        id,
+        local_name,
+        local_namespace,
+        display_name,
+        query_name,
+        description,
         kind: request.kind,
         cardinality,
         updatability: request.updatability.unwrap_or(Updatability::ReadWrite),
@@ -180,8 +231,8 @@ pub fn made_prop(alloc: Global, request: &PropRequest) -> Result<PropDef, AllocE
         queryable: request.queryable.unwrap_or(true),
         orderable: request.orderable.unwrap_or(is_single(cardinality)),
         open_choice: request.open_choice.unwrap_or(true),
-        choices: choices_of(alloc, request)?,
-        default: default_of(alloc, cardinality, scalars_asked(request))?,
+        choices,
+        default,
         max_length: limit_of(PropertyKind::String, request.kind, request.max_length),
         min_value: limit_of(PropertyKind::Integer, request.kind, request.min_value),
         max_value: limit_of(PropertyKind::Integer, request.kind, request.max_value),
@@ -286,15 +337,29 @@ pub fn made_type(
 {
     let of_documents = is_document(parent.base);
     let of_relationships = is_relationship(parent.base);
+    let names = names_made(
+        alloc,
+        &request.id,
+        &request.local_name,
+        &request.local_namespace,
+        &request.display_name,
+        &request.query_name,
+    )?;
+    let marks = marks_made(alloc, &request.id, &request.description)?;
+    let above = parent.id.copied(alloc)?;
+    let sources = types_if(alloc, of_relationships, &request.allowed_source_types)?;
+    let targets = types_if(alloc, of_relationships, &request.allowed_target_types)?;
+    let (local_name, local_namespace, display_name, query_name) = names.apart();
+    let (id, description) = marks.apart();
     Ok(TypeDef {
-        id: request.id.copied(alloc)?,
-        local_name: text_or(alloc, &request.id, &request.local_name)?,
-        local_namespace: text_or_empty(alloc, &request.local_namespace)?,
-        display_name: text_or(alloc, &request.id, &request.display_name)?,
-        query_name: text_or(alloc, &request.id, &request.query_name)?,
-        description: text_or_empty(alloc, &request.description)?,
+        id,
+        local_name,
+        local_namespace,
+        display_name,
+        query_name,
+        description,
         base: parent.base,
-        parent: Some(parent.id.copied(alloc)?),
+        parent: Some(above),
         creatable: request.creatable.unwrap_or(parent.creatable),
         fileable: parent.fileable,
         queryable: request
@@ -313,8 +378,8 @@ pub fn made_type(
             request.content_allowed,
             parent.content_allowed,
         ),
-        allowed_source_types: types_if(alloc, of_relationships, &request.allowed_source_types)?,
-        allowed_target_types: types_if(alloc, of_relationships, &request.allowed_target_types)?,
+        allowed_source_types: sources,
+        allowed_target_types: targets,
         properties,
     })
 }
@@ -328,15 +393,28 @@ pub fn changed_type(
 ) -> Result<TypeDef, AllocError>
     ensures { IfOk result (λ t. t ≡ record (changed_type def.now request.now) { properties = properties }) }
 {
+    let kept = all_four(
+        &def.id,
+        &def.local_name,
+        &def.local_namespace,
+        &def.query_name,
+        alloc,
+    )?;
+    let display_name = text_or(alloc, &def.display_name, &request.display_name)?;
+    let description = text_or(alloc, &def.description, &request.description)?;
+    let parent = Copies::copied(&def.parent, alloc)?;
+    let ends = both(&def.allowed_source_types, &def.allowed_target_types, alloc)?;
+    let (id, local_name, local_namespace, query_name) = kept.apart();
+    let (allowed_source_types, allowed_target_types) = ends.apart();
     Ok(TypeDef {
-        id: def.id.copied(alloc)?,
-        local_name: def.local_name.copied(alloc)?,
-        local_namespace: def.local_namespace.copied(alloc)?,
-        display_name: text_or(alloc, &def.display_name, &request.display_name)?,
-        query_name: def.query_name.copied(alloc)?,
-        description: text_or(alloc, &def.description, &request.description)?,
+        id,
+        local_name,
+        local_namespace,
+        display_name,
+        query_name,
+        description,
         base: def.base,
-        parent: Copies::copied(&def.parent, alloc)?,
+        parent,
         creatable: def.creatable,
         fileable: def.fileable,
         queryable: def.queryable,
@@ -347,8 +425,8 @@ pub fn changed_type(
         mutability: def.mutability,
         versionable: def.versionable,
         content_allowed: def.content_allowed,
-        allowed_source_types: def.allowed_source_types.copied(alloc)?,
-        allowed_target_types: def.allowed_target_types.copied(alloc)?,
+        allowed_source_types,
+        allowed_target_types,
         properties,
     })
 }

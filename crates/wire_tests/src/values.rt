@@ -1,6 +1,7 @@
 //! Objects whose names are put in any order, or twice, and the keys of a text that is read.
 use json_text::read::{elements_at, flag_at, members_at, read_value, text_at, whole_at};
 use json_text::tree::{Fields, Json};
+use serde_json::Value;
 use std::alloc::{AllocError, Global};
 use std::test::Fail;
 
@@ -23,30 +24,38 @@ fn names_stand_in_byte_order(rt: HostRuntime) -> Result<(), Fail> {
     Ok(())
 }
 
+// The keys of {"t":"x","w":-5,"f":true,"z":null}.
+fn have_their_kind(value: &Value) -> bool {
+    text_at(value, "t") == Ok(Some("x"))
+        && whole_at(value, "w") == Ok(Some(-5))
+        && flag_at(value, "f") == Ok(Some(true))
+        && text_at(value, "z") == Ok(None)
+        && whole_at(value, "y") == Ok(None)
+}
+
 #[test]
 fn keys_have_their_kind(rt: HostRuntime) {
     match read_value(rt.alloc(), "{\"t\":\"x\",\"w\":-5,\"f\":true,\"z\":null}") {
-        Ok(value) => {
-            assert!(rt; text_at(&value, "t") == Ok(Some("x")));
-            assert!(rt; whole_at(&value, "w") == Ok(Some(-5)));
-            assert!(rt; flag_at(&value, "f") == Ok(Some(true)));
-            assert!(rt; text_at(&value, "z") == Ok(None));
-            assert!(rt; whole_at(&value, "y") == Ok(None));
-        }
+        Ok(value) => assert!(rt; have_their_kind(&value)),
         Err(_) => assert!(rt; false),
     }
+}
+
+// The keys of {"a":1.5,"m":{},"l":[1]}.
+fn are_of_another_kind(value: &Value) -> bool {
+    text_at(value, "a").is_err()
+        && whole_at(value, "a").is_err()
+        && flag_at(value, "a").is_err()
+        && elements_at(value, "m").is_err()
+        && elements_at(value, "l").is_ok()
+        && members_at(value, "l").is_err()
+        && members_at(value, "m").is_ok()
 }
 
 #[test]
 fn keys_of_another_kind_are_refused(rt: HostRuntime) {
     match read_value(rt.alloc(), "{\"a\":1.5,\"m\":{},\"l\":[1]}") {
-        Ok(value) => {
-            assert!(rt; text_at(&value, "a").is_err());
-            assert!(rt; whole_at(&value, "a").is_err());
-            assert!(rt; flag_at(&value, "a").is_err());
-            assert!(rt; elements_at(&value, "m").is_err() && elements_at(&value, "l").is_ok());
-            assert!(rt; members_at(&value, "l").is_err() && members_at(&value, "m").is_ok());
-        }
+        Ok(value) => assert!(rt; are_of_another_kind(&value)),
         Err(_) => assert!(rt; false),
     }
 }

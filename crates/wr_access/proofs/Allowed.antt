@@ -23,8 +23,8 @@ pub has_room : (r : Repository) (u : List ℕ) (cost : ℕ) (call : ApplyAcl) �
 has_room r u cost call h = room_of r cost (then_ok (judge_storage r cost) _ h).0
 
 -- one more step and its cost stay numbers of 64 bits
-pub fits : (r : Repository) (u : List ℕ) (cost : ℕ) (call : ApplyAcl) → refusal_apply_acl r u cost call ≡ Ok tt → (r.step + 1 < 2 ^ 64) × (r.cost + cost < 2 ^ 64)
-fits r u cost call h = fits_of r cost (has_room r u cost call h)
+pub fits : (r : Repository) (u : List ℕ) (cost : ℕ) (call : ApplyAcl) → IsWellFormed r → refusal_apply_acl r u cost call ≡ Ok tt → (r.step + 1 < 2 ^ 64) × (r.cost + cost < 2 ^ 64)
+fits r u cost call w h = fits_of r cost w (has_room r u cost call h)
 
 -- ---- the list
 

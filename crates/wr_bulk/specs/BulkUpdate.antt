@@ -1,8 +1,9 @@
 -- bulkUpdateProperties (CMIS 1.1, section 2.2.4.14): when it is refused, what it makes of the repository, and what it answers.
-use Rattle.std.specs.Prelude.{ℕ, Bool, false, if◌then◌else◌, List, [], ◌∷◌, ◌++◌, fold, Option, Some, None, is_some, option_map}
+use Rattle.std.specs.Prelude.{ℕ, Bool, false, if◌then◌else◌, List, [], ◌∷◌, ◌++◌, fold, Option, Some, None, is_some, option_map, bytes_eq, codes}
 use Rattle.cm_base.specs.declared.number.Oid.{Oid}
 use Rattle.cm_base.specs.declared.number.Moment.{Moment}
-use Rattle.cm_base.specs.Judged.{Judged, cause_of}
+use Rattle.cm_base.specs.declared.cause.Cause.TheVariants as causes
+use Rattle.cm_base.specs.Judged.{Judged, ◌>>=◌, ◌>>◌, refuse, cause_of}
 use Rattle.call_parts.specs.declared.changes.UpdateProperties.{UpdateProperties}
 use Rattle.call_parts.specs.declared.place.Place.TheVariants.{Id}
 use Rattle.bulk_parts.specs.declared.writes.BulkUpdate.{BulkUpdate}
@@ -20,9 +21,11 @@ cost_bulk_update call = weight_of_bulk_update call
 
 -- ---- the refusal
 
--- no object refuses the call
-abbrev pub refusal_bulk_update : Repository → ℕ → Judged (Unit {0})
-refusal_bulk_update r cost = judge_storage r cost
+-- whoever has no name may not ask for it; no object refuses the call
+abbrev pub refusal_bulk_update : Repository → List ℕ → ℕ → Judged (Unit {0})
+refusal_bulk_update r u cost = do
+  judge_storage r cost
+  refuse causes.Denied (bytes_eq u (codes "anonymous"))
 
 -- ---- one object
 

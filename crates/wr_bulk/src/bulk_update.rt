@@ -2,13 +2,14 @@
 ghost use Rattle.std.specs.Prelude.{◌≡◌, [], ◌++◌, ◌∷◌, fold, IfOk};
 ghost use Rattle.cm_base.specs.Judged.{Writes};
 ghost use Rattle.cmis_spec.specs.Well.{IsWellFormed};
-ghost use Rattle.wr_bulk.specs.BulkUpdate.{cost_bulk_update, refusal_bulk_update, changed, with_changed, with_object, with_objects, after_bulk_update, acknowledgement_bulk_update};
+ghost use Rattle.wr_bulk.specs.BulkUpdate.{cost_bulk_update, refusal_bulk_update, changed, with_changed, with_objects, after_bulk_update, acknowledgement_bulk_update};
 
-use crate::each::{changed, update_of};
+use crate::each::{asked_of, asked_of_none, changed};
 use bulk_parts::replies::{UpdatedObject, UpdatedObjects};
 use bulk_parts::weight::weight_of_bulk_update;
-use bulk_parts::writes::{BulkUpdate, ObjectIdAndChangeToken};
+use bulk_parts::writes::BulkUpdate;
 use call_parts::changes::UpdateProperties;
+use cm_base::cause::Cause;
 use cm_base::fail::Fail;
 use cm_base::items::Items;
 use cm_base::number::Moment;
@@ -48,23 +49,7 @@ fn with_changed(
     }
 }
 
-// The state so far and the objects that were changed, with one object more.
-fn with_object(
-    alloc: Global,
-    so_far: (State, UpdatedObjects),
-    user: &Text,
-    moment: Moment,
-    call: &BulkUpdate,
-    object: &ObjectIdAndChangeToken,
-) -> Result<(State, UpdatedObjects), AllocError>
-    ensures { IfOk result (λ more. more ≡ with_object user.now moment call.now so_far object.now) }
-{
-    let asked = update_of(alloc, call, object)?;
-    let more = with_changed(alloc, so_far, user, moment, &asked)?;
-    Ok(more)
-}
-
-// Each object in turn.
+// Each object in turn. What is asked of each is the same update of one object after another.
 fn with_objects(
     alloc: Global,
     begun: State,
@@ -74,9 +59,11 @@ fn with_objects(
 ) -> Result<(State, UpdatedObjects), AllocError>
     ensures { IfOk result (λ more. more ≡ with_objects begun user.now moment call.now) }
 {
+    let mut asked = asked_of_none(alloc, call)?;
     let mut so_far = (begun, Items::new(alloc));
     for object in call.objects.as_slice() {
-        so_far = with_object(alloc, so_far, user, moment, call, object)?;
+        asked = asked_of(alloc, asked, object)?;
+        so_far = with_changed(alloc, so_far, user, moment, &asked)?;
     }
     Ok(so_far)
 }
@@ -84,8 +71,10 @@ fn with_objects(
 /// Changes the properties of several objects in one step: each in turn, as update would change it in the repository so far. An object that
 /// update would refuse, its retention among the causes, is passed over. The cost is the weight of the call.
 ///
-/// The answer is the cause that refuses the call, which only the limits of the repository do, or the repository after it and the objects
-/// that were changed, in order.
+/// The answer is the cause that refuses the call, which is a limit of the repository, or else that the caller is `anonymous`; or the
+/// repository after it and the objects that were changed, in order. What the call gives is copied once, and what an object is given
+/// once more for each object that is changed.
+#[tactic(auto, using(cm_types::proofs::Exits::fails_then))]
 pub fn bulk_update(
     alloc: Global,
     state: &State,
@@ -94,13 +83,16 @@ pub fn bulk_update(
     call: &BulkUpdate,
 ) -> Result<(State, UpdatedObjects), Fail>
     ensures written { Writes result
-        (refusal_bulk_update state.now (cost_bulk_update call.now))
+        (refusal_bulk_update state.now user.now (cost_bulk_update call.now))
         (after_bulk_update state.now user.now moment (cost_bulk_update call.now) call.now)
         (acknowledgement_bulk_update state.now user.now moment (cost_bulk_update call.now) call.now) }
     ensures well { IfOk result (λ x. IsWellFormed x.0) }
 {
     let cost = weight_of_bulk_update(call);
     judge_storage(state, cost)?;
+    if user.is_str("anonymous") {
+        return Err(Fail::Refused(Cause::Denied));
+    }
     let begun = begun(alloc, state, cost)?;
     let (next, updated) = with_objects(alloc, begun, user, moment, call)?;
     let _next_step = next.step();

@@ -3,8 +3,8 @@ ghost use Rattle.std.specs.Prelude.{◌≡◌, IfOk, IfSome};
 ghost use Rattle.cm_see.specs.Addressed.{addressed};
 ghost use Rattle.wr_change.specs.Update.{refusal_one, values_updated};
 ghost use Rattle.wr_change.specs.UpdateParts.{MayChange};
-ghost use Rattle.wr_bulk.specs.BulkUpdate.{update_of, changed};
-ghost use Rattle.wr_bulk.specs.Parts.{Passes};
+ghost use Rattle.wr_bulk.specs.BulkUpdate.{changed};
+ghost use Rattle.wr_bulk.specs.Parts.{AsksOfOne, Passes, asked_of};
 
 use bulk_parts::writes::{BulkUpdate, ObjectIdAndChangeToken};
 use call_parts::changes::UpdateProperties;
@@ -20,21 +20,37 @@ use std::alloc::{AllocError, Global};
 use wr_change::change::changed_in;
 use wr_change::update::judge_one;
 
-/// The update that the call asks for of one of its objects.
-pub(crate) fn update_of(
+/// The update that the call asks for, of no object yet. What the call gives is copied here, and for no object again.
+pub(crate) fn asked_of_none(
     alloc: Global,
     call: &BulkUpdate,
-    object: &ObjectIdAndChangeToken,
 ) -> Result<UpdateProperties, AllocError>
-    ensures { IfOk result (λ c. c ≡ update_of call.now object.now) }
+    ensures { IfOk result (λ asked. AsksOfOne call.now asked) }
 {
     Ok(UpdateProperties {
-        place: Place::Id(object.id.copied(alloc)?),
+        place: Place::Id(Text::empty(alloc)),
         properties: call.properties.copied(alloc)?,
         remove_secondary: call.remove_secondary.copied(alloc)?,
         add_secondary: call.add_secondary.copied(alloc)?,
-        token: Copies::copied(&object.token, alloc)?,
+        token: None,
         succinct: false,
+    })
+}
+
+/// The same update of this object, with the change token that the caller has of it.
+pub(crate) fn asked_of(
+    alloc: Global,
+    asked: UpdateProperties,
+    object: &ObjectIdAndChangeToken,
+) -> Result<UpdateProperties, AllocError>
+    ensures { IfOk result (λ c. c ≡ asked_of asked object.now) }
+{
+    let id = object.id.copied(alloc)?;
+    let token = Copies::copied(&object.token, alloc)?;
+    Ok(UpdateProperties {
+        place: Place::Id(id),
+        token,
+        ..asked
     })
 }
 

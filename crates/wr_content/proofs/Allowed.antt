@@ -12,6 +12,7 @@ use Rattle.cm_see.specs.Addressed.{addressed}
 use Rattle.cmis_spec.specs.Repository.{Repository, root_folder, object_at, is_a}
 use Rattle.cmis_spec.specs.Access.{lacks}
 use Rattle.cmis_spec.specs.Retention.{judge_kept}
+use Rattle.cmis_spec.specs.Well.{IsWellFormed}
 use Rattle.cmis_laws.proofs.Passed.{then_ok, refuse_ok, not_false}
 use Rattle.cmis_laws.proofs.Steps.{HasRoom}
 use Rattle.wr_rules.specs.Rules.{judge_storage, judge_token}
@@ -26,9 +27,9 @@ pub record Passes (r : Repository) (cost : ℕ) (x : Object) (rest : Judged (Uni
   pub document : is_a r bases.Document x ≡ true
   pub others : rest ≡ Ok tt
 
-pub passes : (r : Repository) (u : List ℕ) (m : Moment) (cost : ℕ) (place : Place) (token : Option (List ℕ)) (rest : Object → Judged (Unit {0})) (x : Object) → addressed r u place ≡ Some x
+pub passes : (r : Repository) (u : List ℕ) (m : Moment) (cost : ℕ) (place : Place) (token : Option (List ℕ)) (rest : Object → Judged (Unit {0})) (x : Object) → IsWellFormed r → addressed r u place ≡ Some x
     → judge_storage r cost >> (find_or causes.NotFound (addressed r u place) >>= (λ y. judge_document r u token y >> (rest y >> judge_kept r m (y ∷ [])))) ≡ Ok tt → Passes r cost x (rest x)
-passes r u m cost place token rest x at h =
+passes r u m cost place token rest x w at h =
     let s = then_ok (judge_storage r cost) _ h in
     let f : judge_document r u token x >> (rest x >> judge_kept r m (x ∷ [])) ≡ Ok tt = subst (λ o. find_or causes.NotFound o >>= (λ y. judge_document r u token y >> (rest y >> judge_kept r m (y ∷ []))) ≡ Ok tt) at s.1 in
     let d = then_ok (judge_document r u token x) (rest x >> judge_kept r m (x ∷ [])) f in
@@ -36,7 +37,7 @@ passes r u m cost place token rest x at h =
     let t = then_ok (judge_token x token) _ a.1 in
     let k = refuse_ok causes.WrongKind (not (is_a r bases.Document x)) _ t.1 in
     let room = room_of r cost s.0 in
-    let fits = fits_of r cost room in
+    let fits = fits_of r cost w room in
     record {
       room = room;
       step = fits.0;

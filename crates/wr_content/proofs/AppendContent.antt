@@ -22,8 +22,8 @@ use Rattle.wr_content.specs.AppendContent.{bytes_of, grows_too_long, with_more, 
 use Rattle.wr_content.proofs.Changed.{filled_keeps, filled_there}
 use Rattle.wr_content.proofs.Allowed.{Passes, passes, after_is, found_after}
 
-pub append_passes : (r : Repository) (u : List ℕ) (m : Moment) (cost : ℕ) (call : AppendContent) (x : Object) → addressed r u call.place ≡ Some x → refusal_append_content r u m cost call ≡ Ok tt → Passes r cost x (judge_growth r call x)
-append_passes r u m cost call x at h = passes r u m cost call.place call.token (judge_growth r call) x at h
+pub append_passes : (r : Repository) (u : List ℕ) (m : Moment) (cost : ℕ) (call : AppendContent) (x : Object) → IsWellFormed r → addressed r u call.place ≡ Some x → refusal_append_content r u m cost call ≡ Ok tt → Passes r cost x (judge_growth r call x)
+append_passes r u m cost call x w at h = passes r u m cost call.place call.token (judge_growth r call) x w at h
 
 pub fits_both : (r : Repository) (call : AppendContent) (x : Object) → judge_growth r call x ≡ Ok tt → length (bytes_of r x) + length call.stream.pieces ≤ longest_stream
 fits_both r call x h =
@@ -61,7 +61,7 @@ append_is r u m cost k call x changed content at e f g = (λ i. filled r (e i) (
 pub append_well : (r : Repository) (u : List ℕ) (m : Moment) (cost k : ℕ) (call : AppendContent) (x changed : Object) (content : Content) → IsWellFormed r → addressed r u call.place ≡ Some x
     → refusal_append_content r u m cost call ≡ Ok tt → changed ≡ changed_by r u m x → content ≡ content_appended r call x → k ≡ cost → IsWellFormed (filled r changed content k)
 append_well r u m cost k call x changed content w at h e f g =
-    let p = append_passes r u m cost call x at h in
+    let p = append_passes r u m cost call x w at h in
     let o = content_at r x.id in
     subst IsWellFormed (λ i. filled r (sym e i) (sym f i) (sym g i))
     (filled_keeps r u m cost x w p.room (addressed_there r u call.place x w.numbers at) p.document (content_appended r call x)

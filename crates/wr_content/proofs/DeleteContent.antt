@@ -19,9 +19,9 @@ use Rattle.wr_content.specs.DeleteContent.{refusal_delete_content, document_rid,
 use Rattle.wr_content.proofs.Changed.{cleared_keeps, cleared_there}
 use Rattle.wr_content.proofs.Allowed.{Passes, passes, after_is, found_after}
 
-pub delete_passes : (r : Repository) (u : List ℕ) (m : Moment) (cost : ℕ) (call : DeleteContent) (x : Object) → addressed r u call.place ≡ Some x → refusal_delete_content r u m cost call ≡ Ok tt
+pub delete_passes : (r : Repository) (u : List ℕ) (m : Moment) (cost : ℕ) (call : DeleteContent) (x : Object) → IsWellFormed r → addressed r u call.place ≡ Some x → refusal_delete_content r u m cost call ≡ Ok tt
     → Passes r cost x (refuse causes.ContentRequired (is_needed r x))
-delete_passes r u m cost call x at h = passes r u m cost call.place call.token (λ y. refuse causes.ContentRequired (is_needed r y)) x at h
+delete_passes r u m cost call x w at h = passes r u m cost call.place call.token (λ y. refuse causes.ContentRequired (is_needed r y)) x w at h
 
 -- ---- with content
 
@@ -33,7 +33,7 @@ cleared_is r u m cost k call x changed at there e g =
 pub cleared_well : (r : Repository) (u : List ℕ) (m : Moment) (cost k : ℕ) (call : DeleteContent) (x changed : Object) → IsWellFormed r → addressed r u call.place ≡ Some x
     → refusal_delete_content r u m cost call ≡ Ok tt → changed ≡ changed_by r u m x → k ≡ cost → IsWellFormed (cleared r changed k)
 cleared_well r u m cost k call x changed w at h e g =
-    let p = delete_passes r u m cost call x at h in
+    let p = delete_passes r u m cost call x w at h in
     subst IsWellFormed (λ i. cleared r (sym e i) (sym g i)) (cleared_keeps r u m cost x w p.room (addressed_there r u call.place x w.numbers at) p.document)
 
 -- ---- without content
@@ -44,7 +44,7 @@ stepped_is r u m cost k call x at none g =
     ap (stepped r) g ∙ (ap (λ b. if b then cleared r (changed_by r u m x) cost else stepped r cost) (sym none) ∙ sym (after_is r u call.place (after_delete_content_of r u m cost) x at))
 
 pub stepped_well : (r : Repository) (u : List ℕ) (m : Moment) (cost k : ℕ) (call : DeleteContent) (x : Object) → IsWellFormed r → addressed r u call.place ≡ Some x → refusal_delete_content r u m cost call ≡ Ok tt → k ≡ cost → IsWellFormed (stepped r k)
-stepped_well r u m cost k call x w at h g = subst (λ n. IsWellFormed (stepped r n)) (sym g) (step_keeps r cost w (delete_passes r u m cost call x at h).room)
+stepped_well r u m cost k call x w at h g = subst (λ n. IsWellFormed (stepped r n)) (sym g) (step_keeps r cost w (delete_passes r u m cost call x w at h).room)
 
 -- ---- what is found
 

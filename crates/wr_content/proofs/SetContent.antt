@@ -20,8 +20,8 @@ use Rattle.wr_content.specs.SetContent.{judge_stream, refusal_set_content, conte
 use Rattle.wr_content.proofs.Changed.{filled_keeps, filled_there}
 use Rattle.wr_content.proofs.Allowed.{Passes, passes, after_is, found_after}
 
-pub set_passes : (r : Repository) (u : List ℕ) (m : Moment) (cost : ℕ) (call : SetContent) (x : Object) → addressed r u call.place ≡ Some x → refusal_set_content r u m cost call ≡ Ok tt → Passes r cost x (judge_stream r call x)
-set_passes r u m cost call x at h = passes r u m cost call.place call.token (judge_stream r call) x at h
+pub set_passes : (r : Repository) (u : List ℕ) (m : Moment) (cost : ℕ) (call : SetContent) (x : Object) → IsWellFormed r → addressed r u call.place ≡ Some x → refusal_set_content r u m cost call ≡ Ok tt → Passes r cost x (judge_stream r call x)
+set_passes r u m cost call x w at h = passes r u m cost call.place call.token (judge_stream r call) x w at h
 
 fits_content : (r : Repository) (call : SetContent) (x : Object) → judge_stream r call x ≡ Ok tt → length call.stream.pieces ≤ longest_stream
 fits_content r call x h =
@@ -37,7 +37,7 @@ set_is r u m cost k call x changed content at e f g = (λ i. filled r (e i) (f i
 pub set_well : (r : Repository) (u : List ℕ) (m : Moment) (cost k : ℕ) (call : SetContent) (x changed : Object) (content : Content) → IsWellFormed r → addressed r u call.place ≡ Some x
     → refusal_set_content r u m cost call ≡ Ok tt → changed ≡ changed_by r u m x → content ≡ content_set r call x → k ≡ cost → IsWellFormed (filled r changed content k)
 set_well r u m cost k call x changed content w at h e f g =
-    let p = set_passes r u m cost call x at h in
+    let p = set_passes r u m cost call x w at h in
     subst IsWellFormed (λ i. filled r (sym e i) (sym f i) (sym g i))
     (filled_keeps r u m cost x w p.room (addressed_there r u call.place x w.numbers at) p.document (content_set r call x) refl (omega arith) (fits_content r call x p.others))
 

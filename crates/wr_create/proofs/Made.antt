@@ -15,7 +15,7 @@ use Rattle.cm_types.specs.Types.{type_in, same_base}
 use Rattle.cm_types.specs.Properties.{judge_properties}
 use Rattle.create_parts.specs.declared.writes.ObjectRequest.{ObjectRequest}
 use Rattle.cmis_spec.specs.Values.{values_kept}
-use Rattle.cmis_spec.specs.Repository.{Repository, same, most_steps, most_cost, object_at, is_a, new_number}
+use Rattle.cmis_spec.specs.Repository.{Repository, same, object_at, is_a, new_number}
 use Rattle.cmis_spec.specs.Changes.{stepped, with_object}
 use Rattle.cmis_spec.specs.Well.{Apart, ComesBefore, HasNumbers, HasEnds, IsTyped, IsWellFormed}
 use Rattle.cmis_laws.proofs.Lists.{find_last, same_refl}
@@ -27,6 +27,7 @@ use Rattle.cmis_laws.proofs.Passed.{not_false, or_left, or_right}
 use Rattle.cmis_laws.proofs.Steps.{HasRoom}
 use Rattle.wr_rules.specs.Rules.{distinct, type_id_in, secondary_in, has_other_secondary, has_other_policy, policies_in, new_aces}
 use Rattle.wr_rules.proofs.Known.{below_secondary}
+use Rattle.wr_rules.proofs.Room.{fits_of, next_fits_of}
 use Rattle.wr_rules.specs.Wanted.{Wanted, wanted_in}
 use Rattle.wr_object.specs.CreateFolder.{object_of}
 use Rattle.wr_object.specs.CreateDocument.{filed_at}
@@ -43,8 +44,9 @@ pub record HasNumbersLeft (r : Repository) (cost : ℕ) : Type 0 where
   pub paid : r.cost + cost < 2 ^ 64
 
 pub numbers_left : (r : Repository) (cost : ℕ) → IsWellFormed r → HasRoom r cost → HasNumbersLeft r cost
-unfolding most_steps most_cost
-numbers_left r cost w room = record { next = omega (arith, w.bounds.2, room.steps); step = omega (arith, room.steps); paid = omega (arith, room.bytes) }
+numbers_left r cost w room =
+    let fits = fits_of r cost w room in
+    record { next = next_fits_of r w; step = fits.0; paid = fits.1 }
 
 -- ---- the new object is found under its number
 

@@ -81,8 +81,8 @@ some_of None e x h = absurd (both_ways false refl (ap (λ j. elim j [ Ok y ↦ t
 some_of (Some y) e x h = ap (λ j. elim j [ Ok z ↦ Some z | Err d ↦ Some y ]) h
 
 -- one more step and its cost stay numbers of 64 bits
-pub room_for : (r : Repository) (u : List ℕ) (cost : ℕ) (call : MoveObject) → refusal_move r u cost call ≡ Ok tt → (r.step + 1 < 2 ^ 64) × (r.cost + cost < 2 ^ 64)
-room_for r u cost call h = fits_of r cost (passes r u cost call h).room
+pub room_for : (r : Repository) (u : List ℕ) (cost : ℕ) (call : MoveObject) → IsWellFormed r → refusal_move r u cost call ≡ Ok tt → (r.step + 1 < 2 ^ 64) × (r.cost + cost < 2 ^ 64)
+room_for r u cost call w h = fits_of r cost w (passes r u cost call h).room
 
 -- ---- all
 

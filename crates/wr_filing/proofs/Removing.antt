@@ -55,8 +55,8 @@ passes r u cost call h =
     record { room = room_of r cost s.0; x = a.0; at = a.1; fileable = k.0; no_folder = k.1 }
 
 -- one more step and its cost stay numbers of 64 bits
-pub room_for : (r : Repository) (u : List ℕ) (cost : ℕ) (call : RemoveFromFolder) → refusal_remove_from_folder r u cost call ≡ Ok tt → (r.step + 1 < 2 ^ 64) × (r.cost + cost < 2 ^ 64)
-room_for r u cost call h = fits_of r cost (passes r u cost call h).room
+pub room_for : (r : Repository) (u : List ℕ) (cost : ℕ) (call : RemoveFromFolder) → IsWellFormed r → refusal_remove_from_folder r u cost call ≡ Ok tt → (r.step + 1 < 2 ^ 64) × (r.cost + cost < 2 ^ 64)
+room_for r u cost call w h = fits_of r cost w (passes r u cost call h).room
 
 -- ---- all
 

@@ -1,8 +1,8 @@
 -- createFolder keeps what is well formed.
-use Rattle.std.specs.Prelude.{◌≡◌, ℕ, ◌+◌, ◌≤◌, Bool, true, false, not, ◌||◌, List, [], ◌∷◌, map, filter, filter_map, fold, All, Option, Some, None, Ok, is_some, option_map, unwrap_or, nat_lt, nat_le, bytes_eq, codes, if◌then◌else◌}
+use Rattle.std.specs.Prelude.{◌≡◌, ℕ, ◌+◌, ◌≤◌, Bool, true, false, not, ◌||◌, List, [], ◌∷◌, map, filter, filter_map, fold, All, Option, Some, None, Ok, is_some, option_map, unwrap_or, nat_le, bytes_eq, codes, if◌then◌else◌}
 use Rattle.std.specs.List.{list_any}
 use Rattle.std.proofs.Common.{refl, sym, ap, subst, ◌∙◌, arith}
-use Rattle.std.proofs.lemmas.Bool.{both_ways, ltb-false}
+use Rattle.std.proofs.lemmas.Bool.{both_ways}
 use Rattle.std.proofs.lemmas.List.Elements.{All-nil, All-cons, All-head, All-tail, All-append, All-filter, All-map}
 use Rattle.core.specs.List.{cons_option}
 use Rattle.core.specs.Ordering.{is_lt, is_gt}
@@ -23,16 +23,18 @@ use Rattle.call_parts.specs.declared.writes.AceRequest.{AceRequest}
 use Rattle.call_parts.specs.declared.writes.CreateFolder.{CreateFolder}
 use Rattle.cm_acl.specs.Acl.{level_named, ace_order, with_ace, without_aces, same_ace}
 use Rattle.cm_see.specs.Addressed.{addressed}
-use Rattle.cmis_spec.specs.Repository.{Repository, root, most_levels, most_steps, most_cost, object_at, is_a, depth_of, is_taken, new_number}
+use Rattle.cmis_spec.specs.Repository.{Repository, root, most_levels, object_at, is_a, depth_of, is_taken, new_number}
 use Rattle.cmis_spec.specs.Access.{rank, lacks, read_named, object_named}
 use Rattle.cmis_spec.specs.Well.{Apart, ComesBefore, IsTyped, IsBaseAt, IsWellFormed}
 use Rattle.cmis_laws.proofs.Lists.{none_some}
 use Rattle.cmis_laws.proofs.Made.{folder_keeps}
+use Rattle.cmis_laws.proofs.Steps.{HasRoom}
 use Rattle.wr_rules.specs.Rules.{judge_storage, distinct, name_in, type_id_in, secondary_in, unknown_type, has_other_secondary, bars_child, unread_cause, read_all, has_other_policy, policies_in, has_unknown_permission, aces_of, aces_in, new_aces}
 use Rattle.cmis_laws.proofs.Kept.{kept_new}
 use Rattle.cmis_laws.proofs.Once.{owns_new}
 use Rattle.cmis_laws.proofs.Passed.{refused_not, then_ok, refuse_ok, find_ok, first_none, not_false, or_left, or_right}
 use Rattle.wr_rules.specs.Wanted.{wanted_in}
+use Rattle.wr_rules.proofs.Room.{room_of}
 use Rattle.wr_rules.proofs.Known.{below_secondary}
 use Rattle.wr_rules.proofs.Found.{addressed_there, read_there, named_there}
 use Rattle.wr_object.specs.CreateFolder.{folder_props, judge_kinds, judge_place, refusal_create_folder, folder_made, after_create_folder_in, after_create_folder}
@@ -40,8 +42,7 @@ use Rattle.wr_object.specs.CreateFolder.{folder_props, judge_kinds, judge_place,
 -- ---- what a refusal that is none tells
 
 pub record Passes (r : Repository) (u : List ℕ) (cost : ℕ) (call : CreateFolder) : Type 0 where
-  pub steps : nat_lt most_steps (r.step + 1) ≡ false
-  pub bytes : nat_lt most_cost (r.cost + cost) ≡ false
+  pub room : HasRoom r cost
   pub parent : Object
   pub at : addressed r u call.place ≡ Some parent
   pub def : TypeDef
@@ -57,7 +58,6 @@ pub passes : (r : Repository) (u : List ℕ) (m : Moment) (cost : ℕ) (call : C
 passes r u m cost call h =
     let wanted = wanted_in r.types call.properties in
     let s = then_ok (judge_storage r cost) _ h in
-    let s' = refuse_ok (causes.Storage r.step 1 most_steps) (nat_lt most_steps (r.step + 1)) _ s.0 in
     let a = find_ok causes.NotFound (addressed r u call.place) _ s.1 in
     let p = then_ok (first_cause (unread_cause r u) call.policies) _ a.2 in
     let b = find_ok causes.TypeNotFound (type_in r.types wanted.kind) _ p.1 in
@@ -73,8 +73,7 @@ passes r u m cost call h =
     let l = refuse_ok causes.Permission (has_unknown_permission call.remove || has_unknown_permission call.add) _ k.1 in
     let n = refuse_ok causes.BadName (not (is_name wanted.name)) _ l.1 in
     record {
-      steps = s'.0;
-      bytes = refused_not (causes.Storage r.cost cost most_cost) (nat_lt most_cost (r.cost + cost)) s'.1;
+      room = room_of r cost s.0;
       parent = a.0;
       at = a.1;
       def = b.0;
@@ -194,5 +193,5 @@ keeps_create_folder r u m cost call w h ordered =
       below = (p.parent, there, not_false (is_a r bases.Folder p.parent) (or_left (not (is_a r bases.Folder p.parent)) (has_other_policy r u call.policies) p.kinds));
       depth = p.depth;
       free = p.free;
-      room = record { steps = omega (arith, ltb-false most_steps (r.step + 1) p.steps); bytes = omega (arith, ltb-false most_cost (r.cost + cost) p.bytes) };
+      room = p.room;
     }))

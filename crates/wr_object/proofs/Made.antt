@@ -1,7 +1,5 @@
 -- What createFolder makes: the room for it, the repository after it, and the folder in it.
 use Rattle.std.specs.Prelude.{◌≡◌, ℕ, ◌+◌, ◌<◌, ◌^◌, false, List, [], Ok, Some}
-use Rattle.std.proofs.Common.{◌∙◌, arith}
-use Rattle.std.proofs.lemmas.Bool.{ltb-false}
 use Rattle.std.proofs.lemmas.List.Elements.{All-weaker}
 use Rattle.cm_base.specs.declared.number.Oid.{Oid}
 use Rattle.cm_base.specs.declared.number.Moment.{Moment}
@@ -9,12 +7,13 @@ use Rattle.cm_base.specs.declared.object.Object.{Object}
 use Rattle.cm_base.specs.declared.access.Ace.{Ace}
 use Rattle.cm_base.specs.declared.log.ChangeKind.TheVariants as changes
 use Rattle.call_parts.specs.declared.writes.CreateFolder.{CreateFolder}
-use Rattle.cmis_spec.specs.Repository.{Repository, same, most_steps, most_cost, object_at, new_number}
+use Rattle.cmis_spec.specs.Repository.{Repository, same, object_at, new_number}
 use Rattle.cmis_spec.specs.Changes.{stepped, noted, with_object, with_pair}
 use Rattle.cmis_spec.specs.Well.{HasNumbers, IsWellFormed}
 use Rattle.cmis_laws.proofs.Lists.{find_last, same_refl}
 use Rattle.cmis_laws.proofs.Entries.{is_other}
 use Rattle.wr_rules.specs.Rules.{policies_in, new_aces}
+use Rattle.wr_rules.proofs.Room.{fits_of, next_fits_of}
 use Rattle.wr_object.specs.CreateFolder.{refusal_create_folder, folder_made, parent_of, after_create_folder}
 use Rattle.wr_object.proofs.CreateFolder.{passes}
 
@@ -25,10 +24,9 @@ pub record HasRoom (r : Repository) (cost : ℕ) : Type 0 where
   pub paid : r.cost + cost < 2 ^ 64
 
 pub room_of : (r : Repository) (u : List ℕ) (m : Moment) (cost : ℕ) (call : CreateFolder) → IsWellFormed r → refusal_create_folder r u m cost call ≡ Ok tt → HasRoom r cost
-unfolding most_steps most_cost
 room_of r u m cost call w h =
-    let p = passes r u m cost call h in
-    record { next = omega (arith, w.bounds.2, ltb-false most_steps (r.step + 1) p.steps); step = omega (arith, ltb-false most_steps (r.step + 1) p.steps); paid = omega (arith, ltb-false most_cost (r.cost + cost) p.bytes) }
+    let fits = fits_of r cost w (passes r u m cost call h).room in
+    record { next = next_fits_of r w; step = fits.0; paid = fits.1 }
 
 -- the change that is made is the repository after the call
 pub made_is : (r : Repository) (u : List ℕ) (m : Moment) (cost : ℕ) (call : CreateFolder) (x : Object) (aces : List Ace) (policies : List Oid) (parent : Oid)

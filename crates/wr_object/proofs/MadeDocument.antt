@@ -1,19 +1,20 @@
 -- What createDocument makes: the room for it, the repository after it, and the document in it.
 use Rattle.std.specs.Prelude.{◌≡◌, ℕ, ◌<◌, false, List, find, Ok, Option, Some, None}
-use Rattle.std.proofs.Common.{refl, ap, ◌∙◌, arith}
+use Rattle.std.proofs.Common.{refl, ap, ◌∙◌}
 use Rattle.std.proofs.lemmas.List.Elements.{All-weaker}
 use Rattle.cm_base.specs.declared.number.Oid.{Oid}
 use Rattle.cm_base.specs.declared.number.Moment.{Moment}
 use Rattle.cm_base.specs.declared.access.Ace.{Ace}
 use Rattle.cm_base.specs.declared.content.Content.{Content}
 use Rattle.call_parts.specs.declared.versions.CreateDocument.{CreateDocument}
-use Rattle.cmis_spec.specs.Repository.{Repository, same, most_steps, most_cost, object_at, new_number}
+use Rattle.cmis_spec.specs.Repository.{Repository, same, object_at, new_number}
 use Rattle.cmis_spec.specs.Documents.{with_document, with_policies, with_contents}
 use Rattle.cmis_spec.specs.Well.{HasNumbers, IsWellFormed}
 use Rattle.cmis_laws.proofs.Lists.{find_last, same_refl}
 use Rattle.cmis_laws.proofs.Entries.{is_other}
 use Rattle.wr_rules.specs.Rules.{policies_in, new_aces}
 use Rattle.wr_rules.specs.Wanted.{Wanted, wanted_in}
+use Rattle.wr_rules.proofs.Room.{fits_of, next_fits_of}
 use Rattle.wr_object.specs.declared.new_document.Allowed.{Allowed}
 use Rattle.wr_object.specs.declared.new_document.NewDocument.{NewDocument}
 use Rattle.wr_object.specs.CreateDocument.{refusal_create_document, allowed_in, new_parts, parts_made, filed_at, made_of_parts, after_create_document}
@@ -21,10 +22,9 @@ use Rattle.wr_object.proofs.CreatedDocument.{passes}
 use Rattle.wr_object.proofs.Made.{HasRoom}
 
 pub room_of : (r : Repository) (u : List ℕ) (cost : ℕ) (call : CreateDocument) → IsWellFormed r → refusal_create_document r u cost call ≡ Ok tt → HasRoom r cost
-unfolding most_steps most_cost
 room_of r u cost call w h =
-    let p = passes r u cost call h in
-    record { next = omega (arith, w.bounds.2, p.room.steps); step = omega (arith, p.room.steps); paid = omega (arith, p.room.bytes) }
+    let fits = fits_of r cost w (passes r u cost call h).room in
+    record { next = next_fits_of r w; step = fits.0; paid = fits.1 }
 
 -- ---- the repository after it
 

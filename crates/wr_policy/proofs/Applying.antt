@@ -54,8 +54,8 @@ passes r u cost call h =
     }
 
 -- one more step and its cost stay numbers of 64 bits
-pub room_for : (r : Repository) (u : List ℕ) (cost : ℕ) (call : ApplyPolicy) → refusal_apply_policy r u cost call ≡ Ok tt → (r.step + 1 < 2 ^ 64) × (r.cost + cost < 2 ^ 64)
-room_for r u cost call h = fits_of r cost (passes r u cost call h).room
+pub room_for : (r : Repository) (u : List ℕ) (cost : ℕ) (call : ApplyPolicy) → IsWellFormed r → refusal_apply_policy r u cost call ≡ Ok tt → (r.step + 1 < 2 ^ 64) × (r.cost + cost < 2 ^ 64)
+room_for r u cost call w h = fits_of r cost w (passes r u cost call h).room
 
 -- ---- all
 

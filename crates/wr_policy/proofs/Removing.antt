@@ -27,8 +27,8 @@ pub has_room : (r : Repository) (u : List ℕ) (cost : ℕ) (call : RemovePolicy
 has_room r u cost call h = room_of r cost (then_ok (judge_storage r cost) _ h).0
 
 -- one more step and its cost stay numbers of 64 bits
-pub room_for : (r : Repository) (u : List ℕ) (cost : ℕ) (call : RemovePolicy) → refusal_remove_policy r u cost call ≡ Ok tt → (r.step + 1 < 2 ^ 64) × (r.cost + cost < 2 ^ 64)
-room_for r u cost call h = fits_of r cost (has_room r u cost call h)
+pub room_for : (r : Repository) (u : List ℕ) (cost : ℕ) (call : RemovePolicy) → IsWellFormed r → refusal_remove_policy r u cost call ≡ Ok tt → (r.step + 1 < 2 ^ 64) × (r.cost + cost < 2 ^ 64)
+room_for r u cost call w h = fits_of r cost w (has_room r u cost call h)
 
 pub after_is : (r : Repository) (u : List ℕ) (m : Moment) (cost : ℕ) (call : RemovePolicy) (x : Object) → addressed r u call.place ≡ Some x
     → after_remove_policy r u m cost call ≡ after_remove_policy_of r u m cost call x

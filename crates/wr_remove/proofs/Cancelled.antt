@@ -47,5 +47,5 @@ pub cancel_is : (r : Repository) (u : List ℕ) (m : Moment) (cost : ℕ) (call 
     → stepped (deleted r m (x.id ∷ [])) cost ≡ after_cancel r u m cost call
 cancel_is r u m cost call x at = sym (ap (λ o. unwrap_or (option_map (after_cancel_of r m cost) o) r) at)
 
-pub cancel_fits : (r : Repository) (u : List ℕ) (cost : ℕ) (call : CancelCheckOut) → refusal_cancel r u cost call ≡ Ok tt → (r.step + 1 < 2 ^ 64) × (r.cost + cost < 2 ^ 64)
-cancel_fits r u cost call h = fits_of r cost (room_of r cost (then_ok (judge_storage r cost) _ h).0)
+pub cancel_fits : (r : Repository) (u : List ℕ) (cost : ℕ) (call : CancelCheckOut) → IsWellFormed r → refusal_cancel r u cost call ≡ Ok tt → (r.step + 1 < 2 ^ 64) × (r.cost + cost < 2 ^ 64)
+cancel_fits r u cost call w h = fits_of r cost w (room_of r cost (then_ok (judge_storage r cost) _ h).0)

@@ -82,5 +82,5 @@ pub delete_is : (r : Repository) (u : List ℕ) (m : Moment) (cost : ℕ) (call 
     → stepped (deleted r m (doomed r call x)) cost ≡ after_delete r u m cost call
 delete_is r u m cost call x at = sym (ap (λ o. unwrap_or (option_map (after_delete_of r m cost call) o) r) at)
 
-pub delete_fits : (r : Repository) (u : List ℕ) (m : Moment) (cost : ℕ) (call : Delete) → refusal_delete r u m cost call ≡ Ok tt → (r.step + 1 < 2 ^ 64) × (r.cost + cost < 2 ^ 64)
-delete_fits r u m cost call h = fits_of r cost (room_of r cost (then_ok (judge_storage r cost) _ h).0)
+pub delete_fits : (r : Repository) (u : List ℕ) (m : Moment) (cost : ℕ) (call : Delete) → IsWellFormed r → refusal_delete r u m cost call ≡ Ok tt → (r.step + 1 < 2 ^ 64) × (r.cost + cost < 2 ^ 64)
+delete_fits r u m cost call w h = fits_of r cost w (room_of r cost (then_ok (judge_storage r cost) _ h).0)

@@ -7,7 +7,7 @@ use Rattle.cm_base.specs.declared.content.Rendition.{Rendition}
 use Rattle.cm_base.specs.declared.log.ChangeKind.TheVariants as changes
 use Rattle.rendition_parts.specs.declared.writes.AddRendition.{AddRendition}
 use Rattle.cm_see.specs.Addressed.{addressed}
-use Rattle.cmis_spec.specs.Repository.{Repository, object_at, most_steps}
+use Rattle.cmis_spec.specs.Repository.{Repository, object_at}
 use Rattle.cmis_spec.specs.Changes.{stepped}
 use Rattle.cmis_spec.specs.Well.{HasNumbers, IsWellFormed}
 use Rattle.cmis_laws.proofs.Passed.{then_ok}
@@ -22,13 +22,8 @@ pub has_room : (r : Repository) (u : List ℕ) (cost : ℕ) (call : AddRendition
 has_room r u cost call h = room_of r cost (then_ok (judge_storage r cost) _ h).0
 
 -- one more step and its cost stay numbers of 64 bits
-pub fits : (r : Repository) (u : List ℕ) (cost : ℕ) (call : AddRendition) → refusal_add_rendition r u cost call ≡ Ok tt → (r.step + 1 < 2 ^ 64) × (r.cost + cost < 2 ^ 64)
-fits r u cost call h = fits_of r cost (has_room r u cost call h)
-
--- and so does the number behind the next one
-pub next_fits : (r : Repository) (u : List ℕ) (cost : ℕ) (call : AddRendition) → IsWellFormed r → refusal_add_rendition r u cost call ≡ Ok tt → r.next + 1 < 2 ^ 64
-unfolding most_steps
-next_fits r u cost call w h = omega (arith, w.bounds.2, (has_room r u cost call h).steps)
+pub fits : (r : Repository) (u : List ℕ) (cost : ℕ) (call : AddRendition) → IsWellFormed r → refusal_add_rendition r u cost call ≡ Ok tt → (r.step + 1 < 2 ^ 64) × (r.cost + cost < 2 ^ 64)
+fits r u cost call w h = fits_of r cost w (has_room r u cost call h)
 
 -- ---- all
 

@@ -54,7 +54,7 @@ rendition_keeps r d w next there room = record {
   kept = w.kept;
   own_values = w.own_values;
   groups = w.groups;
-  bounds = (w.bounds.0, w.bounds.1, omega (arith, room));
+  bounds = (w.bounds.0, w.bounds.1, omega (arith, room), w.bounds.3);
   tokens = w.tokens;
   labels = w.labels;
 }

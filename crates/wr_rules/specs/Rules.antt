@@ -20,7 +20,7 @@ use Rattle.cm_types.specs.Types.{type_in, is_below, is_below_any}
 use Rattle.cm_types.specs.Properties.{value_in, scalars_of, texts_of, given_of, given_texts}
 use Rattle.call_parts.specs.declared.writes.AceRequest.{AceRequest}
 use Rattle.cm_acl.specs.Acl.{level_named, changed_aces}
-use Rattle.cmis_spec.specs.Repository.{Repository, most_steps, most_cost, is_a}
+use Rattle.cmis_spec.specs.Repository.{Repository, is_a}
 use Rattle.cmis_spec.specs.Access.{read_named}
 
 -- ---- limits
@@ -28,8 +28,8 @@ use Rattle.cmis_spec.specs.Access.{read_named}
 -- the steps, and then the bytes
 abbrev pub judge_storage : Repository → ℕ → Judged (Unit {0})
 judge_storage r cost = do
-  refuse (causes.Storage r.step 1 most_steps) (nat_lt most_steps (r.step + 1))
-  refuse (causes.Storage r.cost cost most_cost) (nat_lt most_cost (r.cost + cost))
+  refuse (causes.Storage r.step 1 r.limits.most_steps) (nat_lt r.limits.most_steps (r.step + 1))
+  refuse (causes.Storage r.cost cost r.limits.most_bytes) (nat_lt r.limits.most_bytes (r.cost + cost))
 
 -- ---- change tokens (section 2.2.1.3)
 

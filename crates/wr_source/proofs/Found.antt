@@ -1,13 +1,14 @@
 -- What createDocumentFromSource makes: the room for the document, and the document in the repository after it.
 use Rattle.std.specs.Prelude.{◌≡◌, ℕ, List, Some, Ok}
-use Rattle.std.proofs.Common.{refl, sym, subst, ◌∙◌, arith}
+use Rattle.std.proofs.Common.{refl, sym, subst, ◌∙◌}
 use Rattle.cm_base.specs.declared.number.Moment.{Moment}
 use Rattle.cm_base.specs.declared.object.Object.{Object}
 use Rattle.source_parts.specs.declared.writes.CreateDocumentFromSource.{CreateDocumentFromSource}
-use Rattle.cmis_spec.specs.Repository.{Repository, most_steps, most_cost, object_at}
+use Rattle.cmis_spec.specs.Repository.{Repository, object_at}
 use Rattle.cmis_spec.specs.Access.{read_named}
 use Rattle.cmis_spec.specs.Well.{HasNumbers, IsWellFormed}
 use Rattle.wr_rules.specs.Rules.{policies_in, new_aces}
+use Rattle.wr_rules.proofs.Room.{fits_of, next_fits_of}
 use Rattle.wr_object.proofs.Made.{HasRoom}
 use Rattle.wr_object.proofs.MadeDocument.{new_is_there}
 use Rattle.wr_source.specs.CreateDocumentFromSource.{refusal_of_source, refusal_create_document_from_source, parts_made, after_create_document_from_source}
@@ -24,10 +25,9 @@ passed_by_source r u cost call x found h = subst (λ o. refusal_of_source r u co
 
 -- one more number, step and cost stay numbers of 64 bits
 pub room_for : (r : Repository) (u : List ℕ) (cost : ℕ) (call : CreateDocumentFromSource) → IsWellFormed r → refusal_create_document_from_source r u cost call ≡ Ok tt → HasRoom r cost
-unfolding most_steps most_cost
 room_for r u cost call w h =
-    let p = passes r u cost call h in
-    record { next = omega (arith, w.bounds.2, p.room.steps); step = omega (arith, p.room.steps); paid = omega (arith, p.room.bytes) }
+    let fits = fits_of r cost w (passes r u cost call h).room in
+    record { next = next_fits_of r w; step = fits.0; paid = fits.1 }
 
 -- ---- the new document is found under its number
 

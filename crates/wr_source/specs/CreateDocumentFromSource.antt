@@ -1,5 +1,5 @@
 -- createDocumentFromSource (CMIS 1.1, section 2.2.4.2): when it is refused, what it makes of the repository, and what it answers.
-use Rattle.std.specs.Prelude.{ℕ, ◌+◌, ◌&&◌, ◌||◌, true, not, if◌then◌else◌, List, Option, None, Some, is_some, unwrap_or, option_map, option_and_then}
+use Rattle.std.specs.Prelude.{ℕ, ◌+◌, ◌||◌, true, not, if◌then◌else◌, List, Option, None, Some, is_some, unwrap_or, option_map, option_and_then}
 use Rattle.cm_base.specs.declared.number.Moment.{Moment}
 use Rattle.cm_base.specs.declared.object.Object.{Object}
 use Rattle.cm_base.specs.declared.series.VersioningState.TheVariants as states
@@ -24,7 +24,8 @@ use Rattle.cm_see.specs.Shown.{shown_object}
 use Rattle.cmis_spec.specs.Repository.{Repository, root_folder, new_number, is_a}
 use Rattle.cmis_spec.specs.Access.{read_named}
 use Rattle.cmis_spec.specs.Values.{values_kept}
-use Rattle.wr_rules.specs.Rules.{judge_storage, unknown_type, has_other_secondary, unread_cause, has_other_policy, policies_in, has_unknown_permission, new_aces}
+use Rattle.wr_rules.specs.Rules.{judge_storage, unknown_type, has_other_secondary, unread_cause, has_other_policy, policies_in, has_unknown_permission, new_aces, defaults_cost}
+use Rattle.wr_rules.specs.Wanted.{Wanted, wanted_in}
 use Rattle.wr_rules.specs.Documents.{judge_content, content_of_stream}
 use Rattle.wr_object.specs.CreateDocument.{folder_of, state_of, may_not_make, is_no_folder, is_name_taken, judge_place, own_name, number_of, made_of_parts}
 use Rattle.wr_object.specs.declared.new_document.Allowed.{Allowed}
@@ -33,15 +34,23 @@ use Rattle.wr_source.specs.Templates.{Template, taken_cost, template_of}
 
 -- ---- the cost
 
--- what is copied of a document into a document of a type that is there, with the default values
-abbrev pub source_cost : Repository → List Given → Object → Template → ℕ
-source_cost r given x t = if is_a r bases.Document x && is_some (type_in r.types t.kind) then taken_cost t.defs t.copied given else 0
+-- this counts where the type is there
+abbrev pub counted : List TypeDef → List ℕ → ℕ → ℕ
+counted types kind cost = if is_some (type_in types kind) then cost else 0
 
--- nothing where no source is read
+-- of a document what is copied, with the default values; of another object nothing is copied, and the default values count alone
+abbrev pub source_cost : Repository → List Given → Object → Template → ℕ
+source_cost r given x t = counted r.types t.kind (if is_a r bases.Document x then taken_cost t.defs t.copied given else defaults_cost t.defs given)
+
+-- where no source is read, the default values of the types that are given
+abbrev pub unread_cost : List TypeDef → List Given → Wanted → ℕ
+unread_cost types given wanted = counted types wanted.kind (defaults_cost wanted.defs given)
+
 abbrev pub cost_of_source : Repository → CreateDocumentFromSource → Option Object → ℕ
 cost_of_source r call source =
     bounded (weight_of_create_document_from_source call
-    + unwrap_or (option_map (λ x. source_cost r call.document.properties x (template_of r x call.document)) source) 0)
+    + unwrap_or (option_map (λ x. source_cost r call.document.properties x (template_of r x call.document)) source)
+    (unread_cost r.types call.document.properties (wanted_in r.types call.document.properties)))
 
 abbrev pub cost_create_document_from_source : Repository → List ℕ → CreateDocumentFromSource → ℕ
 cost_create_document_from_source r u call = cost_of_source r call (read_named r u call.source)

@@ -14,7 +14,7 @@ ghost use Rattle.wr_source.specs.Templates.{template_of};
 ghost use Rattle.wr_source.specs.CreateDocumentFromSource.{cost_of_source, cost_create_document_from_source, judge_template, judge_found, refusal_of_source, refusal_create_document_from_source, allowed_in, new_document, new_parts, parts_made, after_create_document_from_source, acknowledgement_create_document_from_source};
 
 use crate::rules::{judge_kinds, judge_name, judge_type};
-use crate::taking::with_source;
+use crate::taking::{with_source, with_unread};
 use crate::template::{Template, template_of};
 use call_parts::replies::ObjectReply;
 use call_parts::versions::CreateDocument;
@@ -43,6 +43,7 @@ use wr_rules::kinds::judge_types;
 use wr_rules::made::with_reply;
 use wr_rules::policies::{judge_read, policies_in};
 use wr_rules::storage::judge_storage;
+use wr_rules::wanted::wanted_by;
 
 // The values of the new document, or the first fault of the given properties.
 fn judge_values(
@@ -143,10 +144,18 @@ fn unread(state: &State, user: &Text, cost: u64, call: &CreateDocument) -> Fail
     }
 }
 
-fn cost_unread(state: &State, call: &CreateDocumentFromSource) -> u64
-    ensures { result ≡ cost_of_source state.now call.now None }
+// The cost where no source is read.
+fn cost_unread(
+    alloc: Global,
+    state: &State,
+    call: &CreateDocumentFromSource,
+) -> Result<u64, AllocError>
+    ensures { IfOk result (λ n. n ≡ cost_of_source state.now call.now None) }
 {
-    weight_of_create_document_from_source(call)
+    let given = call.document.properties.as_slice();
+    let wanted = wanted_by(alloc, state.types(), given)?;
+    let weight = weight_of_create_document_from_source(call);
+    Ok(with_unread(weight, state, given, &wanted))
 }
 
 fn cost_of(state: &State, call: &CreateDocumentFromSource, x: &Object, t: &Template<'_>) -> u64
@@ -264,7 +273,7 @@ fn made_of(
 }
 
 /// Makes a document of another. The cost is the weight of the call, and the scalars that the document takes over from its source or from
-/// default values. The content is shared.
+/// default values; what the caller doesn't read, or is no document, is not copied. The content is shared.
 ///
 /// The answer is the first cause that refuses the call, or the repository after it and the new document as the caller sees it there.
 pub fn create_document_from_source(
@@ -285,6 +294,9 @@ pub fn create_document_from_source(
 {
     match read_named(state, user, &call.source) {
         Some(x) => made_of(alloc, state, user, moment, call, x),
-        None => Err(unread(state, user, cost_unread(state, call), &call.document)),
+        None => {
+            let cost = cost_unread(alloc, state, call)?;
+            Err(unread(state, user, cost, &call.document))
+        }
     }
 }

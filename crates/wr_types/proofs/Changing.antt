@@ -67,8 +67,8 @@ judged r u cost call h =
 has_room : (r : Repository) (u : List ℕ) (cost : ℕ) (call : UpdateType) → refusal_update_type r u cost call ≡ Ok tt → HasRoom r cost
 has_room r u cost call h = room_of r cost (then_ok (judge_storage r cost) _ h).0
 
-pub fits : (r : Repository) (u : List ℕ) (cost : ℕ) (call : UpdateType) → refusal_update_type r u cost call ≡ Ok tt → (r.step + 1 < 2 ^ 64) × (r.cost + cost < 2 ^ 64)
-fits r u cost call h = fits_of r cost (has_room r u cost call h)
+pub fits : (r : Repository) (u : List ℕ) (cost : ℕ) (call : UpdateType) → IsWellFormed r → refusal_update_type r u cost call ≡ Ok tt → (r.step + 1 < 2 ^ 64) × (r.cost + cost < 2 ^ 64)
+fits r u cost call w h = fits_of r cost w (has_room r u cost call h)
 
 -- the same objects are folders
 pub folders_stay : (r : Repository) (u : List ℕ) (cost : ℕ) (call : UpdateType) → IsWellFormed r → refusal_update_type r u cost call ≡ Ok tt → FoldersStay r (placed_type (updated_type r.types call.definition) r.types)

@@ -1,6 +1,6 @@
 -- What checkOut makes: the working copy in its series is the repository after the call, and is well formed.
 use Rattle.std.specs.Prelude.{◌≡◌, ℕ, ◌+◌, ◌<◌, ◌^◌, List, [], Option, Some, None, Ok, is_some, true, find, false, option_map, unwrap_or}
-use Rattle.std.proofs.Common.{refl, sym, ap, subst, ◌∙◌, arith}
+use Rattle.std.proofs.Common.{refl, sym, ap, subst, ◌∙◌}
 use Rattle.std.proofs.lemmas.List.Elements.{All-weaker}
 use Rattle.cm_base.specs.declared.number.Moment.{Moment}
 use Rattle.cm_base.specs.declared.object.Object.{Object}
@@ -9,20 +9,20 @@ use Rattle.cm_base.specs.declared.series.Series.{Series}
 use Rattle.cm_base.specs.declared.log.ChangeKind.TheVariants as changes
 use Rattle.call_parts.specs.declared.versions.CheckOut.{CheckOut}
 use Rattle.cm_see.specs.Addressed.{addressed}
-use Rattle.cmis_spec.specs.Repository.{Repository, same, root_folder, most_steps, most_cost, object_at, series_at, series_of, entry_of, new_number}
+use Rattle.cmis_spec.specs.Repository.{Repository, same, root_folder, object_at, series_at, series_of, entry_of, new_number}
 use Rattle.cmis_spec.specs.Changes.{stepped, noted}
 use Rattle.cmis_spec.specs.Documents.{with_copy, with_contents}
 use Rattle.cmis_spec.specs.Well.{HasNumbers, IsWellFormed}
 use Rattle.cmis_laws.proofs.Lists.{some_eq, find_last, same_refl}
 use Rattle.cmis_laws.proofs.Entries.{is_other}
 use Rattle.wr_rules.proofs.Found.{addressed_there}
+use Rattle.wr_rules.proofs.Room.{fits_of}
 use Rattle.wr_version.specs.CheckOut.{refusal_check_out, new_copy, new_content, after_check_out_of, after_check_out, copy_made}
 use Rattle.wr_version.proofs.CheckOut.{passes, keeps_check_out, IsIn, series_is}
 
 -- one more step and its cost stay numbers of 64 bits
-pub room_for : (r : Repository) (u : List ℕ) (cost : ℕ) (call : CheckOut) → refusal_check_out r u cost call ≡ Ok tt → (r.step + 1 < 2 ^ 64) × (r.cost + cost < 2 ^ 64)
-unfolding most_steps most_cost
-room_for r u cost call h = let p = passes r u cost call h in (omega (arith, p.room.steps), omega (arith, p.room.bytes))
+pub room_for : (r : Repository) (u : List ℕ) (cost : ℕ) (call : CheckOut) → IsWellFormed r → refusal_check_out r u cost call ≡ Ok tt → (r.step + 1 < 2 ^ 64) × (r.cost + cost < 2 ^ 64)
+room_for r u cost call w h = fits_of r cost w (passes r u cost call h).room
 
 -- the document that is addressed is in a series
 pub in_series : (r : Repository) (u : List ℕ) (cost : ℕ) (call : CheckOut) (x : Object) → IsWellFormed r → refusal_check_out r u cost call ≡ Ok tt → addressed r u call.place ≡ Some x → IsIn r x

@@ -11,7 +11,7 @@ use Rattle.cm_base.specs.declared.value.Slot.{Slot}
 use Rattle.cm_base.specs.declared.log.ChangeKind.TheVariants as changes
 use Rattle.call_parts.specs.declared.versions.CheckIn.{CheckIn}
 use Rattle.cm_see.specs.Addressed.{addressed}
-use Rattle.cmis_spec.specs.Repository.{Repository, same, root_folder, most_steps, most_cost, object_at, series_at, series_of, entry_of}
+use Rattle.cmis_spec.specs.Repository.{Repository, same, root_folder, object_at, series_at, series_of, entry_of}
 use Rattle.cmis_spec.specs.Changes.{stepped, noted, edited, edited_series}
 use Rattle.cmis_spec.specs.Documents.{last_label, next_label, checked_in, with_comment, with_version, with_contents}
 use Rattle.cmis_spec.specs.Well.{HasNumbers, HasSeriesNumbers, IsLabel, IsWellFormed}
@@ -21,6 +21,7 @@ use Rattle.cmis_laws.proofs.Begun.{HasLabelsOf}
 use Rattle.cmis_laws.proofs.Passed.{and_then_some}
 use Rattle.wr_rules.specs.Documents.{name_after, secondary_after}
 use Rattle.wr_rules.proofs.Found.{addressed_there}
+use Rattle.wr_rules.proofs.Room.{fits_of}
 use Rattle.wr_version.specs.CheckIn.{refusal_check_in, values_after, new_version, new_label, given_content, after_check_in_of, after_check_in, version_made}
 use Rattle.wr_version.proofs.CheckIn.{passes, last_labelled}
 use Rattle.wr_version.proofs.CheckOut.{IsIn, series_is}
@@ -28,9 +29,8 @@ use Rattle.wr_version.proofs.Copied.{same_objects}
 use Rattle.wr_version.proofs.Making.{series_edits}
 
 -- one more step and its cost stay numbers of 64 bits
-pub room_for : (r : Repository) (u : List ℕ) (cost : ℕ) (call : CheckIn) → refusal_check_in r u cost call ≡ Ok tt → (r.step + 1 < 2 ^ 64) × (r.cost + cost < 2 ^ 64)
-unfolding most_steps most_cost
-room_for r u cost call h = let p = passes r u cost call h in (omega (arith, p.room.steps), omega (arith, p.room.bytes))
+pub room_for : (r : Repository) (u : List ℕ) (cost : ℕ) (call : CheckIn) → IsWellFormed r → refusal_check_in r u cost call ≡ Ok tt → (r.step + 1 < 2 ^ 64) × (r.cost + cost < 2 ^ 64)
+room_for r u cost call w h = fits_of r cost w (passes r u cost call h).room
 
 -- the working copy that is addressed is in a series
 pub in_series : (r : Repository) (u : List ℕ) (cost : ℕ) (call : CheckIn) (x : Object) → IsWellFormed r → refusal_check_in r u cost call ≡ Ok tt → addressed r u call.place ≡ Some x → IsIn r x

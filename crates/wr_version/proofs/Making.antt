@@ -1,16 +1,16 @@
 -- A working copy that is made by the changes of drafts: its series is changed in its place, and its content put in.
 use Rattle.std.specs.Prelude.{◌≡◌, ℕ, ◌+◌, ◌^◌, ◌<◌, if◌then◌else◌, List, [], ◌∷◌, map, All, Option, Some, None}
-use Rattle.std.proofs.Common.{refl, sym, ap, ◌∙◌, arith}
+use Rattle.std.proofs.Common.{refl, sym, ap, ◌∙◌}
 use Rattle.std.proofs.lemmas.List.Elements.{All-head, All-tail, All-weaker}
 use Rattle.cm_base.specs.declared.object.Object.{Object}
 use Rattle.cm_base.specs.declared.content.Content.{Content}
 use Rattle.cm_base.specs.declared.series.Series.{Series}
-use Rattle.cmis_spec.specs.Repository.{Repository, same, most_steps, series_at}
+use Rattle.cmis_spec.specs.Repository.{Repository, same, series_at}
 use Rattle.cm_base.specs.declared.number.Moment.{Moment}
 use Rattle.cm_base.specs.declared.log.ChangeKind.TheVariants as changes
 use Rattle.cmis_spec.specs.Changes.{stepped, noted, edited_series}
 use Rattle.cmis_spec.specs.Documents.{with_member, with_copy, with_contents, checked_out}
-use Rattle.cmis_spec.specs.Well.{HasSeriesNumbers, IsWellFormed}
+use Rattle.cmis_spec.specs.Well.{HasSeriesNumbers}
 use Rattle.cmis_laws.proofs.Lists.{by_test, some_eq, same_eq, all_found}
 
 map_all : {A B : Type 0} (f g : A → B) (xs : List A) → All (λ x. f x ≡ g x) xs → map f xs ≡ map g xs
@@ -43,8 +43,3 @@ pub made_so : (r : Repository) (m : Moment) (cost : ℕ) (s out : Series) (copy 
 made_so r m cost s out copy owner o numbers there e =
     let q = ap (edited_series (with_member r copy)) e ∙ copy_edits r s copy owner numbers there in
     λ i. noted (stepped (with_contents (q i) o) cost) changes.Created copy.id m []
-
--- a number more stays a number of 64 bits, as a step does
-pub next_room : (r : Repository) → IsWellFormed r → r.next + 1 < 2 ^ 64
-unfolding most_steps
-next_room r w = omega (arith, w.bounds.2, w.bounds.0)

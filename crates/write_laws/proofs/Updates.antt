@@ -1,12 +1,12 @@
 -- The update of one object and of several, and changed access lists, keep what is well formed.
-use Rattle.std.specs.Prelude.{◌≡◌, ℕ, true, false, List, [], ◌∷◌, fold, Option, Some, None, IfSome, Ok, Err, option_map, unwrap_or}
+use Rattle.std.specs.Prelude.{◌≡◌, ℕ, true, false, List, [], ◌∷◌, fold, Option, Some, None, IfSome, Ok, Err, option_map, unwrap_or, bytes_eq, codes}
 use Rattle.std.proofs.Common.{refl, sym, ap, subst}
 use Rattle.std.proofs.lemmas.Bool.{both_ways}
 use Rattle.cm_base.specs.declared.number.Moment.{Moment}
 use Rattle.cm_base.specs.declared.number.Oid.{Oid}
 use Rattle.cm_base.specs.declared.object.Object.{Object}
 use Rattle.cm_base.specs.declared.cause.Cause.TheVariants as causes
-use Rattle.cm_base.specs.Judged.{Judged}
+use Rattle.cm_base.specs.Judged.{Judged, refuse}
 use Rattle.access_parts.specs.declared.writes.ApplyAcl.{ApplyAcl}
 use Rattle.bulk_parts.specs.declared.replies.UpdatedObject.{UpdatedObject}
 use Rattle.bulk_parts.specs.declared.writes.BulkUpdate.{BulkUpdate}
@@ -69,8 +69,10 @@ all_keep u m call [] so_far w = w
 all_keep u m call (o ∷ objects) so_far w =
     all_keep u m call objects (with_object u m call so_far o) (with_keeps so_far (changed so_far.0 u m (update_of call o)) w (change_keeps so_far.0 u m (update_of call o) w))
 
-pub keeps_bulk_update : (r : Repository) (u : List ℕ) (m : Moment) (cost : ℕ) (call : BulkUpdate) → IsWellFormed r → refusal_bulk_update r cost ≡ Ok tt → IsWellFormed (after_bulk_update r u m cost call)
-keeps_bulk_update r u m cost call w h = all_keep u m call call.objects (stepped r cost, []) (step_keeps r cost w (room_of r cost h))
+pub keeps_bulk_update : (r : Repository) (u : List ℕ) (m : Moment) (cost : ℕ) (call : BulkUpdate) → IsWellFormed r → refusal_bulk_update r u cost ≡ Ok tt → IsWellFormed (after_bulk_update r u m cost call)
+keeps_bulk_update r u m cost call w h =
+    let s = then_ok (judge_storage r cost) (refuse causes.Denied (bytes_eq u (codes "anonymous"))) h in
+    all_keep u m call call.objects (stepped r cost, []) (step_keeps r cost w (room_of r cost s.0))
 
 -- ---- access lists
 

@@ -4,4 +4,4 @@ use Rattle.cm_base.proofs.Wholes.{whole-push}
 use Rattle.cm_base.proofs.pieces.add.Goals as goal
 
 pub returns : goal.returns
-returns c = ap whole c.in_ok-push.ensures.items ∙ whole-push c.args.list.now.items c.in_ok-clone.field-0 ∙ ap (λ p. whole c.args.list.now.items ++ p) c.in_ok-clone.ensures.cases
+returns c = ap whole c.in_ok-push.ensures.items ∙ whole-push c.args.list.now.items c.in_ok-copied.field-0 ∙ ap (λ p. whole c.args.list.now.items ++ p) c.in_ok-copied.ensures

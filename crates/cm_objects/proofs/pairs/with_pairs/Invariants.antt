@@ -1,7 +1,7 @@
 use Rattle.std.proofs.Common.{◌≡◌, ◌||◌, take}
 use Rattle.cm_base.specs.declared.number.Oid.{Oid}
-use Rattle.cm_map.specs.declared.index_key.IndexKey.{IndexKey}
-use Rattle.cm_map.specs.Pairs.{has_pair}
+use Rattle.cm_objects.specs.declared.index_key.IndexKey.{IndexKey}
+use Rattle.cm_objects.specs.Pairs.{has_pair}
 use Rattle.cm_objects.specs.Indexed.{is_pair_of}
 use Rattle.cm_objects.proofs.pairs.with_pairs.Given as goal
 

@@ -1,5 +1,5 @@
 use Rattle.std.proofs.Common.{rules, ◌≡◌, ◌<◌, ◌&&◌, not, length, get_or, ◌∙◌}
-use Rattle.cm_map.specs.Pairs.{has_pair, same_pair}
+use Rattle.cm_objects.specs.Pairs.{has_pair, same_pair}
 use Rattle.cm_objects.proofs.Indexing.{pair_less}
 use Rattle.cm_objects.proofs.pairs.without_pairs.Goals as goal
 

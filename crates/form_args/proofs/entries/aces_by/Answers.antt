@@ -4,5 +4,5 @@ use Rattle.form_args.proofs.entries.aces_by.Goals as goal
 
 pub loop-i-preserved : goal.loop-i-preserved
 loop-i-preserved c =
-    let next = aces_next c.args.pairs.now c.args.permission c.args.principals.now c.loop-i.i c.index-principals-i.result c.loop-i.aces.items (omega arith) c.loop-i.invariant in
+    let next = aces_next c.args.pairs.now c.args.permission.now c.args.principals.now c.loop-i.i c.index-principals-i.result c.loop-i.aces.items (omega arith) c.loop-i.invariant in
     search rules

@@ -3,8 +3,8 @@ use Rattle.rd_log.specs.ReadChanges.{changes_reply}
 use Rattle.rd_log.proofs.Fronts.{none_before}
 use Rattle.rd_log.proofs.changes.gathered.Goals as goal
 
-pub loop-place-init : goal.loop-place-init
-loop-place-init c =
+pub loop-before-init : goal.loop-before-init
+loop-before-init c =
     let r = c.args.state.now in
     let q = c.args.q.now in
     let low : c.min-first.result ≤ q.token - 1 = omega (arith, c.min-first.ensures, c.saturating_sub.ensures) in

@@ -8,6 +8,6 @@ pub returns-in-Some : goal.returns-in-Some
 returns-in-Some c =
     let r = c.args.state.now in
     let u = c.args.user.now in
-    let place = c.args.place in
-    latest_more r u place c.in-Some.event.now (search rules)
-    ∙ ap (λ b. if b then place + 1 else latest_in r u place) (sym c.is_visible.ensures)
+    let before = c.args.before in
+    latest_more r u before c.in-Some.event.now (search rules)
+    ∙ ap (λ b. if b then before + 1 else latest_in r u before) (sym c.is_visible.ensures)

@@ -1,7 +1,6 @@
 use Rattle.std.proofs.Common.{◌≡◌, ◌∙◌, sym, ap}
-use Rattle.std.specs.Prelude.{ℕ, List, Option, Some, None, not, find, option_map, option_and_then}
+use Rattle.std.specs.Prelude.{ℕ, List, Option, Some, None, not, find, option_map, option_and_then, codes}
 use Rattle.cm_base.specs.declared.object.Object.{Object}
-use Rattle.cm_base.specs.declared.argument.Argument.TheVariants as args
 use Rattle.cm_base.specs.declared.cause.Cause.TheVariants as causes
 use Rattle.cm_base.specs.Judged.{◌>>◌, find_or, refuse}
 use Rattle.cm_types.specs.declared.definition.BaseType.TheVariants as bases
@@ -27,4 +26,4 @@ returns c r u place stream w other v e =
   where
     streams : (x : Object) → IsAlike r other u x → (o : Option (List ℕ)) → stream_of r x o ≡ stream_of other x o
     streams x h None = ap (λ o. find_or causes.NoContent (option_map content_reply o)) (content_alike r other u x h)
-    streams x h (Some id) = ap (λ ds. find_or (causes.BadArgument args.StreamId) (option_map rendition_reply (option_and_then (λ n. find (λ d. same d.id n) ds) (oid_named id)))) (ap (λ o. o.renditions) h.alike)
+    streams x h (Some id) = ap (λ ds. find_or (causes.BadArgument (codes "streamId")) (option_map rendition_reply (option_and_then (λ n. find (λ d. same d.id n) ds) (oid_named id)))) (ap (λ o. o.renditions) h.alike)

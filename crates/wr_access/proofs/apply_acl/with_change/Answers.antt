@@ -13,7 +13,7 @@ relisted-requires c =
     let call = c.args.call.now in
     let x = c.args.x.now in
     let w = c.step-step.ensures.well in
-    let enough = fits r u (cost_apply_acl call) call c.requires.allowed in
+    let enough = fits r u (cost_apply_acl call) call w c.requires.allowed in
     record {
       there = subst (λ n. is_some (find (λ l. same l.at n) r.access) ≡ true) (sym c.entry_of-at.ensures) (list_there r u call x w c.requires.found);
       step = enough.0;

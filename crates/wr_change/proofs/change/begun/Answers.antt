@@ -8,7 +8,7 @@ use Rattle.wr_change.proofs.change.begun.Goals as goal
 
 pub stepped-paid-requires : goal.stepped-paid-requires
 stepped-paid-requires c =
-    let fits = fits_of c.args.state.now c.args.cost (room_of c.args.state.now c.args.cost c.requires.allowed) in
+    let fits = fits_of c.args.state.now c.args.cost c.step-step.ensures.well (room_of c.args.state.now c.args.cost c.requires.allowed) in
     record {
       step = subst (λ (r : Repository). r.step + 1 < 2 ^ 64) (sym c.in_ok-begun.ensures) fits.0;
       cost = subst (λ (r : Repository). r.cost + c.args.cost < 2 ^ 64) (sym c.in_ok-begun.ensures) fits.1;

@@ -7,11 +7,11 @@ use Rattle.wr_content.proofs.AppendContent.{append_passes, fits_word, append_is,
 use Rattle.wr_content.proofs.append_content.with_bytes.Goals as goal
 
 pub changed_by-requires : goal.changed_by-requires
-changed_by-requires c = record { room = (append_passes c.args.state.now c.args.user.now c.args.moment (cost_append_content c.args.call.now) c.args.call.now c.args.x.now c.requires.found c.requires.allowed).step }
+changed_by-requires c = record { room = (append_passes c.args.state.now c.args.user.now c.args.moment (cost_append_content c.args.call.now) c.args.call.now c.args.x.now c.step-step.ensures.well c.requires.found c.requires.allowed).step }
 
 pub content_appended-requires : goal.content_appended-requires
 content_appended-requires c =
-    let p = append_passes c.args.state.now c.args.user.now c.args.moment (cost_append_content c.args.call.now) c.args.call.now c.args.x.now c.requires.found c.requires.allowed in
+    let p = append_passes c.args.state.now c.args.user.now c.args.moment (cost_append_content c.args.call.now) c.args.call.now c.args.x.now c.step-step.ensures.well c.requires.found c.requires.allowed in
     record { room = p.step; fits = fits_word c.args.state.now c.args.call.now c.args.x.now p.others }
 
 pub filled-requires : goal.filled-requires
@@ -20,7 +20,7 @@ filled-requires c =
     let u = c.args.user.now in
     let call = c.args.call.now in
     let w = c.step-step.ensures.well in
-    let p = append_passes r u c.args.moment (cost_append_content call) call c.args.x.now c.requires.found c.requires.allowed in
+    let p = append_passes r u c.args.moment (cost_append_content call) call c.args.x.now c.step-step.ensures.well c.requires.found c.requires.allowed in
     record {
       there = subst (λ n. is_some (object_at r n) ≡ true) (sym (ap (λ y. y.id) c.in_ok-changed.ensures)) (ap is_some (addressed_there r u call.place c.args.x.now w.numbers c.requires.found));
       step = p.step;

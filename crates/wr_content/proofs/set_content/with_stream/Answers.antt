@@ -7,10 +7,10 @@ use Rattle.wr_content.proofs.SetContent.{set_passes, set_is, set_well}
 use Rattle.wr_content.proofs.set_content.with_stream.Goals as goal
 
 pub changed_by-requires : goal.changed_by-requires
-changed_by-requires c = record { room = (set_passes c.args.state.now c.args.user.now c.args.moment (cost_set_content c.args.call.now) c.args.call.now c.args.x.now c.requires.found c.requires.allowed).step }
+changed_by-requires c = record { room = (set_passes c.args.state.now c.args.user.now c.args.moment (cost_set_content c.args.call.now) c.args.call.now c.args.x.now c.step-step.ensures.well c.requires.found c.requires.allowed).step }
 
 pub content_set-requires : goal.content_set-requires
-content_set-requires c = record { room = (set_passes c.args.state.now c.args.user.now c.args.moment (cost_set_content c.args.call.now) c.args.call.now c.args.x.now c.requires.found c.requires.allowed).step }
+content_set-requires c = record { room = (set_passes c.args.state.now c.args.user.now c.args.moment (cost_set_content c.args.call.now) c.args.call.now c.args.x.now c.step-step.ensures.well c.requires.found c.requires.allowed).step }
 
 pub filled-requires : goal.filled-requires
 filled-requires c =
@@ -18,7 +18,7 @@ filled-requires c =
     let u = c.args.user.now in
     let call = c.args.call.now in
     let w = c.step-step.ensures.well in
-    let p = set_passes r u c.args.moment (cost_set_content call) call c.args.x.now c.requires.found c.requires.allowed in
+    let p = set_passes r u c.args.moment (cost_set_content call) call c.args.x.now c.step-step.ensures.well c.requires.found c.requires.allowed in
     record {
       there = subst (λ n. is_some (object_at r n) ≡ true) (sym (ap (λ y. y.id) c.in_ok-changed.ensures)) (ap is_some (addressed_there r u call.place c.args.x.now w.numbers c.requires.found));
       step = p.step;

@@ -11,7 +11,7 @@ deleted-requires c =
     let call = c.args.call.now in
     let cost = cost_delete_tree call in
     let room = room_for r c.args.user.now cost call c.in_ok-x.ensures.0 in
-    let fits = fits_of r cost room in
+    let fits = fits_of r cost c.step-well.ensures.well room in
     record {
       step = fits.0;
       cost = fits.1;

@@ -10,7 +10,7 @@ use Rattle.wr_filing.proofs.add_to_folder.with_addition.Goals.{In_ok-draft}
 
 pub added_to-requires : goal.added_to-requires
 added_to-requires c =
-    let room = room_for c.args.state.now c.args.user.now (cost_add_to_folder c.args.call.now) c.args.call.now c.requires.allowed in
+    let room = room_for c.args.state.now c.args.user.now (cost_add_to_folder c.args.call.now) c.args.call.now c.step-step.ensures.well c.requires.allowed in
     record { step = room.0; cost = subst (λ k. c.args.state.now.cost + k < 2 ^ 64) (sym c.weight_of_add-cost.ensures) room.1 }
 
 is_after : (c : In_ok-draft) → c.in_ok-draft.draft ≡ after_add_to_folder c.args.state.now c.args.user.now c.args.moment (cost_add_to_folder c.args.call.now) c.args.call.now

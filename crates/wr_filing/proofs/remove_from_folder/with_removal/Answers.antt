@@ -7,7 +7,7 @@ use Rattle.wr_filing.proofs.remove_from_folder.with_removal.Goals.{In_ok-draft}
 
 pub removed_by-requires : goal.removed_by-requires
 removed_by-requires c =
-    let room = room_for c.args.state.now c.args.user.now (cost_remove_from_folder c.args.call.now) c.args.call.now c.requires.allowed in
+    let room = room_for c.args.state.now c.args.user.now (cost_remove_from_folder c.args.call.now) c.args.call.now c.step-step.ensures.well c.requires.allowed in
     record { step = room.0; cost = subst (λ k. c.args.state.now.cost + k < 2 ^ 64) (sym c.weight_of_remove-cost.ensures) room.1 }
 
 is_after : (c : In_ok-draft) → c.in_ok-draft.draft ≡ after_remove_from_folder c.args.state.now c.args.user.now c.args.moment (cost_remove_from_folder c.args.call.now) c.args.call.now

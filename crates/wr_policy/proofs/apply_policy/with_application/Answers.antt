@@ -7,7 +7,7 @@ use Rattle.wr_policy.proofs.apply_policy.with_application.Goals.{In_ok-draft}
 
 pub applied_to-requires : goal.applied_to-requires
 applied_to-requires c =
-    let room = room_for c.args.state.now c.args.user.now (cost_apply_policy c.args.call.now) c.args.call.now c.requires.allowed in
+    let room = room_for c.args.state.now c.args.user.now (cost_apply_policy c.args.call.now) c.args.call.now c.step-step.ensures.well c.requires.allowed in
     record { step = room.0; cost = subst (λ k. c.args.state.now.cost + k < 2 ^ 64) (sym c.weight_of_apply_policy-cost.ensures) room.1 }
 
 is_after : (c : In_ok-draft) → c.in_ok-draft.draft ≡ after_apply_policy c.args.state.now c.args.user.now c.args.moment (cost_apply_policy c.args.call.now) c.args.call.now

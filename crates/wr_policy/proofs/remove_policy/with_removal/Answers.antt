@@ -7,7 +7,7 @@ use Rattle.wr_policy.proofs.remove_policy.with_removal.Goals.{In_ok-draft}
 
 pub taken_off-requires : goal.taken_off-requires
 taken_off-requires c =
-    let room = room_for c.args.state.now c.args.user.now (cost_remove_policy c.args.call.now) c.args.call.now c.requires.allowed in
+    let room = room_for c.args.state.now c.args.user.now (cost_remove_policy c.args.call.now) c.args.call.now c.step-step.ensures.well c.requires.allowed in
     record { step = room.0; cost = subst (λ k. c.args.state.now.cost + k < 2 ^ 64) (sym c.weight_of_remove_policy-cost.ensures) room.1 }
 
 is_after : (c : In_ok-draft) → c.in_ok-draft.draft ≡ after_remove_policy c.args.state.now c.args.user.now c.args.moment (cost_remove_policy c.args.call.now) c.args.call.now

@@ -13,7 +13,7 @@ without-requires c =
     let cost = c.args.cost in
     let call = c.args.call.now in
     let ok = c.in_ok-x.ensures.0 in
-    let fits = delete_fits r u m cost call ok in
+    let fits = delete_fits r u m cost call c.step-well.ensures.well ok in
     record {
       step = fits.0;
       cost = fits.1;

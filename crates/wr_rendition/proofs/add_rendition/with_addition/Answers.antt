@@ -1,6 +1,7 @@
 use Rattle.std.proofs.Common.{◌+◌, ◌<◌, ◌^◌, sym, subst, ◌∙◌}
 use Rattle.wr_rendition.specs.AddRendition.{cost_add_rendition}
-use Rattle.wr_rendition.proofs.Added.{fits, next_fits, added_is, added_well, added_above}
+use Rattle.wr_rules.proofs.Room.{next_fits_of}
+use Rattle.wr_rendition.proofs.Added.{fits, added_is, added_well, added_above}
 use Rattle.wr_rendition.proofs.add_rendition.with_addition.Goals as goal
 
 pub added-requires : goal.added-requires
@@ -10,9 +11,9 @@ added-requires c =
     let call = c.args.call.now in
     let x = c.args.x.now in
     let w = c.step-step.ensures.well in
-    let enough = fits r u (cost_add_rendition call) call c.requires.allowed in
+    let enough = fits r u (cost_add_rendition call) call w c.requires.allowed in
     record {
-      room = next_fits r u (cost_add_rendition call) call w c.requires.allowed;
+      room = next_fits_of r w;
       above = added_above r call x c.in_ok-rendition.rendition w c.in_ok-rendition.ensures;
       step = enough.0;
       cost = subst (λ k. r.cost + k < 2 ^ 64) (sym c.weight_of_add_rendition.ensures) enough.1;

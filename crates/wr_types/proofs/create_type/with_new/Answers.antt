@@ -13,7 +13,7 @@ retyped-requires c =
     let call = c.args.call.now in
     let cost = cost_create_type call in
     let w = c.step-step.ensures.well in
-    let enough = fits r u cost call c.requires.allowed in
+    let enough = fits r u cost call w c.requires.allowed in
     record {
       folders = subst (FoldersStay r) (sym c.requires.made) (folders_stay r u cost call w c.requires.allowed);
       step = enough.0;

@@ -8,7 +8,7 @@ use Rattle.wr_version.proofs.Joined.{room_for, version_is, as_changed, version_f
 use Rattle.wr_version.proofs.check_in.check_in.Goals as goal
 
 pub changed_by-requires : goal.changed_by-requires
-changed_by-requires c = record { room = (room_for c.args.state.now c.args.user.now (cost_check_in c.args.call.now) c.args.call.now c.in_ok-x.ensures.0).0 }
+changed_by-requires c = record { room = (room_for c.args.state.now c.args.user.now (cost_check_in c.args.call.now) c.args.call.now c.step-step.ensures.well c.in_ok-x.ensures.0).0 }
 
 pub with_version-requires : goal.with_version-requires
 with_version-requires c = record {

@@ -17,11 +17,11 @@ series_after-requires c =
     let call = c.args.call.now in
     record {
       there = series_some r c.args.x.now (in_series r u (cost_check_in call) call c.args.x.now c.step-step.ensures.well c.requires.allowed c.requires.found);
-      room = (room_for r u (cost_check_in call) call c.requires.allowed).0;
+      room = (room_for r u (cost_check_in call) call c.step-step.ensures.well c.requires.allowed).0;
     }
 
 pub given_content-requires : goal.given_content-requires
-given_content-requires c = record { room = (room_for c.args.state.now c.args.user.now (cost_check_in c.args.call.now) c.args.call.now c.requires.allowed).0 }
+given_content-requires c = record { room = (room_for c.args.state.now c.args.user.now (cost_check_in c.args.call.now) c.args.call.now c.step-step.ensures.well c.requires.allowed).0 }
 
 pub joined_in-requires : goal.joined_in-requires
 joined_in-requires c =
@@ -29,7 +29,7 @@ joined_in-requires c =
     let u = c.args.user.now in
     let call = c.args.call.now in
     let w = c.step-step.ensures.well in
-    let room = room_for r u (cost_check_in call) call c.requires.allowed in
+    let room = room_for r u (cost_check_in call) call w c.requires.allowed in
     let here = in_series r u (cost_check_in call) call c.args.x.now w c.requires.allowed c.requires.found in
     record {
       copy = subst (λ n. is_some (object_at r n) ≡ true) (sym (ap (λ v. v.id) c.requires.version)) (ap is_some (addressed_there r u call.place c.args.x.now w.numbers c.requires.found));

@@ -1,6 +1,6 @@
 use Rattle.std.proofs.Common.{◌≡◌, ◌==◌, ◌||◌, ◌∙◌, not, filter, ap, subst, sym}
 use Rattle.cm_map.specs.Keyed.{Rises}
-use Rattle.cm_map.specs.Pairs.{has_pair}
+use Rattle.cm_objects.specs.Pairs.{has_pair}
 use Rattle.cm_objects.specs.Indexed.{keys_at, is_pair_of, is_keyed}
 use Rattle.cm_objects.proofs.Indexing.{keyed_apart}
 use Rattle.cm_objects.proofs.Sameness.{keys_eq}

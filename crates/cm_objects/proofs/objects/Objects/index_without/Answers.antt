@@ -1,6 +1,6 @@
 use Rattle.std.proofs.Common.{◌&&◌, not, subst, ap, ◌∙◌}
 use Rattle.cm_map.specs.Keyed.{Rises}
-use Rattle.cm_map.specs.Pairs.{has_pair}
+use Rattle.cm_objects.specs.Pairs.{has_pair}
 use Rattle.cm_objects.specs.Indexed.{keys_at, is_pair_of, is_keyed}
 use Rattle.cm_objects.proofs.Indexing.{keyed_without}
 use Rattle.cm_objects.proofs.objects.Objects.index_without.Goals as goal

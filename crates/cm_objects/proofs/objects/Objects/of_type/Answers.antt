@@ -1,8 +1,8 @@
 use Rattle.std.proofs.Common.{map, filter, subst, ap, ◌∙◌}
 use Rattle.cmis_spec.specs.Repository.{is_of_type}
 use Rattle.cm_map.specs.Keyed.{Rises}
-use Rattle.cm_map.specs.declared.index_key.IndexKey.TheVariants as keys
-use Rattle.cm_map.specs.Pairs.{has_pair}
+use Rattle.cm_objects.specs.declared.index_key.IndexKey.TheVariants as keys
+use Rattle.cm_objects.specs.Pairs.{has_pair}
 use Rattle.cm_objects.specs.Indexed.{is_keyed}
 use Rattle.cm_objects.proofs.Ends.{has_type}
 use Rattle.cm_objects.proofs.Indexing.{members_of}

@@ -2,7 +2,7 @@ use Rattle.std.proofs.Common.{map, filter, subst, ap, ◌∙◌}
 use Rattle.std.specs.List.{list_any}
 use Rattle.cmis_spec.specs.Removal.{ends_of, is_id_of}
 use Rattle.cm_map.specs.Keyed.{Rises}
-use Rattle.cm_map.specs.declared.index_key.IndexKey.TheVariants as keys
+use Rattle.cm_objects.specs.declared.index_key.IndexKey.TheVariants as keys
 use Rattle.cm_objects.specs.Indexed.{is_keyed}
 use Rattle.cm_objects.proofs.Ends.{names_end}
 use Rattle.cm_objects.proofs.Indexing.{members_of}

@@ -1,5 +1,5 @@
 use Rattle.std.proofs.Common.{◌||◌, sym, ap, ◌∙◌}
-use Rattle.cm_map.specs.Pairs.{has_pair}
+use Rattle.cm_objects.specs.Pairs.{has_pair}
 use Rattle.cm_objects.specs.Indexed.{keys_of, is_pair_of, is_keyed}
 use Rattle.cm_objects.proofs.Indexing.{keyed_last}
 use Rattle.cm_objects.proofs.objects.Objects.with_last.Goals as goal
