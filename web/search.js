@@ -36,7 +36,10 @@ export async function queryPage(_, asked) {
   return { title: "Query", parts: top, rest: rows };
 }
 
-/** The rows of a query, each column under its alias or display name. The name leads to the object where the row has its id. */
+/**
+ * The rows of a query. A column that stands at its property's id is headed by the display name, each other one by its alias or query name as it was
+ * asked for. The name leads to the object where the row has its id.
+ */
 function resultTable(results) {
   if (!results.length) return null;
   const columns = Object.keys(results[0].properties);
@@ -53,7 +56,7 @@ function resultTable(results) {
     const id = find(row, "cmis:objectId");
     return column === leading && id ? h("a", { href: `#/object/${id}` }, said || id) : said;
   };
-  const head = (column) => (results[0].properties[column].queryName === column ? label(results[0].properties[column]) : column);
+  const head = (column) => (results[0].properties[column].id === column ? label(results[0].properties[column]) : column);
   return table("Rows", inOrder.map(head), results.map((row) => inOrder.map((column) => cell(row, column))));
 }
 

@@ -8,7 +8,13 @@ use run_status::refuse;
 use std::alloc::{AllocError, Global};
 use std::io::ErrorKind;
 use std::process::ExitCode;
+use std::rt::Files;
 use std::{env, io};
+use word_files::SystemFiles;
+use word_files::expand::expanded;
+use word_files::files::read_texts;
+use word_files::listed::FileStop;
+use word_files::messages::refuse_files;
 
 /// Why there are no words to run.
 enum Unread {
@@ -40,26 +46,37 @@ fn read_words(alloc: Global, all: io::Result<env::Args>) -> Result<Vec<String>, 
     }
 }
 
+// The words with what the files that they name list.
+fn with_files<R: Files>(rt: &R, alloc: Global, words: &[String]) -> Result<Vec<String>, FileStop> {
+    match read_texts(alloc, &SystemFiles::new(rt), words) {
+        Ok(texts) => expanded(alloc, words, &texts),
+        Err(stop) => Err(stop),
+    }
+}
+
 fn main(rt: HostRuntime) -> ExitCode {
     let alloc = rt.alloc();
     let mut output = StdSink::new(rt.stdout());
     match read_words(alloc, env::args(&rt)) {
-        Ok(words) => {
-            let mut input = StdSource::new(rt.stdin());
-            let mut host = TcpHost::new(&rt);
-            let mut clock = SystemClock::new(&rt);
-            let ran = run(
-                &rt,
-                alloc,
-                &words,
-                &mut input,
-                &mut output,
-                &mut host,
-                &mut clock,
-                &OpenGate,
-            );
-            ExitCode::from(ran.status)
-        }
+        Ok(words) => match with_files(&rt, alloc, &words) {
+            Ok(words) => {
+                let mut input = StdSource::new(rt.stdin());
+                let mut host = TcpHost::new(&rt);
+                let mut clock = SystemClock::new(&rt);
+                let ran = run(
+                    &rt,
+                    alloc,
+                    &words,
+                    &mut input,
+                    &mut output,
+                    &mut host,
+                    &mut clock,
+                    &OpenGate,
+                );
+                ExitCode::from(ran.status)
+            }
+            Err(stop) => ExitCode::from(refuse_files(alloc, &mut output, stop)),
+        },
         Err(Unread::NotText) => ExitCode::from(refuse(&mut output)),
         Err(Unread::Memory) => ExitCode::from(7),
     }
