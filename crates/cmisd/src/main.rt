@@ -22,6 +22,8 @@ enum Unread {
     NotText,
     /// Memory was wanted.
     Memory,
+    /// A file that they name is not taken.
+    Files(FileStop),
 }
 
 // The words behind the program's name.
@@ -54,29 +56,38 @@ fn with_files<R: Files>(rt: &R, alloc: Global, words: &[String]) -> Result<Vec<S
     }
 }
 
+// The program's words, with what the files that they name list.
+fn all_words(rt: &HostRuntime, alloc: Global) -> Result<Vec<String>, Unread> {
+    match read_words(alloc, env::args(rt)) {
+        Ok(words) => match with_files(rt, alloc, &words) {
+            Ok(all) => Ok(all),
+            Err(stop) => Err(Unread::Files(stop)),
+        },
+        Err(unread) => Err(unread),
+    }
+}
+
 fn main(rt: HostRuntime) -> ExitCode {
     let alloc = rt.alloc();
     let mut output = StdSink::new(rt.stdout());
-    match read_words(alloc, env::args(&rt)) {
-        Ok(words) => match with_files(&rt, alloc, &words) {
-            Ok(words) => {
-                let mut input = StdSource::new(rt.stdin());
-                let mut host = TcpHost::new(&rt);
-                let mut clock = SystemClock::new(&rt);
-                let ran = run(
-                    &rt,
-                    alloc,
-                    &words,
-                    &mut input,
-                    &mut output,
-                    &mut host,
-                    &mut clock,
-                    &OpenGate,
-                );
-                ExitCode::from(ran.status)
-            }
-            Err(stop) => ExitCode::from(refuse_files(alloc, &mut output, stop)),
-        },
+    match all_words(&rt, alloc) {
+        Ok(words) => {
+            let mut input = StdSource::new(rt.stdin());
+            let mut host = TcpHost::new(&rt);
+            let mut clock = SystemClock::new(&rt);
+            let ran = run(
+                &rt,
+                alloc,
+                &words,
+                &mut input,
+                &mut output,
+                &mut host,
+                &mut clock,
+                &OpenGate,
+            );
+            ExitCode::from(ran.status)
+        }
+        Err(Unread::Files(stop)) => ExitCode::from(refuse_files(alloc, &mut output, stop)),
         Err(Unread::NotText) => ExitCode::from(refuse(&mut output)),
         Err(Unread::Memory) => ExitCode::from(7),
     }
