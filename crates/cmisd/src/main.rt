@@ -2,6 +2,7 @@
 #![tactic(auto)]
 
 use cmis_app::run;
+use cmis_runs::Ran;
 use outside::OpenGate;
 use real_edge::{StdSink, StdSource, SystemClock, TcpHost};
 use run_status::refuse;
@@ -75,7 +76,7 @@ fn main(rt: HostRuntime) -> ExitCode {
             let mut input = StdSource::new(rt.stdin());
             let mut host = TcpHost::new(&rt);
             let mut clock = SystemClock::new(&rt);
-            let ran = run(
+            let Ran { status, closing: _ } = run(
                 &rt,
                 alloc,
                 &words,
@@ -85,7 +86,7 @@ fn main(rt: HostRuntime) -> ExitCode {
                 &mut clock,
                 &OpenGate,
             );
-            ExitCode::from(ran.status)
+            ExitCode::from(status)
         }
         Err(Unread::Files(stop)) => ExitCode::from(refuse_files(alloc, &mut output, stop)),
         Err(Unread::NotText) => ExitCode::from(refuse(&mut output)),
