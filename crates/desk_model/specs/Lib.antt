@@ -3,3 +3,4 @@ pub mod Halts
 pub mod Clocks
 pub mod Desks
 pub mod Single
+pub mod Keepers

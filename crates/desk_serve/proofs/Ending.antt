@@ -46,8 +46,8 @@ module _ {S C Q L : Type 0} (t : Terms S C Q L) where
   -- what a session was over a history it is over each longer one in which its own entries are the same
   abbrev pub Stands : Type 0
   Stands = (at : Setting S) (after : ℕ) (g h : List (Entry C)) (input : List ℕ) (over : Bool) (output : List ℕ) (times : List Moment) (read_failed write_failed : Bool) (end : End)
-      → Session t.kind at after g input over output times read_failed write_failed end → IsPrefix g h → own 0 at.number h ≡ own 0 at.number g
-      → Session t.kind at after h input over output times read_failed write_failed end
+      (s : Session t.kind at after g input over output times read_failed write_failed end) → IsPrefix g h → own 0 at.number h ≡ own 0 at.number g
+      → (u : Session t.kind at after h input over output times read_failed write_failed end) × (u.turns ≡ s.turns)
 
 module _ {S C Q L : Type 0} (t : Terms S C Q L) (l : LockView S C) (stands : Stands t) where
   serves : (p : PassView S C) (last : History S C) → l.version.journal ≡ [] → IsOf t.kind.next l p → Closes l p last → (x : Ended L) → IsNoted t p x → IsServed t l.version.opening last.journal x
@@ -66,7 +66,8 @@ module _ {S C Q L : Type 0} (t : Terms S C Q L) (l : LockView S C) (stands : Sta
         times = s.times;
         gave = s.gave;
         took = s.took;
-        session = subst (λ (o : S). Session t.kind (setting_of o t.users x) x.after last.journal s.input (t.source x.link).ended s.output s.times (rose (t.source s.from).faults (t.source x.link).faults) (rose (t.sink s.from).faults (t.sink x.link).faults) x.outcome) of_.opening there;
+        session = subst (λ (o : S). Session t.kind (setting_of o t.users x) x.after last.journal s.input (t.source x.link).ended s.output s.times (rose (t.source s.from).faults (t.source x.link).faults) (rose (t.sink s.from).faults (t.sink x.link).faults) x.outcome) of_.opening there.0;
+        kept = s.kept;
       }
 
   covers : (p : PassView S C) (last : History S C) (ended : List (Ended L)) (rest : List ℕ) → l.version.journal ≡ [] → Closes l p last → p.known.own ≡ [] → names p.ended ≡ map number_of ended ++ rest

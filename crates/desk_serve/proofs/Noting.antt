@@ -1,5 +1,5 @@
 -- The calling thread's pass makes others, and takes in those of sessions that are over.
-use Rattle.std.proofs.Common.{◌≡◌, ℕ, suc, ◌<◌, ◌+◌, List, [], ◌∷◌, ◌++◌, length, map, refl, ap, sym, ◌∙◌, subst, arith, append-nil, All, None}
+use Rattle.std.proofs.Common.{◌≡◌, ◌≢◌, ℕ, suc, ◌<◌, ◌+◌, List, [], ◌∷◌, ◌++◌, length, map, refl, ap, sym, ◌∙◌, subst, arith, append-nil, All, None}
 use Rattle.std.proofs.lemmas.List.{length-append, length-map, map-append}
 use Rattle.std.proofs.lemmas.List.Elements.{All-push, All-weaker, All-nil}
 use Rattle.std.specs.List.{count_by}
@@ -11,15 +11,24 @@ use Rattle.desk_model.specs.declared.entry.Entry.{Entry}
 use Rattle.desk_model.specs.Histories.{own}
 use Rattle.desk_lock.specs.Numbers.{names, most_passes}
 use Rattle.desk_lock.specs.Seats.{longer}
-use Rattle.desk_lock.specs.Words.{LockView, PassView, IsOf, Retired, with_one_more, made_by, first_pass}
+use Rattle.desk_lock.specs.Words.{HasFailed, LockView, PassView, IsOf, Retired, with_one_more, made_by, first_pass}
 use Rattle.talk.specs.declared.end.End.{End}
+use Rattle.talk.specs.declared.end.End.TheVariants.{Unkept}
 use Rattle.talk.specs.Session.{Setting, Session}
-use Rattle.talk.specs.Talked.{rose}
+use Rattle.talk.specs.Talked.{rose, IfUnkept}
 use Rattle.desk_serve.specs.declared.ended.Ended.{Ended}
 use Rattle.outside.specs.Hosts.{IsNew}
 use Rattle.desk_serve.specs.Sessions.{Terms, IsGiven, IsServed, setting_of, number_of, is_at, most_links}
 use Rattle.desk_serve.specs.Keeping.{IsHeld, IsNoted, IsFresh, Keeps, Runs, IsOver, without_links, and_at}
 use Rattle.desk_serve.proofs.Lists.{prefix_trans, begin_longer, get_left, get_mid, names_append, count_ended, one_more, none_below}
+
+-- a count that is always 0 doesn't rise
+never_failed : {K : Type 0} → HasFailed {K = K} (λ k. 0) → ⊥
+never_failed f = absurd (let h = f.rose in omega arith)
+
+-- over a keeper whose count is always 0 no session ends for a reply that could not be kept
+pub all_kept : {K : Type 0} (end : End) → IfUnkept end (HasFailed {K = K} (λ k. 0)) → end ≢ Unkept
+all_kept {K = K} end h is = never_failed {K = K} (subst (λ (e : End). IfUnkept e (HasFailed {K = K} (λ k. 0))) is h)
 
 module _ {S C Q L : Type 0} (t : Terms S C Q L) where
   -- what is noted stays so as the pass sees more and takes in more
@@ -56,6 +65,7 @@ module _ {S C Q L : Type 0} (t : Terms S C Q L) (l : LockView S C) where
         session = subst (λ (m : ℕ). Session t.kind (setting_of o t.users x) m r.known.seen said.input (t.source x.link).ended said.output said.times (rose (t.source h.from).faults (t.source x.link).faults) (rose (t.sink h.from).faults (t.sink x.link).faults) x.outcome) (sym after)
             (subst (λ (s : Setting S). Session t.kind s (length r.known.seen) r.known.seen said.input (t.source x.link).ended said.output said.times (rose (t.source h.from).faults (t.source x.link).faults) (rose (t.sink h.from).faults (t.sink x.link).faults) x.outcome)
             (λ i. record { opening = opening i; users = t.users; number = session i; before = sym h.before_is i }) said.session);
+        kept = h.over.kept;
       }
 
   pub noted_one : (p r q : PassView S C) (ended ended' : List (Ended L)) (x : Ended L) (held : ℕ → ℕ) (running spare n : ℕ)

@@ -1,5 +1,5 @@
 -- What the calling thread keeps while it serves.
-use Rattle.std.specs.Prelude.{◌≡◌, ℕ, ◌+◌, ◌==◌, nat_lt, List, [], ◌++◌, length, map, All, Option, Some, None, if◌then◌else◌, cond, Result}
+use Rattle.std.specs.Prelude.{◌≡◌, ◌≢◌, ℕ, ◌+◌, ◌==◌, nat_lt, List, [], ◌++◌, length, map, All, Option, Some, None, if◌then◌else◌, cond, Result}
 use Rattle.std.specs.List.{count_by}
 use mathlib.Core.List.{IsPrefix}
 use mathlib.Core.Option.{some}
@@ -10,6 +10,7 @@ use Rattle.desk_model.specs.Histories.{own}
 use Rattle.desk_lock.specs.Numbers.{IsIn, names}
 use Rattle.desk_lock.specs.Words.{LockView, PassView, IsOf}
 use Rattle.talk.specs.declared.end.End.{End}
+use Rattle.talk.specs.declared.end.End.TheVariants.{Unkept}
 use Rattle.talk.specs.Talked.{Talked}
 use Rattle.outside.specs.Hosts.{HostTold, IsNew}
 use Rattle.desk_serve.specs.declared.ended.Ended.{Ended}
@@ -32,12 +33,13 @@ pub record IsFresh {S C A X : Type 0} (next : S → Entry C → Result (S × A) 
 abbrev pub without_links : {S C Q L : Type 0} → Terms S C Q L → Terms S C Q L
 without_links t = record { kind = t.kind; source = t.source; sink = t.sink; users = t.users; links = None }
 
--- a session is over: its pass was q and is r, its link was from and is link
+-- a session is over: its pass was q and is r, its link was from and is link. It did not end for a reply that could not be kept
 pub record IsOver {S C Q L : Type 0} (t : Terms S C Q L) (l : LockView S C) (q : PassView S C) (from : L) (r : PassView S C) (link : L) (outcome : End) : Type 0 where
   pub is_of : IsOf t.kind.next l r
   pub made : r.made ≡ 0
   pub ended : r.ended ≡ []
-  pub talked : Talked t.kind t.users q.known None (t.source from) (t.sink from) r.known None (t.source link) (t.sink link) outcome
+  pub talked : Talked t.kind t.users q.known None (t.source from) (t.sink from) r.known r.sure None (t.source link) (t.sink link) outcome
+  pub kept : outcome ≢ Unkept
 
 -- a session that is over, and was that of the host's link at this place; its pass had then seen so many entries
 pub record IsHeld {S C Q L : Type 0} (t : Terms S C Q L) (l : LockView S C) (place before : ℕ) (r : PassView S C) (link : L) (outcome : End) : Type 0 where

@@ -1,5 +1,5 @@
 -- Links that were served over one history.
-use Rattle.std.specs.Prelude.{◌≡◌, ◌⊎◌, ℕ, ◌+◌, ◌<◌, ◌≤◌, ◌==◌, nat_lt, Bool, List, drop, length, map, All, Option, Some, None, Result, if◌then◌else◌}
+use Rattle.std.specs.Prelude.{◌≡◌, ◌≢◌, ◌⊎◌, ℕ, ◌+◌, ◌<◌, ◌≤◌, ◌==◌, nat_lt, Bool, List, drop, length, map, All, Option, Some, None, Result, if◌then◌else◌}
 use Rattle.std.specs.List.{count_by}
 use mathlib.Core.Option.{some}
 use lib.ListN.{get_elem?}
@@ -14,6 +14,7 @@ use Rattle.desk_model.specs.declared.entry.Entry.{Entry}
 use Rattle.desk_model.specs.Histories.{History, IsLegal, IsNumbered}
 use Rattle.desk_lock.specs.Numbers.{AreApart, IsIn}
 use Rattle.cm_base.specs.declared.asked.Asked.{Asked}
+use Rattle.talk.specs.declared.end.End.TheVariants.{Unkept}
 use Rattle.talk.specs.Served.{Kind, wire_of}
 use Rattle.talk.specs.Session.{Setting, Session}
 use Rattle.talk.specs.Talked.{rose}
@@ -82,7 +83,7 @@ abbrev pub setting_of : {S L : Type 0} → S → List User → Ended L → Setti
 setting_of opening users x = record { opening = opening; users = users; number = x.number; before = x.before }
 
 -- A link that was served, over the history h: it is the host's at its place, and was new; what it has given since and what it has taken, as far as it tells them,
--- are a session over h, which had seen so much of h at its start and at its end.
+-- are a session over h, which had seen so much of h at its start and at its end. It did not end for a reply that could not be kept.
 pub record IsServed {S C Q L : Type 0} (t : Terms S C Q L) (opening : S) (h : List (Entry C)) (x : Ended L) : Type 0 where
   pub from : L
   pub given : IsGiven t.links x.place from
@@ -94,6 +95,7 @@ pub record IsServed {S C Q L : Type 0} (t : Terms S C Q L) (opening : S) (h : Li
   pub took : Took (t.sink from) (t.sink x.link) output
   pub session : Session t.kind (setting_of opening t.users x) x.after h input (t.source x.link).ended output times
       (rose (t.source from).faults (t.source x.link).faults) (rose (t.sink from).faults (t.sink x.link).faults) x.outcome
+  pub kept : x.outcome ≢ Unkept
 
 -- What is told at the end. One legal history of accepted writes: each entry's session is that of a link, the numbers of these are apart, and each session's serials are 0, 1, 2 and so on.
 -- The links are those at the first places, each once, and each was served over this history.

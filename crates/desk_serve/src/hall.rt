@@ -10,7 +10,7 @@ use crate::running::Running;
 use crate::session::Seat;
 use cm_base::user::Users;
 use desk_lock::{Lock, Pass};
-use desk_model::Machine;
+use desk_model::{Machine, Nowhere};
 use outside::{Clock, Host, Link};
 use std::snapshot::Snapshot;
 use std::sync::Wait;
@@ -29,14 +29,14 @@ pub(crate) struct Row<M: Served, L: Link + Drop, C: Clock> {
 /// What the calling thread keeps: its pass, the sessions that run, and the links that were served.
 #[derive(Drop)]
 pub(crate) struct Hall<M: Served, L: Link + Drop, C: Clock> {
-    pub(crate) pass: Pass<M>,
+    pub(crate) pass: Pass<M, Nowhere>,
     pub(crate) running: Vec<Row<M, L, C>>,
     pub(crate) ended: Vec<Ended<L>>,
 }
 
 /// Takes in the pass of a session that is over, and notes its link.
 pub(crate) fn note<M: Served, H: Host, C: Clock + Drop>(
-    lock: &Lock<M, C>,
+    lock: &Lock<M, C, Nowhere>,
     users: &Users,
     all: &Snapshot<H>,
     hall: &mut Hall<M, H::Link, C>,
@@ -83,7 +83,7 @@ pub(crate) fn note<M: Served, H: Host, C: Clock + Drop>(
 #[tactic(auto, using(crate::proofs::Noting::held_of))]
 fn settle<M: Served, H: Host, C: Clock + Drop, R: Threads>(
     rt: &R,
-    lock: &Lock<M, C>,
+    lock: &Lock<M, C, Nowhere>,
     users: &Users,
     all: &Snapshot<H>,
     hall: &mut Hall<M, H::Link, C>,
@@ -139,7 +139,7 @@ fn find<M: Served, L: Link + Drop, C: Clock, R: Wait>(
 /// Waits for a session to be over, and notes it.
 pub(crate) fn join_one<M: Served, H: Host, C: Clock + Drop, R: Threads + Wait>(
     rt: &R,
-    lock: &Lock<M, C>,
+    lock: &Lock<M, C, Nowhere>,
     users: &Users,
     all: &Snapshot<H>,
     marks: &Marks,
@@ -175,12 +175,12 @@ pub(crate) fn join_one<M: Served, H: Host, C: Clock + Drop, R: Threads + Wait>(
 /// Joins all that run.
 pub(crate) fn join_all<M: Served, H: Host, C: Clock + Drop, R: Threads>(
     rt: &R,
-    lock: &Lock<M, C>,
+    lock: &Lock<M, C, Nowhere>,
     users: &Users,
     all: &Snapshot<H>,
     host: &H,
     hall: &mut Hall<M, H::Link, C>,
-    spare: &Option<Pass<M>>,
+    spare: &Option<Pass<M, Nowhere>>,
     end: &HostEnd,
 )
     requires stopped { IsStopped
@@ -210,12 +210,12 @@ pub(crate) fn join_all<M: Served, H: Host, C: Clock + Drop, R: Threads>(
 
 /// Takes in a pass that got no link.
 pub(crate) fn take_in_spare<M: Served, H: Host, C: Clock + Drop>(
-    lock: &Lock<M, C>,
+    lock: &Lock<M, C, Nowhere>,
     users: &Users,
     all: &Snapshot<H>,
     host: &H,
     hall: &mut Hall<M, H::Link, C>,
-    spare: Option<Pass<M>>,
+    spare: Option<Pass<M, Nowhere>>,
     end: HostEnd,
 )
     requires stopped { IsStopped

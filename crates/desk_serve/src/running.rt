@@ -8,7 +8,7 @@ use crate::session::{Seat, seated};
 use crate::task::{Task, started};
 use cm_base::user::Users;
 use desk_lock::{Lock, Pass};
-use desk_model::Machine;
+use desk_model::{Machine, Nowhere};
 use outside::{Clock, Gate, Link};
 use std::alloc::Global;
 use std::snapshot::Snapshot;
@@ -19,9 +19,9 @@ use talk::Served;
 /// What a session's thread gives back is told by what it began with.
 #[derive(Drop)]
 pub(crate) struct Kept<M: Machine, L, C: Clock> {
-    pub(crate) lock: Snapshot<Lock<M, C>>,
+    pub(crate) lock: Snapshot<Lock<M, C, Nowhere>>,
     pub(crate) users: Snapshot<Users>,
-    pub(crate) pass: Snapshot<Pass<M>>,
+    pub(crate) pass: Snapshot<Pass<M, Nowhere>>,
     pub(crate) link: Snapshot<L>,
 }
 
@@ -85,12 +85,12 @@ pub(crate) fn start<
     scope: &Scope<'s, E>,
     rt: &'s R,
     alloc: Global,
-    lock: &'s Lock<M, C>,
+    lock: &'s Lock<M, C, Nowhere>,
     users: &'s Users,
     gate: &'s G,
     marks: &'s Marks,
     row: usize,
-    pass: Pass<M>,
+    pass: Pass<M, Nowhere>,
     link: L,
 ) -> Result<Running<M, L, C>, Seat<M, L>>
 where

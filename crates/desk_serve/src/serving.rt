@@ -13,7 +13,7 @@ use crate::running::start;
 use cm_base::items::Items;
 use cm_base::user::Users;
 use desk_lock::{Lock, Pass, SplitStop};
-use desk_model::Version;
+use desk_model::{Nowhere, Version};
 use outside::{Clock, Failed, Gate, Host};
 use std::alloc::{AllocError, Global};
 use std::snapshot::Snapshot;
@@ -44,7 +44,7 @@ fn at_once(workers: usize) -> usize
 #[tactic(auto, unfolding(crate::specs::Keeping::most_workers))]
 fn join_down<M: Served, H: Host, C: Clock + Drop, R: Threads + Wait>(
     rt: &R,
-    lock: &Lock<M, C>,
+    lock: &Lock<M, C, Nowhere>,
     users: &Users,
     all: &Snapshot<H>,
     marks: &Marks,
@@ -82,7 +82,7 @@ fn join_down<M: Served, H: Host, C: Clock + Drop, R: Threads + Wait>(
 // Makes room for a note and a session. False: memory was wanted.
 fn make_room<M: Served, H: Host, C: Clock + Drop, R: Threads + Wait>(
     rt: &R,
-    lock: &Lock<M, C>,
+    lock: &Lock<M, C, Nowhere>,
     users: &Users,
     all: &Snapshot<H>,
     marks: &Marks,
@@ -121,12 +121,12 @@ fn make_room<M: Served, H: Host, C: Clock + Drop, R: Threads + Wait>(
 
 // A new pass, for the next link. None: memory was wanted.
 fn new_pass<M: Served, H: Host, C: Clock + Drop>(
-    lock: &Lock<M, C>,
+    lock: &Lock<M, C, Nowhere>,
     users: &Users,
     all: &Snapshot<H>,
     hall: &mut Hall<M, H::Link, C>,
     place: u64,
-) -> Option<Pass<M>>
+) -> Option<Pass<M, Nowhere>>
     requires keeps { Keeps
         (terms M.next M.answer M.number M.call M.user M.least M.closes H.Link.Source.told H.Link.Sink.told users.now
         (H.left all.now.value)) lock.now hall.old.pass hall.old.ended.items
@@ -186,14 +186,14 @@ fn launch<
     scope: &Scope<'s, E>,
     rt: &'s R,
     alloc: Global,
-    lock: &'s Lock<M, C>,
+    lock: &'s Lock<M, C, Nowhere>,
     users: &'s Users,
     gate: &'s G,
     marks: &'s Marks,
     all: &Snapshot<H>,
     hall: &mut Hall<M, H::Link, C>,
     place: u64,
-    pass: Pass<M>,
+    pass: Pass<M, Nowhere>,
     link: H::Link,
 )
 where
@@ -254,7 +254,7 @@ fn take_links<
     scope: &Scope<'s, E>,
     rt: &'s R,
     alloc: Global,
-    lock: &'s Lock<M, C>,
+    lock: &'s Lock<M, C, Nowhere>,
     users: &'s Users,
     gate: &'s G,
     marks: &'s Marks,
@@ -262,7 +262,7 @@ fn take_links<
     host: &mut H,
     all: &Snapshot<H>,
     hall: &mut Hall<M, H::Link, C>,
-) -> (HostEnd, Option<Pass<M>>)
+) -> (HostEnd, Option<Pass<M, Nowhere>>)
 where
     M: Send + Sync,
     M::State: Send + Sync,
@@ -333,7 +333,7 @@ fn work<
     scope: &Scope<'s, E>,
     rt: &'s R,
     alloc: Global,
-    lock: &'s Lock<M, C>,
+    lock: &'s Lock<M, C, Nowhere>,
     users: &'s Users,
     gate: &'s G,
     marks: &'s Marks,
@@ -379,7 +379,7 @@ fn scoped<
 >(
     rt: &R,
     alloc: Global,
-    lock: &Lock<M, C>,
+    lock: &Lock<M, C, Nowhere>,
     users: &Users,
     gate: &G,
     marks: &Marks,
@@ -430,7 +430,7 @@ where
 fn in_scope<M: Served, H: Host, C: Clock + Drop + Send, G: Gate + Sync, R: Threads + Wait + Sync>(
     rt: &R,
     alloc: Global,
-    lock: &Lock<M, C>,
+    lock: &Lock<M, C, Nowhere>,
     users: &Users,
     gate: &G,
     marks: &Marks,
@@ -459,10 +459,10 @@ where
 
 // Closes the lock.
 fn close<M: Served, H: Host, C: Clock + Drop>(
-    lock: Lock<M, C>,
+    lock: Lock<M, C, Nowhere>,
     users: &Users,
     all: &Snapshot<H>,
-    pass: Pass<M>,
+    pass: Pass<M, Nowhere>,
     ended: Vec<Ended<H::Link>>,
     end: HostEnd,
 ) -> Closing<M, H::Link>
@@ -478,7 +478,7 @@ fn close<M: Served, H: Host, C: Clock + Drop>(
     let _ = users;
     let _ = all;
     session_stands::<M>();
-    let (last, _clock) = lock.close(pass);
+    let (last, _clock, _store) = lock.close(pass);
     last.version.lawful();
     Closing {
         last,
@@ -490,10 +490,10 @@ fn close<M: Served, H: Host, C: Clock + Drop>(
 // What the calling thread has at first.
 fn first_hall<M: Served, H: Host, C: Clock + Drop>(
     alloc: Global,
-    lock: &Lock<M, C>,
+    lock: &Lock<M, C, Nowhere>,
     users: &Users,
     all: &Snapshot<H>,
-    pass: Pass<M>,
+    pass: Pass<M, Nowhere>,
 ) -> Hall<M, H::Link, C>
     requires empty { lock.now.version.journal ≡ [] }
     requires first { pass ≡ first_pass lock.now }
@@ -541,7 +541,7 @@ where
 {
     let all = Snapshot::of(&*host);
     let version: Version<M> = Version::opening(alloc, opening)?;
-    let (lock, pass) = Lock::begin(alloc, version, clock)?;
+    let (lock, pass) = Lock::begin(alloc, version, clock, Nowhere, false)?;
     let marks = Marks::new();
     let workers = at_once(workers);
     let mut hall = first_hall(alloc, &lock, users, &all, pass);

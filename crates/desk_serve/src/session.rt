@@ -5,7 +5,7 @@ ghost use Rattle.desk_serve.specs.Keeping.{IsFresh, IsOver};
 
 use cm_base::user::Users;
 use desk_lock::{Lock, LockDesk, Pass};
-use desk_model::Machine;
+use desk_model::{Machine, Nowhere};
 use outside::{Clock, Gate, Link};
 use std::alloc::Global;
 use std::sync::Wait;
@@ -14,26 +14,27 @@ use talk::{End, Served, talk};
 /// What a session gives back.
 #[derive(Drop)]
 pub(crate) struct Seat<M: Machine, L> {
-    pub(crate) pass: Pass<M>,
+    pub(crate) pass: Pass<M, Nowhere>,
     pub(crate) link: L,
     pub(crate) outcome: End,
 }
 
 // Serves a link with this pass to the end of its session, and closes it.
+#[tactic(auto, using(crate::proofs::Noting::all_kept))]
 fn hold<'a, M: Served, L: Link, C: Clock + Drop, G: Gate, R: Wait>(
     rt: &'a R,
     alloc: Global,
-    lock: &'a Lock<M, C>,
+    lock: &'a Lock<M, C, Nowhere>,
     users: &Users,
     gate: &G,
-    pass: &mut Pass<M>,
+    pass: &mut Pass<M, Nowhere>,
     link: &mut L,
 ) -> End
     requires { IsFresh M.next lock.now pass.old }
     ensures { IsOver (terms M.next M.answer M.number M.call M.user M.least M.closes L.Source.told L.Sink.told users.now
         None) lock.now pass.old link.old pass.new link.new result }
 {
-    let mut desk: LockDesk<'a, R, M, C> = LockDesk::new(lock);
+    let mut desk: LockDesk<'a, R, M, C, Nowhere> = LockDesk::new(lock);
     let mut leave = rt;
     lock.takes_back();
     let end = talk(alloc, &mut leave, &mut desk, pass, users, link, gate);
@@ -45,10 +46,10 @@ fn hold<'a, M: Served, L: Link, C: Clock + Drop, G: Gate, R: Wait>(
 pub(crate) fn seated<'a, M: Served, L: Link, C: Clock + Drop, G: Gate, R: Wait>(
     rt: &'a R,
     alloc: Global,
-    lock: &'a Lock<M, C>,
+    lock: &'a Lock<M, C, Nowhere>,
     users: &Users,
     gate: &G,
-    pass: Pass<M>,
+    pass: Pass<M, Nowhere>,
     link: L,
 ) -> Seat<M, L>
     requires { IsFresh M.next lock.now pass }

@@ -9,4 +9,4 @@ pub returns-clause-closed : goal.returns-clause-closed
 returns-clause-closed g c = let t = (terms g.M.Machine.next g.M.Machine.answer g.M.Machine.number g.M.Served.call g.M.Served.user g.M.Served.least g.M.Served.closes g.H.Link.Source.told g.H.Link.Sink.told c.args.users.now (g.H.Host.left c.args.all.now.value)) in let last = c.close-last.result.0 in
     let lawful : IsLegal g.M.Machine.next last.opening last.journal = search rules in
     subst (λ ended. Closed t c.args.lock.version.opening last ended) (sym c.from_vec.ensures)
-    (closed t c.args.lock (c.session_stands.ensures (wire_of g.M.Served.user g.M.Served.least g.M.Served.closes) g.M.Served.call) c.args.pass last c.args.ended.items c.requires c.close-last.ensures lawful)
+    (closed t c.args.lock (c.session_stands.ensures (wire_of g.M.Served.user g.M.Served.least g.M.Served.closes) g.M.Served.call) c.args.pass last c.args.ended.items c.requires c.close-last.ensures.closes lawful)
