@@ -35,12 +35,12 @@ impl<M: Served, L: Link, C: Clock> Promise<Seat<M, L>> for Kept<M, L, C> {
 struct Session<'s, M: Machine, L, C: Clock, G, R> {
     rt: &'s R,
     alloc: Global,
-    lock: &'s Lock<M, C>,
+    lock: &'s Lock<M, C, Nowhere>,
     users: &'s Users,
     gate: &'s G,
     marks: &'s Marks,
     row: usize,
-    pass: Pass<M>,
+    pass: Pass<M, Nowhere>,
     link: L,
 }
 
