@@ -1,4 +1,4 @@
-use Rattle.std.proofs.Common.{rules, ◌<◌, ◌^◌, ◌+◌, [], ◌∷◌, drop, None}
+use Rattle.std.proofs.Common.{rules, arith, ◌≡◌, ◌<◌, ◌^◌, ◌+◌, [], ◌∷◌, length, drop, None}
 use Rattle.std.specs.Arc.{arc_value}
 use Rattle.desk_lock.specs.declared.board.Turn.TheVariants.{HasTurn}
 use Rattle.desk_lock.specs.Numbers.{by}
@@ -21,6 +21,12 @@ leave-requires-in-Err-Refused-clause-out g c = let h = c.open-version.ensures.ha
 
 pub invariant_of-pass-in-Ok-next_of : goal.invariant_of-pass-in-Ok-next_of
 invariant_of-pass-in-Ok-next_of g c = let p = c.pass.inside in let t = arc_value c.open-version.result.version in let n = arc_value c.in-Ok-next_of.next in let o = c.open-version.new.place.me in
+    let own : p.own + 1 ≡ length c.leave-in-Ok-next_of.new.place.me.0.own = (
+    let w = writes g.M.Machine.next g.M.Machine.number c.args.self.now c.args.pass.now p.place.table_id c.leave-in-Ok-next_of.new.place.table_id (arc_value p.began).opening p.place.me c.open-version.new.place.me c.leave-in-Ok-next_of.new.place.me t c.open-version.ensures.had.0 n p.number p.own c.in-Ok.user c.args.user.now c.args.moment c.args.call c.args.least c.number-number.result c.in-Ok-next_of.shown
+    c.pass.view_is c.requires (search rules) c.open-version.ensures.had.1 c.in-Ok-next_of.ensures.lawful (search rules) (search rules) (search rules) c.in-Ok-next_of.ensures.grown.0 (left_so o c.commit-version.new.place.me c.leave-in-Ok-next_of.new.place.me n.journal (by o.0.number (drop o.0.start n.journal)) (HasTurn n.journal (settled_of o.0.turn)) ((0, None) ∷ []) (search rules) (search rules)) (search rules) (search rules) c.if-number-least.false c.in-Ok-next_of.ensures.told in
+    let more : length c.leave-in-Ok-next_of.new.place.me.0.own ≡ length c.args.pass.now.known.own + 1 = w.0.own in
+    let was : p.own ≡ length c.args.pass.now.known.own = search rules in
+    omega arith) in
     (search rules, search rules, search rules, search rules, search rules, search rules, search rules, search rules, search rules, search rules, search rules)
 
 pub overflow_add-pass : goal.overflow_add-pass
