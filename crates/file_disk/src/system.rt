@@ -4,15 +4,16 @@ use crate::reason::Reason;
 use std::fs::{File, OpenOptions, TryLockError};
 use std::io;
 use std::os::fd::AsRawFd;
-use std::os::unix::fs::FileExt;
+use std::os::unix::fs::{FileExt, OpenOptionsExt};
 use std::rt::Files;
 
-// The file of this name, which is made where there is none.
+// The file of this name, which is made where there is none, and then for its owner alone.
 fn opened<R: Files<File = File>>(rt: &R, name: &str) -> io::Result<File> {
     OpenOptions::new()
         .read(true)
         .write(true)
         .create(true)
+        .mode(0o600)
         .open(rt, name)
 }
 
