@@ -52,4 +52,5 @@ pub returns-in-Ok-Write-clause-unkept : goal.returns-in-Ok-Write-clause-unkept
 returns-in-Ok-Write-clause-unkept g c =
     let kind : Kind _ _ _ = record { next = g.D.Kind.Machine.next; answer = g.D.Kind.Machine.answer; number = g.D.Kind.Machine.number; call = g.D.Kind.Served.call; wire = wire_of g.D.Kind.Served.user g.D.Kind.Served.least g.D.Kind.Served.closes } in
     let told = rw c.in-Ok-Write.field-0-is at c.in-Ok-Write.ensures in
-    unkept-asking kind c.args.users.now c.args.request.now c.head-head.result.now _ c.least_of-least.result _ _ _ _ _ c.write_reply_of.result c.head-head.ensures c.in-Ok.ensures told c.least_of-least.ensures c.write_reply_of.ensures.unkept
+    let kept = rw c.in-Ok-Write.field-0-is at c.write_reply_of.ensures.unkept in
+    unkept-asking kind c.args.users.now c.args.request.now c.head-head.result.now _ c.least_of-least.result _ _ _ _ _ c.write_reply_of.result c.head-head.ensures c.in-Ok.ensures told c.least_of-least.ensures kept
