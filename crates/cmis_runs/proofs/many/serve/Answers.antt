@@ -1,9 +1,11 @@
+use denote.Param.Send.{sendable}
 use Rattle.std.proofs.Common.{subst}
 use Rattle.cmis_spec.specs.Repository.{Repository}
 use Rattle.desk_serve.specs.Sessions.{Closed}
 use Rattle.cmis_runs.specs.Kinds.{kind_of}
 use Rattle.cmis_runs.specs.Alike.{RepliesOfSeen}
 use Rattle.cmis_runs.proofs.Moments.{of_first_word}
+use Rattle.share_laws.proofs.Crosses.{State-send, State-sync}
 use Rattle.cmis_runs.proofs.many.serve.Goals as goal
 
 pub returns-in-Ok-clause-served : goal.returns-in-Ok-clause-served
@@ -14,3 +16,9 @@ returns-in-Ok-clause-served g c = record {
       c.in_ok-opening.ensures c.in-Ok.ensures.closed;
   alike = subst (RepliesOfSeen (kind_of g.P.Face.Machine.next g.P.Face.Machine.answer g.P.Face.Machine.number g.P.Face.Served.call g.P.Face.Served.user g.P.Face.Served.least g.P.Face.Served.closes)) c.in_ok-opening.ensures (c.replies_of_seen.ensures c.in_ok-opening.opening c.step-step.ensures.well);
 }
+
+pub serve-requires-send-M-State : goal.serve-requires-send-M-State
+serve-requires-send-M-State g c = search (State-send, sendable) depth 40
+
+pub serve-requires-sync-M-State : goal.serve-requires-sync-M-State
+serve-requires-sync-M-State g c = search (State-sync, sendable) depth 40
