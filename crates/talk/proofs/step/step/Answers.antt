@@ -1,3 +1,4 @@
+use Rattle.talk.specs.Served.{wire_of}
 use Rattle.talk.proofs.Stepping.{step-source, step-request, step-bad, refuses-kept, continues-kept}
 use Rattle.talk.proofs.step.step.Goals as goal
 
@@ -17,4 +18,5 @@ pub returns-in-Ok-Head-clause-failed : goal.returns-in-Ok-Head-clause-failed
 returns-in-Ok-Head-clause-failed g c = continues-kept _ _ _ _ _ c.go_on.ensures.goes
 
 pub returns-in-Err-Bad-clause-failed : goal.returns-in-Err-Bad-clause-failed
-returns-in-Err-Bad-clause-failed g c = refuses-kept _ _ _ _ _ _ c.refuse.ensures.refuses
+returns-in-Err-Bad-clause-failed g c =
+    refuses-kept (wire_of g.D.Kind.Served.user g.D.Kind.Served.least g.D.Kind.Served.closes) _ _ _ _ _ c.refuse.ensures.refuses
