@@ -22,13 +22,16 @@ turns-longer kind at a b g h (t ∷ ts) pre le more q =
 pub session-longer : {S C Q : Type 0} (kind : Kind S C Q) (at : Setting S) (after : ℕ) (g h : List (Entry C)) (input : List ℕ) (over : Bool) (output : List ℕ) (times : List Moment) (read_failed write_failed : Bool) (end : End)
     (s : Session kind at after g input over output times read_failed write_failed end) → IsPrefix g h → own 0 at.number h ≡ own 0 at.number g
     → (t : Session kind at after h input over output times read_failed write_failed end) × (t.turns ≡ s.turns)
-session-longer kind at after g h input over output times read_failed write_failed end s pre same = (record {
-  turns = s.turns;
-  are_requests = s.are_requests;
-  are_turns = turns-longer kind at after after g h s.turns pre s.held (omega arith) s.are_turns;
-  begins = s.begins;
-  held = omega (arith, s.held, prefix-le g h pre);
-  owns = same ∙ s.owns;
-  times_are = s.times_are;
-  ends = s.ends;
-}, refl)
+session-longer kind at after g h input over output times read_failed write_failed end s pre same = (
+  record {
+    turns = s.turns;
+    are_requests = s.are_requests;
+    are_turns = turns-longer kind at after after g h s.turns pre s.held (omega arith) s.are_turns;
+    begins = s.begins;
+    held = omega (arith, s.held, prefix-le g h pre);
+    owns = same ∙ s.owns;
+    times_are = s.times_are;
+    ends = s.ends;
+  },
+  refl,
+)
