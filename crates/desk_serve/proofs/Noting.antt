@@ -27,8 +27,8 @@ never_failed : {K : Type 0} → HasFailed {K = K} (λ k. 0) → ⊥
 never_failed f = absurd (let h = f.rose in omega arith)
 
 -- over a keeper whose count is always 0 no session ends for a reply that could not be kept
-pub all_kept : {K : Type 0} (end : End) → IfUnkept end (HasFailed {K = K} (λ k. 0)) → end ≢ Unkept
-all_kept {K = K} end h is = never_failed {K = K} (subst (λ (e : End). IfUnkept e (HasFailed {K = K} (λ k. 0))) is h)
+pub all_kept : (K : Type 0) (end : End) → IfUnkept end (HasFailed {K = K} (λ k. 0)) → end ≢ Unkept
+all_kept K end h is = never_failed {K = K} (subst (λ (e : End). IfUnkept e (HasFailed {K = K} (λ k. 0))) is h)
 
 module _ {S C Q L : Type 0} (t : Terms S C Q L) where
   -- what is noted stays so as the pass sees more and takes in more
