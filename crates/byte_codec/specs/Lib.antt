@@ -1,0 +1,9 @@
+pub mod Codecs
+pub mod Standings
+pub mod Parts
+pub mod Numbers
+pub mod Base
+pub mod Runs
+pub mod Choices
+pub mod Marks
+pub mod Payloads

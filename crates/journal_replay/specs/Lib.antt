@@ -1,0 +1,4 @@
+pub mod Shifting
+pub mod Recorded
+pub mod Replayed
+pub mod Starts
