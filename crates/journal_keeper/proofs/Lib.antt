@@ -1,3 +1,2 @@
 mod StandLaws
 mod Codes
-mod Counts

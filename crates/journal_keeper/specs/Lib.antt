@@ -1,4 +1,3 @@
 pub mod Recorded
 pub mod Standing
 pub mod Stores
-pub mod Puts

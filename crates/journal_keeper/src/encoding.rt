@@ -1,8 +1,8 @@
 //! Entries as payloads.
-ghost use Rattle.std.specs.Prelude.{◌≤◌, length, IfOk};
+ghost use Rattle.std.specs.Prelude.{◌≡◌, ◌≢◌, ◌≤◌, drop, length, IfOk, IfErr};
 ghost use Rattle.byte_codec.specs.Payloads.{Encodes};
-ghost use Rattle.journal_keeper.specs.Recorded.{shifted};
-ghost use Rattle.journal_keeper.specs.Puts.{AreEncoded};
+ghost use Rattle.journal_keeper.specs.declared.lost.Lost.TheVariants.{Disk};
+ghost use Rattle.journal_keeper.specs.Recorded.{shifted, payloads, HaveCodes};
 
 use crate::entry_code::EntryCode;
 use crate::lost::Lost;
@@ -17,7 +17,8 @@ fn payload_of<C, F: EntryCode<C>>(
     offset: u32,
     entry: &Entry<C>,
 ) -> Result<Bytes, Lost>
-    ensures { IfOk result (λ bytes. Encodes F.codec (shifted offset entry.now) bytes) }
+    ensures bytes { IfOk result (λ bytes. Encodes F.codec (shifted offset entry.now) bytes) }
+    ensures lost { IfErr result (λ lost. lost ≢ Disk) }
 {
     let Some(session) = entry.session.checked_add(offset) else {
         return Err(Lost::Session);
@@ -35,12 +36,14 @@ pub(crate) fn payloads_from<M: Machine, F: EntryCode<M::Call>>(
     from: u64,
 ) -> Result<Payloads, Lost>
     requires { from ≤ length version.now.journal }
-    ensures { IfOk result (λ all. AreEncoded F.codec offset from version.now.journal all) }
+    ensures payloads { IfOk result (λ all. all ≡ payloads F.codec offset (drop from version.now.journal)) }
+    ensures have_codes { IfOk result (λ _. HaveCodes F.codec offset (drop from version.now.journal)) }
+    ensures lost { IfErr result (λ lost. lost ≢ Disk) }
 {
     let mut all = Payloads::new(alloc);
     let _len = version.len();
     let mut place = from;
-    while let Some(entry) = version.entry(place) {
+    'places: while let Some(entry) = version.entry(place) {
         all.push(payload_of::<M::Call, F>(alloc, offset, entry)?)?;
         place += 1;
     }

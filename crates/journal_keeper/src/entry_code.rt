@@ -1,9 +1,9 @@
 //! The encoding of entries.
 ghost use Rattle.std.specs.Prelude.{IfOk};
-ghost use Rattle.byte_codec.specs.Payloads.{Encodes, Decoded};
+ghost use Rattle.byte_codec.specs.Payloads.{Encodes};
 ghost use Rattle.journal_keeper.specs.Recorded.{by_session};
 
-use byte_codec::stop::{DecodeStop, EncodeStop};
+use byte_codec::stop::EncodeStop;
 use desk_model::Entry;
 use std::alloc::Global;
 
@@ -18,8 +18,4 @@ pub trait EntryCode<C> {
     /// The bytes of the entry, made by the session of this number.
     fn encode(alloc: Global, session: u32, entry: &Entry<C>) -> Result<Vec<u8>, EncodeStop>
         ensures { IfOk result (λ v. Encodes codec (by_session session entry.now) v.items) };
-
-    /// The entry of these bytes.
-    fn decode(alloc: Global, bytes: &[u8]) -> Result<Entry<C>, DecodeStop>
-        ensures { Decoded codec result bytes.now };
 }

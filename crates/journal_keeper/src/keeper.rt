@@ -1,11 +1,11 @@
 //! A keeper over a journal in a file.
-ghost use Rattle.std.specs.Prelude.{◌≡◌, ◌⊎◌, ◌≤◌, [], IsTrue, ℕ, List, length, take, OnOk, IfErr, IfSome};
+ghost use Rattle.std.specs.Prelude.{◌≡◌, ◌≤◌, [], None, IsTrue, ℕ, List, length, take, OnOk, OnErr, IfErr, IfSome, MatchResult};
 ghost use Rattle.outside.specs.Outside.{Rose, HasCause};
-ghost use Rattle.desk_model.specs.declared.entry.Entry.{Entry};
+ghost use Rattle.disk.specs.Crashes.{LeavesOnly, LeavesSince};
+ghost use Rattle.journal_keeper.specs.declared.lost.Lost.{Lost};
 ghost use Rattle.journal_keeper.specs.declared.lost.Lost.TheVariants.{Disk};
-ghost use Rattle.journal_keeper.specs.Recorded.{payloads};
-ghost use Rattle.journal_keeper.specs.Stores.{StandAt, Stands, disk_of, faults};
-ghost use Rattle.journal_keeper.specs.Puts.{StandsOwing, WhereDisk, OwesFrom};
+ghost use Rattle.journal_keeper.specs.Standing.{StandsForFront};
+ghost use Rattle.journal_keeper.specs.Stores.{Stands, disk_of, faults, IsWhy, WhereDisk, first_lost};
 
 use crate::encoding::payloads_from;
 use crate::entry_code::EntryCode;
@@ -20,17 +20,16 @@ use std::alloc::Global;
 use std::marker::{Model, PhantomData};
 use std::snapshot::Snapshot;
 
-/// A keeper over a journal in a file, where entries stand in the encoding `F` behind the payloads from before. The number of a session
+/// A keeper over a journal in a file, where entries stand in the encoding `F` behind the payloads of before. The number of a session
 /// is greater there, by the keeper's offset, than it is in the run.
 #[derive(Drop)]
 pub struct JournalKeeper<K: Disk, F> {
     store: Store<K>,
     begun: Snapshot<K>,
     offset: u32,
-    // How often it kept nothing though the disk did not fail then.
     unkept: u64,
-    alloc: Global,
     lost: Option<Lost>,
+    alloc: Global,
     codes: PhantomData<F>,
 }
 
@@ -42,21 +41,30 @@ impl<K: Disk, F> Model for JournalKeeper<K, F> {
 
     ghost Value = { KeeperTold K };
 
-    ghost view = { λ k. record { store = k.store; begun = k.begun.value; offset = k.offset; unkept = k.unkept } };
+    ghost view = { λ k. record {
+      store = k.store;
+      begun = k.begun.value;
+      offset = k.offset;
+      unkept = k.unkept;
+      lost = k.lost;
+    } };
 
     ghost invariant = { λ k. ((K.told k.begun.value).faults ≤ (K.told (disk_of k.store)).faults)
         × IfSome k.lost (λ lost. lost ≡ Disk
-        → Rose (K.told k.begun.value).faults (K.told (disk_of k.store)).faults) };
+        → Rose (K.told k.begun.value).faults (K.told (disk_of k.store)).faults)
+        × (K.stands_for (disk_of k.store) ≡ K.stands_for k.begun.value) };
 }
 
 impl<K: Disk, F> JournalKeeper<K, F> {
     /// A keeper that begins with a journal. It has kept nothing yet.
-    pub fn new(alloc: Global, journal: Journal<K>, offset: u32) -> JournalKeeper<K, F>
-        ensures stands { IsTrue K.tells → StandAt K.told result.begun result.store [] }
+    pub fn new<C>(alloc: Global, journal: Journal<K>, offset: u32) -> JournalKeeper<K, F>
+    where
+        F: EntryCode<C>,
+        ensures stands { Stands K.tells K.told F.codec result 0 [] }
         ensures begun { result.begun ≡ journal.disk }
         ensures disk { disk_of result.store ≡ journal.disk }
         ensures offset { result.offset ≡ offset }
-        ensures unkept { result.unkept ≡ 0 }
+        ensures unkept { (result.unkept ≡ 0) × (result.lost ≡ None) }
     {
         journal.lawful();
         let begun = Snapshot::of(journal.disk());
@@ -65,15 +73,16 @@ impl<K: Disk, F> JournalKeeper<K, F> {
             begun,
             offset,
             unkept: 0,
-            alloc,
             lost: None,
+            alloc,
             codes: PhantomData,
         }
     }
 
-    /// Why it kept nothing at last, if it ever did. The disk is the reason only where its count rose since the keeper began.
+    /// Why it first kept nothing, if it ever did. The disk is the reason only where its count rose since the keeper began.
     pub fn lost(&self) -> Option<Lost>
-        ensures { IfSome result (λ lost. lost ≡ Disk
+        ensures is { result ≡ self.now.lost }
+        ensures disk { IfSome result (λ lost. lost ≡ Disk
             → Rose (K.told self.now.begun).faults (K.told (disk_of self.now.store)).faults) }
     {
         self.lost
@@ -81,7 +90,8 @@ impl<K: Disk, F> JournalKeeper<K, F> {
 
     /// What it leaves.
     pub fn into_store(self) -> Store<K>
-        ensures { result ≡ self.store }
+        ensures store { result ≡ self.store }
+        ensures stands_for { K.stands_for (disk_of result) ≡ K.stands_for self.begun }
     {
         self.store
     }
@@ -90,17 +100,22 @@ impl<K: Disk, F> JournalKeeper<K, F> {
     fn put_from<M: Machine>(&mut self, version: &Version<M>, from: u64) -> Result<(), Lost>
     where
         F: EntryCode<M::Call>,
-        requires { from ≤ length version.now.journal }
-        ensures kept { Stands K.tells K.told F.codec self.old (take from version.now.journal)
-            → OnOk result (Stands K.tells K.told F.codec self.new version.now.journal) }
-        ensures owing { Stands K.tells K.told F.codec self.old (take from version.now.journal)
-            → IfErr result (λ lost. WhereDisk lost (OwesFrom K.tells K.told F.codec from self.new version.now.journal)
-            (Stands K.tells K.told F.codec self.new (take from version.now.journal))) }
+        requires within { from ≤ length version.now.journal }
+        ensures any_moment { IsTrue K.tells → (before : List (List ℕ))
+            → LeavesOnly (StandsForFront F.codec self.old.offset before from (take from version.now.journal))
+            (K.told (disk_of self.old.store)).file
+            → LeavesSince (StandsForFront F.codec self.old.offset before from version.now.journal)
+            (K.told (disk_of self.old.store)) (K.told (disk_of self.new.store)) }
+        ensures stands { IsTrue K.tells → (before : List (List ℕ))
+            → LeavesOnly (StandsForFront F.codec self.old.offset before from (take from version.now.journal))
+            (K.told (disk_of self.old.store)).file
+            → OnOk result (LeavesOnly
+            (StandsForFront F.codec self.old.offset before (length version.now.journal) version.now.journal)
+            (K.told (disk_of self.new.store)).file) }
         ensures same { (self.new.begun ≡ self.old.begun) × (self.new.offset ≡ self.old.offset)
-            × (self.new.unkept ≡ self.old.unkept) }
+            × (self.new.unkept ≡ self.old.unkept) × (self.new.lost ≡ self.old.lost) }
         ensures later { (K.told (disk_of self.old.store)).faults ≤ (K.told (disk_of self.new.store)).faults }
-        ensures cause { IfErr result (λ lost. lost ≡ Disk
-            → Rose (K.told (disk_of self.old.store)).faults (K.told (disk_of self.new.store)).faults) }
+        ensures why { IfErr result (IsWhy K.told self.old.store self.new.store) }
     {
         let payloads = payloads_from::<M, F>(self.alloc, self.offset, version, from)?;
         let batch = Batch {
@@ -115,14 +130,17 @@ impl<K: Disk, F> JournalKeeper<K, F> {
         requires { lost ≡ Disk → Rose (K.told self.old.begun).faults (K.told (disk_of self.old.store)).faults }
         ensures same { (self.new.store ≡ self.old.store) × (self.new.begun ≡ self.old.begun)
             × (self.new.offset ≡ self.old.offset) }
-        ensures counted { (lost ≡ Disk) ⊎ Rose self.old.unkept self.new.unkept }
-        ensures later { self.old.unkept ≤ self.new.unkept }
+        ensures counted { WhereDisk lost (self.new.unkept ≡ self.old.unkept) (Rose self.old.unkept self.new.unkept) }
+        ensures lost { self.new.lost ≡ first_lost self.old.lost lost }
     {
         match lost {
             Lost::Disk => {}
             _ => self.unkept = self.unkept.saturating_add(1),
         }
-        self.lost = Some(lost);
+        self.lost = match self.lost {
+            None => Some(lost),
+            Some(first) => Some(first),
+        };
     }
 }
 
@@ -131,7 +149,23 @@ impl<M: Machine, K: Disk + Drop, F: EntryCode<M::Call>> Keeper<M> for JournalKee
 
     ghost faults = { faults K.told };
 
-    fn keep(&mut self, version: &Version<M>, from: u64) -> Result<(), Failed> {
+    fn keep(&mut self, version: &Version<M>, from: u64) -> Result<(), Failed>
+        requires within { from ≤ length version.now.journal }
+        requires before { Stands K.tells K.told F.codec self.old from (take from version.now.journal) }
+        ensures kept { OnOk result (Stands K.tells K.told F.codec self.new (length version.now.journal)
+            version.now.journal) }
+        ensures front { OnErr result (Stands K.tells K.told F.codec self.new from version.now.journal) }
+        ensures cause { HasCause (faults K.told self.old) (faults K.told self.new) result }
+        ensures same { (self.new.begun ≡ self.old.begun) × (self.new.offset ≡ self.old.offset) }
+        ensures any_moment { IsTrue K.tells → (before : List (List ℕ))
+            → LeavesOnly (StandsForFront F.codec self.old.offset before from (take from version.now.journal))
+            (K.told (disk_of self.old.store)).file
+            → LeavesSince (StandsForFront F.codec self.old.offset before from version.now.journal)
+            (K.told (disk_of self.old.store)) (K.told (disk_of self.new.store)) }
+        ensures why { MatchResult result (λ _. self.new.lost ≡ self.old.lost) (λ _. (lost : Lost)
+            × IsWhy K.told self.old.store self.new.store lost
+            × (self.new.lost ≡ first_lost self.old.lost lost)) }
+    {
         match self.put_from::<M>(version, from) {
             Ok(()) => Ok(()),
             Err(lost) => {

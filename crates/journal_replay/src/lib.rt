@@ -1,11 +1,11 @@
 //! Opens a journal in a file by replay: each payload is decoded and judged where it stands, and none is kept in memory.
 #![tactic(auto)]
 
+mod begun;
 mod code;
 mod record;
 mod restarts;
 mod so_far;
-mod start;
 mod start_stop;
 mod unnumbered;
 
@@ -13,6 +13,6 @@ pub use code::JournalCode;
 pub use record::{Record, Root};
 pub use restarts::Restarts;
 pub use so_far::SoFar;
-pub use start::{Begun, start};
+pub use begun::{Begun, start};
 pub use start_stop::StartStop;
 pub use unnumbered::{Unnumbered, legal_lists_join, shifted_is_legal};

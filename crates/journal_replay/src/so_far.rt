@@ -1,6 +1,7 @@
 //! A journal that is being replayed.
-ghost use Rattle.std.specs.Prelude.{◌≡◌, ◌<◌, ◌+◌, ◌^◌, List, [], ◌∷◌, ◌++◌, ℕ, IfOk, IfErr};
-ghost use Rattle.journal_replay.specs.Replayed.{Replays, Replay, reading_of, IsStoppedBy};
+ghost use Rattle.std.specs.Prelude.{◌≡◌, List, [], ◌∷◌, ◌++◌, ℕ, IsOk, IfOk, IfErr};
+ghost use Rattle.journal_replay.specs.Recorded.{with_entry, with_people};
+ghost use Rattle.journal_replay.specs.Replayed.{Replays, reading_of, IsStoppedAtRoot, IsStoppedBehind, IsRefused};
 
 use crate::code::JournalCode;
 use crate::record::Record;
@@ -8,7 +9,7 @@ use crate::restarts::Restarts;
 use crate::start_stop::StartStop;
 use byte_codec::stop::DecodeStop;
 use desk_model::{Entry, Halt, Machine};
-use std::alloc::Global;
+use std::alloc::{AllocError, Global};
 use std::marker::Model;
 
 /// What is known of a journal whose payloads so far were replayed.
@@ -24,7 +25,7 @@ pub struct SoFar<M: Machine, P> {
 }
 
 impl<M: Machine, P> Model for SoFar<M, P> {
-    ghost use Rattle.journal_replay.specs.Replayed.{Replay};
+    ghost use Rattle.journal_replay.specs.Recorded.{Replay};
 
     ghost Value = { Replay M.State P };
 
@@ -38,15 +39,17 @@ pub(crate) fn first<M: Restarts<P>, P: Drop, F: JournalCode<M::Call, P>>(
 ) -> Result<SoFar<M, P>, StartStop>
     ensures replays { IfOk result (Replays (reading_of F.root_codec F.record_codec M.opening M.next M.adopt)
         (bytes.now ∷ [])) }
-    ensures stopped { IfErr result (IsStoppedBy
-        (reading_of F.root_codec F.record_codec M.opening M.next M.adopt) [] bytes.now) }
+    ensures stopped { IfErr result (IsStoppedAtRoot
+        (reading_of F.root_codec F.record_codec M.opening M.next M.adopt) bytes.now) }
 {
     let root = match F::read_root(alloc, bytes) {
         Ok(root) => root,
         Err(DecodeStop::NotAnEntry) => return Err(StartStop::Stopped(0)),
         Err(DecodeStop::Memory) => return Err(StartStop::Memory),
     };
-    let state = M::opening(alloc, &root)?;
+    let Ok(state) = M::opening(alloc, &root) else {
+        return Err(StartStop::Memory);
+    };
     Ok(SoFar {
         state,
         entries: 0,
@@ -56,17 +59,19 @@ pub(crate) fn first<M: Restarts<P>, P: Drop, F: JournalCode<M::Call, P>>(
 }
 
 impl<M: Machine, P: Drop> SoFar<M, P> {
-    // One entry more.
+    // One entry more. More than can be counted are told as want of memory.
     fn with_entry(self, alloc: Global, entry: &Entry<M::Call>) -> Result<SoFar<M, P>, StartStop>
-        requires few { self.entries + 1 < 2 ^ 64 }
+        ensures sound { IfOk result (λ _. IsOk (M.next self.state entry.now)) }
+        ensures went { IfOk result (λ s. s ≡ with_entry M.next self entry.now) }
+        ensures refused { IfErr result (IsRefused (M.next self.state entry.now) self.entries) }
     {
-        if entry.session as u64 > self.entries {
-            return Err(StartStop::Stopped(self.entries));
-        }
+        let Some(entries) = self.entries.checked_add(1) else {
+            return Err(StartStop::Memory);
+        };
         match M::next(alloc, &self.state, entry) {
             Ok((state, _)) => Ok(SoFar {
                 state,
-                entries: self.entries + 1,
+                entries,
                 sessions: self.sessions.max(entry.session as u64 + 1),
                 people: self.people,
             }),
@@ -76,33 +81,42 @@ impl<M: Machine, P: Drop> SoFar<M, P> {
     }
 }
 
+impl<M: Machine, P: Drop> SoFar<M, P> {
+    // With other people from here on.
+    fn with_people(self, alloc: Global, people: P) -> Result<SoFar<M, P>, AllocError>
+    where
+        M: Restarts<P>,
+        ensures { IfOk result (λ s. s ≡ with_people M.adopt self people) }
+    {
+        let state = M::adopt(alloc, &self.state, &people)?;
+        Ok(SoFar {
+            state,
+            entries: self.entries,
+            sessions: self.sessions,
+            people,
+        })
+    }
+}
+
 /// One payload more.
 pub(crate) fn next<M: Restarts<P>, P: Drop, F: JournalCode<M::Call, P>>(
     alloc: Global,
     so_far: SoFar<M, P>,
     bytes: &[u8],
 ) -> Result<SoFar<M, P>, StartStop>
-    requires few { so_far.entries + 1 < 2 ^ 64 }
     ensures replays { (before : List (List ℕ))
         → Replays (reading_of F.root_codec F.record_codec M.opening M.next M.adopt) before so_far
         → IfOk result (Replays (reading_of F.root_codec F.record_codec M.opening M.next M.adopt)
         (before ++ bytes.now ∷ [])) }
-    ensures stopped { (before : List (List ℕ))
-        → Replays (reading_of F.root_codec F.record_codec M.opening M.next M.adopt) before so_far
-        → IfErr result (IsStoppedBy (reading_of F.root_codec F.record_codec M.opening M.next M.adopt) before
-        bytes.now) }
+    ensures stopped { IfErr result (IsStoppedBehind
+        (reading_of F.root_codec F.record_codec M.opening M.next M.adopt) so_far bytes.now) }
 {
     match F::read_record(alloc, bytes) {
         Ok(Record::Written(entry)) => so_far.with_entry(alloc, &entry),
-        Ok(Record::Changed(people)) => {
-            let state = M::adopt(alloc, &so_far.state, &people)?;
-            Ok(SoFar {
-                state,
-                entries: so_far.entries,
-                sessions: so_far.sessions,
-                people,
-            })
-        }
+        Ok(Record::Changed(people)) => match so_far.with_people(alloc, people) {
+            Ok(so_far) => Ok(so_far),
+            Err(_) => Err(StartStop::Memory),
+        },
         Err(DecodeStop::NotAnEntry) => Err(StartStop::Stopped(so_far.entries)),
         Err(DecodeStop::Memory) => Err(StartStop::Memory),
     }

@@ -6,7 +6,7 @@ ghost use Rattle.journal_replay.specs.Shifting.{all_shifted};
 
 use desk_model::Machine;
 
-/// A machine whose step doesn't read who made an entry, nor how many that session had made before.
+/// A machine whose step doesn't read which session made an entry.
 pub trait Unnumbered: Machine {
     ghost use Rattle.journal_replay.specs.Shifting.{IsSameStep};
 
