@@ -1,4 +1,4 @@
-//! A keeper over a journal in a file: each entry stands there as its encoding, behind the payloads from before.
+//! A keeper over a journal in a file: each entry stands there as its encoding, behind the payloads of before.
 #![tactic(auto)]
 
 mod encoding;
@@ -11,6 +11,3 @@ pub use entry_code::EntryCode;
 pub use keeper::JournalKeeper;
 pub use lost::Lost;
 pub use store::Store;
-
-#[cfg(test)]
-mod tests;
