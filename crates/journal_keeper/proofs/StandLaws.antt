@@ -11,7 +11,9 @@ use Rattle.journal_file.specs.Records.{StandsFor, IsBeforeOrAfter, IsClosedAt}
 use Rattle.byte_codec.specs.Codecs.{Codec}
 use Rattle.desk_model.specs.declared.entry.Entry.{Entry}
 use Rattle.journal_keeper.specs.Recorded.{shifted, payloads, HaveCodes}
+use Rattle.journal_keeper.specs.declared.store.Store.{Store}
 use Rattle.journal_keeper.specs.Standing.{StandsForFront, Stand}
+use Rattle.journal_keeper.specs.Stores.{KeeperTold, Stands, disk_of}
 
 -- ---- crashes
 
@@ -199,3 +201,33 @@ module _ {C : Type 0} (codec : Codec (Entry C)) (offset : ℕ) where
         left = only_seen (StandsForFront codec offset ps 0 []) told.file synced front;
         since = started (StandsForFront codec offset ps 0 []) told;
       }
+
+-- ---- keepers
+
+module _ {K C : Type 0} (tells : Bool) (told : K → DiskTold) (codec : Codec (Entry C)) where
+  -- all was put
+  pub keeps : (old new : KeeperTold K) (from : ℕ) (h : List (Entry C)) → Stands tells told codec old from (take from h) → new.begun ≡ old.begun → new.offset ≡ old.offset
+      → (IsTrue tells → (before : List (List ℕ)) → LeavesOnly (StandsForFront codec old.offset before from (take from h)) (told (disk_of old.store)).file
+          → LeavesSince (StandsForFront codec old.offset before from h) (told (disk_of old.store)) (told (disk_of new.store)))
+      → (IsTrue tells → (before : List (List ℕ)) → LeavesOnly (StandsForFront codec old.offset before from (take from h)) (told (disk_of old.store)).file
+          → LeavesOnly (StandsForFront codec old.offset before (length h) h) (told (disk_of new.store)).file)
+      → Stands tells told codec new (length h) h
+  keeps old new from h s b o run after = record {
+    stand = λ t.
+      subst (λ (x : ℕ). Stand codec x (told new.begun) (told (disk_of new.store)) (length h) h) (sym o)
+      (subst (λ (x : K). Stand codec old.offset (told x) (told (disk_of new.store)) (length h) h) (sym b)
+      (stand_kept codec old.offset from h (told old.begun) (told (disk_of old.store)) (told (disk_of new.store)) (s.stand t) (run t) (after t)));
+  }
+
+  -- or not all
+  pub keeps_front : (old new : KeeperTold K) (late : Store K) (from : ℕ) (h : List (Entry C)) → Stands tells told codec old from (take from h) → new.store ≡ late → new.begun ≡ old.begun → new.offset ≡ old.offset
+      → (IsTrue tells → (before : List (List ℕ)) → LeavesOnly (StandsForFront codec old.offset before from (take from h)) (told (disk_of old.store)).file
+          → LeavesSince (StandsForFront codec old.offset before from h) (told (disk_of old.store)) (told (disk_of late)))
+      → Stands tells told codec new from h
+  keeps_front old new late from h s l b o run = record {
+    stand = λ t.
+      subst (λ (x : ℕ). Stand codec x (told new.begun) (told (disk_of new.store)) from h) (sym o)
+      (subst (λ (x : K). Stand codec old.offset (told x) (told (disk_of new.store)) from h) (sym b)
+      (subst (λ (x : Store K). Stand codec old.offset (told old.begun) (told (disk_of x)) from h) (sym l)
+      (stand_front codec old.offset from h (told old.begun) (told (disk_of old.store)) (told (disk_of late)) (s.stand t) (run t))));
+  }

@@ -44,7 +44,8 @@ pub(crate) fn payloads_from<M: Machine, F: EntryCode<M::Call>>(
     let _len = version.len();
     let mut place = from;
     'places: while let Some(entry) = version.entry(place) {
-        all.push(payload_of::<M::Call, F>(alloc, offset, entry)?)?;
+        let payload = payload_of::<M::Call, F>(alloc, offset, entry)?;
+        all.push(payload)?;
         place += 1;
     }
     Ok(all)

@@ -1,5 +1,5 @@
 -- What a journal replays to, record by record: entries, and other people.
-use Rattle.std.specs.Prelude.{ℕ, ◌+◌, List, [], ◌∷◌, Result, IsOk, Unit, max}
+use Rattle.std.specs.Prelude.{ℕ, ◌+◌, List, [], ◌∷◌, Result, IsOk, max}
 use Rattle.desk_model.specs.declared.entry.Entry.{Entry}
 use Rattle.desk_model.specs.Histories.{state_after}
 use Rattle.journal_replay.specs.declared.record.Record.{Record}

@@ -1,5 +1,5 @@
 -- What the payloads of a journal replay to, and where they stop.
-use Rattle.std.specs.Prelude.{◌≡◌, ⊥, Unit, ℕ, List, [], ◌∷◌, Result, IsOk}
+use Rattle.std.specs.Prelude.{◌≡◌, ℕ, List, [], ◌∷◌, Result, IsOk}
 use Rattle.byte_codec.specs.Codecs.{Codec}
 use Rattle.byte_codec.specs.Payloads.{Encodes}
 use Rattle.desk_model.specs.declared.entry.Entry.{Entry}

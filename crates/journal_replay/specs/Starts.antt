@@ -1,5 +1,5 @@
 -- How a run over a journal in a file starts.
-use Rattle.std.specs.Prelude.{◌≡◌, Unit, ℕ, List, [], ◌∷◌, ◌++◌, Result, Ok, Err}
+use Rattle.std.specs.Prelude.{◌≡◌, ℕ, List, [], ◌∷◌, ◌++◌, Result, Ok, Err}
 use Rattle.disk.specs.Disks.{DiskTold}
 use Rattle.journal_file.specs.Told.{JournalTold}
 use Rattle.journal_file.specs.declared.open_stop.OpenStop.{OpenStop}
@@ -13,7 +13,7 @@ use Rattle.journal_replay.specs.Recorded.{Replay}
 use Rattle.journal_replay.specs.Replayed.{Reading, Replays, IsStopped, IsNoRoot}
 
 -- the disk of a journal that was opened, or that was handed back
-abbrev pub disk_started : {K M P : Type 0} → Result (Begun K M P) (StartStop × K) → K
+abbrev pub disk_started : {K R : Type 0} → Result (Begun K R) (StartStop × K) → K
 disk_started (Ok (Empty journal)) = journal.disk
 disk_started (Ok (Replayed journal replay)) = journal.disk
 disk_started (Err x) = x.1
@@ -31,7 +31,7 @@ pub record StandsForReplay {S C P A X : Type 0} (reading : Reading S C P A X) (r
   pub replays : Replays reading payloads replay
 
 -- The file stands for no payloads, or for those of which this is the replay.
-abbrev pub StartsWith : {K S C P A X : Type 0} → Reading S C P A X → Begun K S P → List ℕ → Type 0
+abbrev pub StartsWith : {K S C P A X : Type 0} → Reading S C P A X → Begun K (Replay S P) → List ℕ → Type 0
 StartsWith reading (Empty journal) file = StandsFor [] file
 StartsWith reading (Replayed journal replay) file = StandsForReplay reading replay file
 

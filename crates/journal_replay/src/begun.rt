@@ -11,17 +11,16 @@ use crate::code::JournalCode;
 use crate::restarts::Restarts;
 use crate::so_far::{SoFar, first, next};
 use crate::start_stop::StartStop;
-use desk_model::Machine;
 use disk::Disk;
 use journal_file::{Journal, Next, OpenStop, Opening, as_before};
 use std::alloc::Global;
 
 /// A journal that is open, and what it replays to.
 #[derive(Drop)]
-pub enum Begun<K: Disk, M: Machine, P> {
+pub enum Begun<K: Disk, R> {
     /// It has no payload yet: who goes on puts the first.
     Empty(Journal<K>),
-    Replayed(Journal<K>, SoFar<M, P>),
+    Replayed(Journal<K>, R),
 }
 
 // Why the file isn't read on, behind so many entries.
@@ -40,7 +39,7 @@ fn replay_rest<K: Disk, M: Restarts<P>, P: Drop, F: JournalCode<M::Call, P>>(
     alloc: Global,
     opening: Opening<K>,
     so_far: SoFar<M, P>,
-) -> Result<Begun<K, M, P>, (StartStop, K)>
+) -> Result<Begun<K, SoFar<M, P>>, (StartStop, K)>
     requires { IsTrue K.tells → BeginsWithReplay
         (reading_of F.root_codec F.record_codec M.opening M.next M.adopt) so_far opening.place
         (K.told opening.disk).file.seen }
@@ -78,7 +77,7 @@ fn replay_rest<K: Disk, M: Restarts<P>, P: Drop, F: JournalCode<M::Call, P>>(
 pub fn start<K: Disk, M: Restarts<P>, P: Drop, F: JournalCode<M::Call, P>>(
     alloc: Global,
     disk: K,
-) -> Result<Begun<K, M, P>, (StartStop, K)>
+) -> Result<Begun<K, SoFar<M, P>>, (StartStop, K)>
     ensures starts { IsTrue K.tells → IfOk result (λ begun. StartsWith
         (reading_of F.root_codec F.record_codec M.opening M.next M.adopt) begun (K.told disk).file.seen) }
     ensures seen { IsTrue K.tells → IfOk result (λ begun. StartsWith
@@ -104,7 +103,7 @@ pub fn start<K: Disk, M: Restarts<P>, P: Drop, F: JournalCode<M::Call, P>>(
 fn begun_at<K: Disk, M: Restarts<P>, P: Drop, F: JournalCode<M::Call, P>>(
     alloc: Global,
     opening: Opening<K>,
-) -> Result<Begun<K, M, P>, (StartStop, K)>
+) -> Result<Begun<K, SoFar<M, P>>, (StartStop, K)>
     requires { IsTrue K.tells → BeginsWith [] opening.place (K.told opening.disk).file.seen }
     ensures starts { IsTrue K.tells → IfOk result (λ begun. StartsWith
         (reading_of F.root_codec F.record_codec M.opening M.next M.adopt) begun (K.told opening.disk).file.seen) }

@@ -1,10 +1,10 @@
 //! A journal that is being replayed.
 ghost use Rattle.std.specs.Prelude.{◌≡◌, List, [], ◌∷◌, ◌++◌, ℕ, IsOk, IfOk, IfErr};
 ghost use Rattle.journal_replay.specs.Recorded.{with_entry, with_people};
-ghost use Rattle.journal_replay.specs.Replayed.{Replays, reading_of, IsStoppedAtRoot, IsStoppedBehind, IsRefused};
+ghost use Rattle.journal_replay.specs.Replayed.{Replays, reading_of, at_root, IsStoppedAtRoot, IsStoppedBehind, IsRefused};
 
 use crate::code::JournalCode;
-use crate::record::Record;
+use crate::record::{Record, Root};
 use crate::restarts::Restarts;
 use crate::start_stop::StartStop;
 use byte_codec::stop::DecodeStop;
@@ -32,6 +32,22 @@ impl<M: Machine, P> Model for SoFar<M, P> {
     ghost view = { λ s. record { state = s.state; entries = s.entries; sessions = s.sessions; people = s.people } };
 }
 
+// Behind a root alone.
+fn behind_root<M: Restarts<P>, P: Drop>(
+    alloc: Global,
+    root: Root<P>,
+) -> Result<SoFar<M, P>, AllocError>
+    ensures { IfOk result (λ s. s ≡ at_root M.opening root) }
+{
+    let state = M::opening(alloc, &root)?;
+    Ok(SoFar {
+        state,
+        entries: 0,
+        sessions: 0,
+        people: root.people,
+    })
+}
+
 /// What the first payload tells.
 pub(crate) fn first<M: Restarts<P>, P: Drop, F: JournalCode<M::Call, P>>(
     alloc: Global,
@@ -42,20 +58,14 @@ pub(crate) fn first<M: Restarts<P>, P: Drop, F: JournalCode<M::Call, P>>(
     ensures stopped { IfErr result (IsStoppedAtRoot
         (reading_of F.root_codec F.record_codec M.opening M.next M.adopt) bytes.now) }
 {
-    let root = match F::read_root(alloc, bytes) {
-        Ok(root) => root,
-        Err(DecodeStop::NotAnEntry) => return Err(StartStop::Stopped(0)),
-        Err(DecodeStop::Memory) => return Err(StartStop::Memory),
-    };
-    let Ok(state) = M::opening(alloc, &root) else {
-        return Err(StartStop::Memory);
-    };
-    Ok(SoFar {
-        state,
-        entries: 0,
-        sessions: 0,
-        people: root.people,
-    })
+    match F::read_root(alloc, bytes) {
+        Ok(root) => match behind_root::<M, P>(alloc, root) {
+            Ok(so_far) => Ok(so_far),
+            Err(_) => Err(StartStop::Memory),
+        },
+        Err(DecodeStop::NotAnEntry) => Err(StartStop::Stopped(0)),
+        Err(DecodeStop::Memory) => Err(StartStop::Memory),
+    }
 }
 
 impl<M: Machine, P: Drop> SoFar<M, P> {
@@ -79,9 +89,7 @@ impl<M: Machine, P: Drop> SoFar<M, P> {
             Err(Halt::Memory) => Err(StartStop::Memory),
         }
     }
-}
 
-impl<M: Machine, P: Drop> SoFar<M, P> {
     // With other people from here on.
     fn with_people(self, alloc: Global, people: P) -> Result<SoFar<M, P>, AllocError>
     where
