@@ -1,2 +1,3 @@
 mod StandLaws
 mod Codes
+mod Counts

@@ -1,9 +1,9 @@
 -- What a crash leaves of the file of a keeper's journal, where a batch of entries was put and where it was not.
-use Rattle.std.proofs.Common.{◌≡◌, ◌×◌, inl, inr, ℕ, max, ◌+◌, ◌≤◌, ◌<◌, List, [], ◌∷◌, ◌++◌, length, take, drop, refl, sym, ap, subst, ◌∙◌, arith, append_assoc, append-nil, length-append, IsTrue, Bool}
+use Rattle.std.proofs.Common.{◌≡◌, inl, inr, ℕ, max, ◌+◌, ◌≤◌, ◌<◌, List, [], ◌∷◌, ◌++◌, length, take, drop, refl, sym, ap, subst, ◌∙◌, arith, append_assoc, append-nil, length-append, IsTrue, Bool}
 use Rattle.std.specs.Prelude.{slice_index}
 use Rattle.std.specs.List.{AllByRecursion}
-use mathlib.Core.List.{IsPrefix, take-append-drop, length-take}
-use Rattle.std.proofs.lemmas.List.{ext_get_or, map-append}
+use mathlib.Core.List.{IsPrefix}
+use Rattle.std.proofs.lemmas.List.{ext_get_or, map-append, take-append-drop, length-take}
 use Rattle.disk.specs.Disks.{FileTold, DiskTold}
 use Rattle.disk.specs.Crashes.{MayLeave, IsSynced, LeavesOnly, LeavesSince, moments, farthest, is_within}
 use Rattle.disk.specs.Joining.{started, leaves_weaker, follows_on}

@@ -1,5 +1,5 @@
 -- A keeper over a journal, what stands at it, and why it keeps nothing.
-use Rattle.std.specs.Prelude.{◌≡◌, ◌×◌, ◌+◌, ℕ, Bool, IsTrue, List, Some, None}
+use Rattle.std.specs.Prelude.{◌≡◌, ◌+◌, ℕ, Bool, IsTrue, List, Some, None}
 use Rattle.std.specs.declared.option.Option.{Option}
 use Rattle.outside.specs.Outside.{Rose}
 use Rattle.disk.specs.Disks.{DiskTold}

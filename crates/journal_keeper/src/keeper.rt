@@ -116,6 +116,8 @@ impl<K: Disk, F> JournalKeeper<K, F> {
             × (self.new.unkept ≡ self.old.unkept) × (self.new.lost ≡ self.old.lost) }
         ensures later { (K.told (disk_of self.old.store)).faults ≤ (K.told (disk_of self.new.store)).faults }
         ensures why { IfErr result (IsWhy K.told self.old.store self.new.store) }
+        ensures since { IfErr result (λ lost. lost ≡ Disk
+            → Rose (K.told self.new.begun).faults (K.told (disk_of self.new.store)).faults) }
     {
         let payloads = payloads_from::<M, F>(self.alloc, self.offset, version, from)?;
         let batch = Batch {
@@ -131,6 +133,7 @@ impl<K: Disk, F> JournalKeeper<K, F> {
         ensures same { (self.new.store ≡ self.old.store) × (self.new.begun ≡ self.old.begun)
             × (self.new.offset ≡ self.old.offset) }
         ensures counted { WhereDisk lost (self.new.unkept ≡ self.old.unkept) (Rose self.old.unkept self.new.unkept) }
+        ensures later { self.old.unkept ≤ self.new.unkept }
         ensures lost { self.new.lost ≡ first_lost self.old.lost lost }
     {
         match lost {

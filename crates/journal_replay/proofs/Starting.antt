@@ -1,7 +1,9 @@
 -- What a file stands for, and where it stops, once its payloads were read so far.
-use Rattle.std.proofs.Common.{◌≡◌, ◌⊎◌, inl, inr, ℕ, ◌+◌, ◌≤◌, ◌<◌, List, [], ◌∷◌, ◌++◌, length, refl, sym, ap, subst, ◌∙◌, arith}
-use Rattle.disk.specs.Disks.{DiskTold, IsUnchanged}
+use Rattle.std.proofs.Common.{◌≡◌, ◌⊎◌, inl, inr, ℕ, ◌+◌, ◌≤◌, ◌<◌, List, [], ◌∷◌, ◌++◌, length, Ok, refl, sym, ap, subst, ◌∙◌, arith}
+use Rattle.disk.specs.Disks.{FileTold, DiskTold, IsUnchanged}
 use Rattle.journal_file.specs.Records.{StandsFor, BeginsWith, IsClosedAt, IsDamagedAfter, IsAsBefore}
+use Rattle.journal_file.specs.declared.opening.Next.{Next}
+use Rattle.journal_file.specs.Nexts.{disk_next, GoesOn}
 use Rattle.journal_replay.specs.Recorded.{Replay}
 use Rattle.journal_replay.specs.Replayed.{Reading, Replays, IsStopped, IsStoppedAtRoot, IsStoppedBehind, IsNoRoot, IsNoRecordAt}
 use Rattle.journal_replay.specs.declared.start_stop.StartStop.{StartStop}
@@ -39,3 +41,10 @@ module _ {S C P A X : Type 0} (reading : Reading S C P A X) where
   stops_at_root file payload next Memory more stopped = tt
   stops_at_root file payload next Fault more stopped = absurd stopped
   stops_at_root file payload next (Damaged n) more stopped = absurd stopped
+
+-- what an opening handed out goes on in the file as it is then
+pub read_on : {K E : Type 0} (told : K → DiskTold) (before : List (List ℕ)) (old : DiskTold) (item this : Next K) → GoesOn before old.file.seen item → item ≡ this
+    → IsUnchanged old (told (disk_next {E = E} (Ok item))) → GoesOn before (told (disk_next {E = E} (Ok this))).file.seen this
+read_on {K = K} {E = E} told before old item this on is same =
+    subst (λ (x : Next K). GoesOn before (told (disk_next {E = E} (Ok x))).file.seen x) is
+    (subst (λ (f : FileTold). GoesOn before f.seen item) (sym same.file) on)
