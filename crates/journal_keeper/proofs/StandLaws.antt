@@ -208,26 +208,26 @@ module _ {K C : Type 0} (tells : Bool) (told : K → DiskTold) (codec : Codec (E
   -- all was put
   pub keeps : (old new : KeeperTold K) (from : ℕ) (h : List (Entry C)) → Stands tells told codec old from (take from h) → new.begun ≡ old.begun → new.offset ≡ old.offset
       → (IsTrue tells → (before : List (List ℕ)) → LeavesOnly (StandsForFront codec old.offset before from (take from h)) (told (disk_of old.store)).file
-          → LeavesSince (StandsForFront codec old.offset before from h) (told (disk_of old.store)) (told (disk_of new.store)))
+      → LeavesSince (StandsForFront codec old.offset before from h) (told (disk_of old.store)) (told (disk_of new.store)))
       → (IsTrue tells → (before : List (List ℕ)) → LeavesOnly (StandsForFront codec old.offset before from (take from h)) (told (disk_of old.store)).file
-          → LeavesOnly (StandsForFront codec old.offset before (length h) h) (told (disk_of new.store)).file)
+      → LeavesOnly (StandsForFront codec old.offset before (length h) h) (told (disk_of new.store)).file)
       → Stands tells told codec new (length h) h
   keeps old new from h s b o run after = record {
     stand = λ t.
-      subst (λ (x : ℕ). Stand codec x (told new.begun) (told (disk_of new.store)) (length h) h) (sym o)
-      (subst (λ (x : K). Stand codec old.offset (told x) (told (disk_of new.store)) (length h) h) (sym b)
-      (stand_kept codec old.offset from h (told old.begun) (told (disk_of old.store)) (told (disk_of new.store)) (s.stand t) (run t) (after t)));
+        subst (λ (x : ℕ). Stand codec x (told new.begun) (told (disk_of new.store)) (length h) h) (sym o)
+        (subst (λ (x : K). Stand codec old.offset (told x) (told (disk_of new.store)) (length h) h) (sym b)
+        (stand_kept codec old.offset from h (told old.begun) (told (disk_of old.store)) (told (disk_of new.store)) (s.stand t) (run t) (after t)));
   }
 
   -- or not all
   pub keeps_front : (old new : KeeperTold K) (late : Store K) (from : ℕ) (h : List (Entry C)) → Stands tells told codec old from (take from h) → new.store ≡ late → new.begun ≡ old.begun → new.offset ≡ old.offset
       → (IsTrue tells → (before : List (List ℕ)) → LeavesOnly (StandsForFront codec old.offset before from (take from h)) (told (disk_of old.store)).file
-          → LeavesSince (StandsForFront codec old.offset before from h) (told (disk_of old.store)) (told (disk_of late)))
+      → LeavesSince (StandsForFront codec old.offset before from h) (told (disk_of old.store)) (told (disk_of late)))
       → Stands tells told codec new from h
   keeps_front old new late from h s l b o run = record {
     stand = λ t.
-      subst (λ (x : ℕ). Stand codec x (told new.begun) (told (disk_of new.store)) from h) (sym o)
-      (subst (λ (x : K). Stand codec old.offset (told x) (told (disk_of new.store)) from h) (sym b)
-      (subst (λ (x : Store K). Stand codec old.offset (told old.begun) (told (disk_of x)) from h) (sym l)
-      (stand_front codec old.offset from h (told old.begun) (told (disk_of old.store)) (told (disk_of late)) (s.stand t) (run t))));
+        subst (λ (x : ℕ). Stand codec x (told new.begun) (told (disk_of new.store)) from h) (sym o)
+        (subst (λ (x : K). Stand codec old.offset (told x) (told (disk_of new.store)) from h) (sym b)
+        (subst (λ (x : Store K). Stand codec old.offset (told old.begun) (told (disk_of x)) from h) (sym l)
+        (stand_front codec old.offset from h (told old.begun) (told (disk_of old.store)) (told (disk_of late)) (s.stand t) (run t))));
   }

@@ -9,10 +9,10 @@ mod so_far;
 mod start_stop;
 mod unnumbered;
 
+pub use begun::{Begun, start};
 pub use code::JournalCode;
 pub use record::{Record, Root};
 pub use restarts::Restarts;
 pub use so_far::SoFar;
-pub use begun::{Begun, start};
 pub use start_stop::StartStop;
 pub use unnumbered::{Unnumbered, legal_lists_join, shifted_is_legal};

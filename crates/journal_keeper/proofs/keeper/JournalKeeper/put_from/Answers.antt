@@ -17,10 +17,10 @@ returns-clause-any_moment g c t before only =
     let i = c.self.inside in
     let base = before ++ payloads codec i.offset (take from h) in
     subst (λ (k : KeeperTold g.row.K.Denot). LeavesOnly (StandsForFront codec k.offset before from (take from h)) (told (disk_of k.store)).file
-        → LeavesSince (StandsForFront codec k.offset before from h) (told (disk_of k.store)) (told (disk_of c.replace_with.new.dest))) c.self.view_is
+    → LeavesSince (StandsForFront codec k.offset before from h) (told (disk_of k.store)) (told (disk_of c.replace_with.new.dest))) c.self.view_is
     (λ here. put_leaves codec i.offset before from h c.in_ok-payloads.payloads (told (disk_of i.store)) (told (disk_of c.replace_with.new.dest)) c.requires.within here
-        c.in_ok-payloads.ensures.have_codes c.in_ok-payloads.ensures.payloads
-        (c.replace_with.ensures.0 t base (base_stands codec i.offset before from h (told (disk_of i.store)).file here)))
+    c.in_ok-payloads.ensures.have_codes c.in_ok-payloads.ensures.payloads
+    (c.replace_with.ensures.0 t base (base_stands codec i.offset before from h (told (disk_of i.store)).file here)))
     only
 
 pub returns-clause-stands : goal.returns-clause-stands
@@ -34,8 +34,8 @@ returns-clause-stands g c t before only =
     let base = before ++ payloads codec i.offset (take from h) in
     let late = (told (disk_of c.replace_with.new.dest)).file in
     subst (λ (k : KeeperTold g.row.K.Denot). LeavesOnly (StandsForFront codec k.offset before from (take from h)) (told (disk_of k.store)).file
-        → OnOk c.replace_with.result (LeavesOnly (StandsForFront codec k.offset before (length h) h) late)) c.self.view_is
+    → OnOk c.replace_with.result (LeavesOnly (StandsForFront codec k.offset before (length h) h) late)) c.self.view_is
     (λ here. on_ok (LeavesOnly (StandsFor (base ++ all)) late) (LeavesOnly (StandsForFront codec i.offset before (length h) h) late) c.replace_with.result
-        (put_stands codec i.offset before from h all (told (disk_of i.store)).file late here c.in_ok-payloads.ensures.have_codes c.in_ok-payloads.ensures.payloads)
-        (c.replace_with.ensures.1.0 t base (base_stands codec i.offset before from h (told (disk_of i.store)).file here)))
+    (put_stands codec i.offset before from h all (told (disk_of i.store)).file late here c.in_ok-payloads.ensures.have_codes c.in_ok-payloads.ensures.payloads)
+    (c.replace_with.ensures.1.0 t base (base_stands codec i.offset before from h (told (disk_of i.store)).file here)))
     only
