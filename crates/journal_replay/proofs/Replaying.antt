@@ -1,11 +1,11 @@
 -- A journal that is replayed, one payload more; and why a payload isn't taken.
-use Rattle.std.proofs.Common.{◌≡◌, ℕ, ◌+◌, List, [], ◌∷◌, ◌++◌, Result, Ok, Err, IsOk, IfOk, IfErr, refl, sym, ap, subst, ◌∙◌, max}
+use Rattle.std.proofs.Common.{◌≡◌, ℕ, List, [], ◌∷◌, ◌++◌, Result, Ok, Err, IsOk, IfOk, IfErr, refl, sym, ap, subst, ◌∙◌}
 use Rattle.byte_codec.specs.Codecs.{Codec}
 use Rattle.byte_codec.specs.Payloads.{Encodes}
 use Rattle.byte_codec.proofs.PayloadLaws.{one_value}
 use Rattle.desk_model.specs.declared.entry.Entry.{Entry}
 use Rattle.journal_replay.specs.declared.record.Record.{Record}
-use Rattle.journal_replay.specs.declared.record.Record.TheVariants.{Written, Changed}
+use Rattle.journal_replay.specs.declared.record.Record.TheVariants.{Written}
 use Rattle.journal_replay.specs.declared.record.Root.{Root}
 use Rattle.journal_replay.specs.declared.start_stop.StartStop.{StartStop}
 use Rattle.journal_replay.specs.declared.start_stop.StartStop.TheVariants.{Fault, Damaged, Stopped, Memory}

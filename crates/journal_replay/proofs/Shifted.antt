@@ -1,5 +1,5 @@
 -- Lists of entries with more in the numbers of their sessions.
-use Rattle.std.proofs.Common.{◌≡◌, ℕ, ◌+◌, List, [], ◌∷◌, Result, IsOk, refl, sym, ap, subst}
+use Rattle.std.proofs.Common.{◌≡◌, ℕ, ◌+◌, List, [], ◌∷◌, Result, IsOk, refl, sym, subst}
 use Rattle.desk_model.specs.declared.entry.Entry.{Entry}
 use Rattle.desk_model.specs.Histories.{state_after, replay, IsLegal}
 use Rattle.journal_replay.specs.Shifting.{IsSameStep, all_shifted}

@@ -1,5 +1,5 @@
 -- What a file stands for, and where it stops, once its payloads were read so far.
-use Rattle.std.proofs.Common.{◌≡◌, inr, ℕ, ◌+◌, List, [], ◌∷◌, ◌++◌, length, Result, Ok, refl, sym, ap, subst, ◌∙◌, arith}
+use Rattle.std.proofs.Common.{◌≡◌, inr, ℕ, List, [], ◌∷◌, ◌++◌, length, Ok, refl, sym, ap, subst, ◌∙◌, arith}
 use Rattle.disk.specs.Disks.{FileTold, DiskTold, IsUnchanged}
 use Rattle.journal_file.specs.Records.{StandsFor, BeginsWith, IsClosedAt, IsDamagedAfter}
 use Rattle.journal_file.specs.declared.opening.Next.{Next}

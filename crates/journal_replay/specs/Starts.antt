@@ -1,7 +1,5 @@
 -- How a run over a journal in a file starts.
 use Rattle.std.specs.Prelude.{◌≡◌, ℕ, List, [], ◌∷◌, ◌++◌, Result, Ok, Err}
-use Rattle.disk.specs.Disks.{DiskTold}
-use Rattle.journal_file.specs.Told.{JournalTold}
 use Rattle.journal_file.specs.declared.open_stop.OpenStop.{OpenStop}
 use Rattle.journal_file.specs.declared.open_stop.OpenStop.TheVariants as openings
 use Rattle.journal_file.specs.Records.{StandsFor, BeginsWith, IsDamagedAfter}

@@ -1,6 +1,6 @@
-use Rattle.std.proofs.Common.{◌≡◌, List, ℕ, [], ◌∷◌, ◌++◌, subst}
+use Rattle.std.proofs.Common.{List, ℕ, [], ◌∷◌, subst}
 use Rattle.journal_file.specs.declared.opening.Next.{Next}
-use Rattle.journal_file.specs.declared.opening.Next.TheVariants.{Payload, End}
+use Rattle.journal_file.specs.declared.opening.Next.TheVariants.{Payload}
 use Rattle.journal_file.specs.declared.open_stop.OpenStop.{OpenStop}
 use Rattle.journal_file.specs.Nexts.{GoesOn}
 use Rattle.journal_replay.specs.Replayed.{reading_of, Replays}

@@ -1,4 +1,4 @@
-use Rattle.std.proofs.Common.{◌≡◌, ◌≤◌, List, ℕ, [], ◌∷◌, ◌++◌, subst, sym, ap, ◌∙◌, arith, Ok}
+use Rattle.std.proofs.Common.{◌≤◌, List, ℕ, [], ◌∷◌, ◌++◌, subst, sym, ap, ◌∙◌, arith, Ok}
 use Rattle.disk.specs.Disks.{FileTold}
 use Rattle.journal_file.specs.declared.opening.Next.{Next}
 use Rattle.journal_file.specs.declared.opening.Next.TheVariants.{Payload}
@@ -30,14 +30,14 @@ records-preserved g c =
     let this = Payload read.field-0 read.bytes read.rest in
     record {
       begins = λ t.
-        let b = c.records.invariant.begins t in
-        record {
-          payloads = b.payloads ++ read.bytes.items ∷ [];
-          begins = read_on OpenStop g.K.Disk.told b.payloads old c.in-Ok.item this (c.in-Ok.ensures.next t b.payloads b.begins) read.is (c.in-Ok.ensures.file t);
-          replays = subst (λ (bytes : List ℕ). Replays reading (b.payloads ++ bytes ∷ []) c.in-Ok-next.more) c.deref.ensures.value (c.in-Ok-next.ensures.replays b.payloads b.replays);
-        };
+          let b = c.records.invariant.begins t in
+          record {
+            payloads = b.payloads ++ read.bytes.items ∷ [];
+            begins = read_on OpenStop g.K.Disk.told b.payloads old c.in-Ok.item this (c.in-Ok.ensures.next t b.payloads b.begins) read.is (c.in-Ok.ensures.file t);
+            replays = subst (λ (bytes : List ℕ). Replays reading (b.payloads ++ bytes ∷ []) c.in-Ok-next.more) c.deref.ensures.value (c.in-Ok-next.ensures.replays b.payloads b.replays);
+          };
       file = λ t. still_same (g.K.Disk.told c.args.opening.disk) old (g.K.Disk.told read.rest.disk) (c.records.invariant.file t)
-        (same_now OpenStop g.K.Disk.told old c.in-Ok.item this read.is (c.in-Ok.ensures.file t));
+          (same_now OpenStop g.K.Disk.told old c.in-Ok.item this read.is (c.in-Ok.ensures.file t));
       stands_for = ap (λ (x : Next _). g.K.Disk.stands_for (disk_next {E = OpenStop} (Ok x))) (sym read.is) ∙ (c.in-Ok.ensures.stands_for ∙ c.records.invariant.stands_for);
       later = omega (c.records.invariant.later, subst (λ (x : Next _). old.faults ≤ (g.K.Disk.told (disk_next {E = OpenStop} (Ok x))).faults) read.is c.in-Ok.ensures.later, arith);
     }

@@ -1,4 +1,4 @@
-use Rattle.std.proofs.Common.{◌≡◌, List, ℕ, [], ◌∷◌, subst, sym}
+use Rattle.std.proofs.Common.{[], ◌∷◌, subst, sym}
 use Rattle.journal_replay.specs.Replayed.{reading_of, Replays}
 use Rattle.journal_replay.proofs.Replaying.{root_replays}
 use Rattle.journal_replay.proofs.so_far.first.Goals as goal

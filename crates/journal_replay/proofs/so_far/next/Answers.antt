@@ -1,7 +1,7 @@
-use Rattle.std.proofs.Common.{◌≡◌, List, ℕ, subst}
+use Rattle.std.proofs.Common.{subst}
 use Rattle.byte_codec.specs.Payloads.{Encodes}
 use Rattle.journal_replay.specs.declared.record.Record.{Record}
-use Rattle.journal_replay.specs.declared.record.Record.TheVariants.{Written, Changed}
+use Rattle.journal_replay.specs.declared.record.Record.TheVariants.{Changed}
 use Rattle.journal_replay.specs.Replayed.{reading_of}
 use Rattle.journal_replay.proofs.Replaying.{one_more, entry_taken, entry_refused}
 use Rattle.journal_replay.proofs.so_far.next.Goals as goal
