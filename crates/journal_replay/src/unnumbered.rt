@@ -15,8 +15,8 @@ pub trait Unnumbered: Machine {
 
 /// A legal list behind another is one legal list.
 pub fn legal_lists_join<M: Machine>()
-    ensures legal { (s : M.State) (g h : List (Entry M.Call)) → IsLegal M.next s g → IsLegal M.next (replay M.next s g) h
-        → IsLegal M.next s (g ++ h) }
+    ensures legal { (s : M.State) (g h : List (Entry M.Call))
+        → IsLegal M.next s g → IsLegal M.next (replay M.next s g) h → IsLegal M.next s (g ++ h) }
     ensures replay { (s : M.State) (g h : List (Entry M.Call))
         → replay M.next s (g ++ h) ≡ replay M.next (replay M.next s g) h }
 {}
