@@ -13,6 +13,7 @@ use Rattle.desk_model.specs.declared.entry.Entry.{Entry}
 use Rattle.journal_keeper.specs.Recorded.{shifted, payloads, HaveCodes}
 use Rattle.journal_keeper.specs.declared.store.Store.{Store}
 use Rattle.journal_keeper.specs.Standing.{StandsForFront, Stand}
+use Rattle.journal_keeper.specs.Went.{Went, fewer, longer}
 use Rattle.journal_keeper.specs.Stores.{KeeperTold, Stands, disk_of}
 
 -- ---- crashes
@@ -84,18 +85,9 @@ module _ {C : Type 0} (codec : Codec (Entry C)) (offset : ℕ) where
   payloads_more xs ys = map-append (λ e. codec.code (shifted offset e)) xs ys
 
   module _ (before : List (List ℕ)) where
-    -- a front of the first entries is one of all
+    -- a front of the first entries is one of all, with no more of them
     pub wider : (m n from : ℕ) (h : List (Entry C)) (file : List ℕ) → m ≤ n → StandsForFront codec offset before n (take from h) file → StandsForFront codec offset before m h file
-    wider m n from h file le f = record {
-      front = f.front;
-      begins = (f.begins.0 ++ drop from h, sym (append_assoc f.front f.begins.0 (drop from h)) ∙ (ap (λ (l : List (Entry C)). l ++ drop from h) f.begins.1 ∙ take-append-drop from h));
-      least = omega (arith, le, f.least);
-      have_codes = f.have_codes;
-      stands = f.stands;
-    }
-
-    pub fewer : (m n : ℕ) (h : List (Entry C)) (file : List ℕ) → m ≤ n → StandsForFront codec offset before n h file → StandsForFront codec offset before m h file
-    fewer m n h file le f = record { front = f.front; begins = f.begins; least = omega (arith, le, f.least); have_codes = f.have_codes; stands = f.stands }
+    wider m n from h file le f = longer codec offset before m (take from h) h file (drop from h, take-append-drop from h) (fewer codec offset before m n (take from h) file le f)
 
     all_codes : (n : ℕ) (h : List (Entry C)) (file : List ℕ) → length h ≤ n → StandsForFront codec offset before n h file → HaveCodes codec offset h
     all_codes n h file le f = subst (HaveCodes codec offset) (whole_front f.front h f.begins (omega (arith, le, f.least))) f.have_codes
@@ -138,7 +130,7 @@ module _ {C : Type 0} (codec : Codec (Entry C)) (offset : ℕ) where
       have_codes = p;
       stands = s;
     }
-    front_of from h file le p q (inr s) = fewer from (length h) h file le (all_of from h file p q s)
+    front_of from h file le p q (inr s) = fewer codec offset before from (length h) h file le (all_of from h file p q s)
 
     -- at each moment of a put, where these are the payloads
     pub put_leaves : (from : ℕ) (h : List (Entry C)) (all : List (List ℕ)) (old new : DiskTold) → from ≤ length h
@@ -164,7 +156,7 @@ module _ {C : Type 0} (codec : Codec (Entry C)) (offset : ℕ) where
     since_more : (from : ℕ) (h : List (Entry C)) (begun old new : DiskTold) → LeavesSince (StandsForFront codec offset before 0 (take from h)) begun old
         → LeavesSince (StandsForFront codec offset before from h) old new → LeavesSince (StandsForFront codec offset before 0 h) begun new
     since_more from h begun old new run more =
-        follows_on (StandsForFront codec offset before 0 h) (StandsForFront codec offset before from h) (λ file f. fewer 0 from h file (omega arith) f) begun old new
+        follows_on (StandsForFront codec offset before 0 h) (StandsForFront codec offset before from h) (λ file f. fewer codec offset before 0 from h file (omega arith) f) begun old new
         (leaves_weaker (StandsForFront codec offset before 0 (take from h)) (StandsForFront codec offset before 0 h) (λ file f. wider 0 0 from h file (omega arith) f) begun old run) more
 
   -- all was put
@@ -230,4 +222,19 @@ module _ {K C : Type 0} (tells : Bool) (told : K → DiskTold) (codec : Codec (E
         (subst (λ (x : K). Stand codec old.offset (told x) (told (disk_of new.store)) from h) (sym b)
         (subst (λ (x : Store K). Stand codec old.offset (told old.begun) (told (disk_of x)) from h) (sym l)
         (stand_front codec old.offset from h (told old.begun) (told (disk_of old.store)) (told (disk_of late)) (s.stand t) (run t))));
+  }
+
+  -- what happened in a call
+  pub went_on : (old new : KeeperTold K) (late : Store K) (from : ℕ) (h : List (Entry C)) → Stands tells told codec old from (take from h) → new.store ≡ late → new.begun ≡ old.begun → new.offset ≡ old.offset
+      → (IsTrue tells → (before : List (List ℕ)) → LeavesOnly (StandsForFront codec old.offset before from (take from h)) (told (disk_of old.store)).file
+      → LeavesSince (StandsForFront codec old.offset before from h) (told (disk_of old.store)) (told (disk_of late)))
+      → ((ps qs : List (List ℕ)) (file : List ℕ) → StandsFor ps file → StandsFor qs file → ps ≡ qs) → Went tells told codec old new from h
+  went_on old new late from h s l b o run one = record {
+    begun = b;
+    offset = o;
+    since = λ t before stood.
+        let stand = s.stand t in
+        let same : stand.before ≡ before = one stand.before before (told old.begun).file.seen stand.began_with stood in
+        subst (λ (x : Store K). LeavesSince (StandsForFront codec old.offset before from h) (told (disk_of old.store)) (told (disk_of x))) (sym l)
+        (run t before (subst (λ (ps : List (List ℕ)). LeavesOnly (StandsForFront codec old.offset ps from (take from h)) (told (disk_of old.store)).file) same stand.left));
   }

@@ -6,6 +6,7 @@ ghost use Rattle.journal_keeper.specs.declared.lost.Lost.{Lost};
 ghost use Rattle.journal_keeper.specs.declared.lost.Lost.TheVariants.{Disk};
 ghost use Rattle.journal_keeper.specs.Standing.{StandsForFront};
 ghost use Rattle.journal_keeper.specs.Stores.{Stands, disk_of, faults, IsWhy, WhereDisk, first_lost};
+ghost use Rattle.journal_keeper.specs.Went.{Went, went_at_once, went_joins};
 
 use crate::encoding::payloads_from;
 use crate::entry_code::EntryCode;
@@ -14,7 +15,7 @@ use crate::store::{Batch, Store, put};
 use core::mem::replace_with;
 use desk_model::{Keeper, Machine, Version};
 use disk::Disk;
-use journal_file::Journal;
+use journal_file::{Journal, one_reading};
 use outside::Failed;
 use std::alloc::Global;
 use std::marker::{Model, PhantomData};
@@ -150,6 +151,8 @@ impl<K: Disk, F> JournalKeeper<K, F> {
 impl<M: Machine, K: Disk + Drop, F: EntryCode<M::Call>> Keeper<M> for JournalKeeper<K, F> {
     ghost stands = { Stands K.tells K.told F.codec };
 
+    ghost went = { Went K.tells K.told F.codec };
+
     ghost faults = { faults K.told };
 
     fn keep(&mut self, version: &Version<M>, from: u64) -> Result<(), Failed>
@@ -158,6 +161,7 @@ impl<M: Machine, K: Disk + Drop, F: EntryCode<M::Call>> Keeper<M> for JournalKee
         ensures kept { OnOk result (Stands K.tells K.told F.codec self.new (length version.now.journal)
             version.now.journal) }
         ensures front { OnErr result (Stands K.tells K.told F.codec self.new from version.now.journal) }
+        ensures went { Went K.tells K.told F.codec self.old self.new from version.now.journal }
         ensures cause { HasCause (faults K.told self.old) (faults K.told self.new) result }
         ensures same { (self.new.begun ≡ self.old.begun) × (self.new.offset ≡ self.old.offset) }
         ensures any_moment { IsTrue K.tells → (before : List (List ℕ))
@@ -169,6 +173,7 @@ impl<M: Machine, K: Disk + Drop, F: EntryCode<M::Call>> Keeper<M> for JournalKee
             × IsWhy K.told self.old.store self.new.store lost
             × (self.new.lost ≡ first_lost self.old.lost lost)) }
     {
+        one_reading();
         match self.put_from::<M>(version, from) {
             Ok(()) => Ok(()),
             Err(lost) => {
@@ -177,4 +182,8 @@ impl<M: Machine, K: Disk + Drop, F: EntryCode<M::Call>> Keeper<M> for JournalKee
             }
         }
     }
+
+    ghost at_once = { went_at_once K.tells K.told F.codec };
+
+    ghost joins = { went_joins K.tells K.told F.codec };
 }
