@@ -1,0 +1,4 @@
+pub mod Openings
+pub mod Entries
+pub mod Fronts
+pub mod Recorded

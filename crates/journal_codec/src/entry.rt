@@ -1,0 +1,59 @@
+//! Entries.
+ghost use Rattle.std.specs.Prelude.{IfOk, OnOk};
+ghost use Rattle.byte_codec.specs.Codecs.{Codec, Writes, Reads};
+ghost use Rattle.byte_codec.specs.Payloads.{Encodes, Decoded, Is};
+ghost use Rattle.desk_model.specs.declared.entry.Entry.{Entry};
+ghost use Rattle.cm_call.specs.declared.write.Write.{Write};
+ghost use Rattle.journal_codec.specs.declared.payload.Payload.TheVariants as payloads;
+ghost use Rattle.journal_codec.specs.Entries.{entry_codec};
+ghost use Rattle.journal_codec.specs.Recorded.{payload_codec};
+
+use crate::form::JournalForm;
+use argument_codec::form::put_four;
+use byte_codec::coded::Coded;
+use byte_codec::reader::Reader;
+use byte_codec::stop::{DecodeStop, EncodeStop};
+use cm_call::write::Write;
+use desk_model::Entry;
+use std::alloc::Global;
+use write_codec::form::{put_write, take_written};
+
+impl Coded<JournalForm> for Entry<Write> {
+    ghost codec = { entry_codec };
+
+    fn write(&self, out: &mut Vec<u8>) -> Result<(), EncodeStop> {
+        put_four(&self.session, &self.serial, &self.user, &self.moment, out)?;
+        put_write(&self.call, out)?;
+        Ok(())
+    }
+
+    fn read(alloc: Global, from: &mut Reader<'_>) -> Result<Entry<Write>, DecodeStop> {
+        let (session, (serial, (user, (moment, call)))) = take_written(alloc, from)?;
+        Ok(Entry {
+            session,
+            serial,
+            user,
+            moment,
+            call,
+        })
+    }
+}
+
+/// The encoding of an entry, which is that of the payload that tells it.
+pub fn encode(alloc: Global, written: &Entry<Write>) -> Result<Vec<u8>, EncodeStop>
+    ensures alone { IfOk result (λ v. Encodes entry_codec written.now v.items) }
+    ensures payload { IfOk result (λ v. Encodes payload_codec (payloads.Entry written.now) v.items) }
+{
+    let bytes = byte_codec::payload::encode::<JournalForm, Entry<Write>>(alloc, written)?;
+    Ok(bytes)
+}
+
+/// The entry that these bytes encode.
+pub fn decode(alloc: Global, bytes: &[u8]) -> Result<Entry<Write>, DecodeStop>
+    // What is decoded is encoded so, and NotAnEntry comes only where no entry is.
+    ensures exact { Decoded entry_codec result bytes.now }
+    // What was encoded is decoded, unless memory runs out.
+    ensures again { (e : Entry Write) → Encodes entry_codec e bytes.now → Is e result }
+{
+    byte_codec::payload::decode::<JournalForm, Entry<Write>>(alloc, bytes)
+}
