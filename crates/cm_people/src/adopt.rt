@@ -77,12 +77,7 @@ pub fn adopted(alloc: Global, state: &State, people: &People) -> Result<State, A
 {
     let _step = state.step();
     let names = people.names();
-    let log = log_for(
-        alloc,
-        state.users().as_slice(),
-        names.as_slice(),
-        state.log(),
-    )?;
+    let log = log_for(alloc, state.users().as_slice(), names.as_slice(), state.log())?;
     let principals = principals_of(alloc, people)?;
     let parts = state.parts().share(alloc)?;
     Ok(sealed_with(parts, people, principals, log))

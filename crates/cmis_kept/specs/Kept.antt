@@ -26,8 +26,7 @@ use Rattle.journal_start.specs.Starting.{IsLeftByStart}
 use Rattle.journal_runs.specs.declared.kept_stop.KeptStop.{KeptStop}
 use Rattle.journal_runs.specs.declared.kept_stop.KeptStop.TheVariants.{NotBegun}
 use Rattle.journal_start.specs.declared.begin_stop.BeginStop.TheVariants.{Fault}
-use Rattle.journal_file.specs.Records.{IsAsBefore}
-use Rattle.journal_runs.specs.Begins.{BegunIn, StopsRun, WhereUntouched}
+use Rattle.journal_runs.specs.Begins.{BegunIn, StopsRun}
 use Rattle.journal_runs.specs.Leaves.{KeptIn}
 use Rattle.journal_runs.specs.Ends.{TellsStop, TellsLost}
 use Rattle.cmis_words.specs.declared.kept.KeptServe.{KeptServe}
@@ -78,11 +77,10 @@ module _ {C A X K : Type 0} (reading : Reading Repository C PeopleTold A X) (tel
     pub failed : IsSome unkept → HasFailed (faults told)
     pub alike : RepliesOfSeen kind opening
 
-  -- The run doesn't begin, for this reason: it is told; and where that is what is wrong with the file, the file is as it was. A disk that failed has counted it.
+  -- The run doesn't begin, for this reason: it is told. A disk that failed has counted it.
   pub record IsStopped (moment : Moment) (disk disk' : K) (empty full : SinkTold) (status : ℕ) : Type 0 where
     pub stop : KeptStop PeopleTold
     pub why : IsTrue tells → StopsRun reading growing (root_of moment asked) (told disk).file.seen (told disk').file.seen stop
-    pub untouched : IsTrue tells → WhereUntouched stop (LeavesSince (IsAsBefore (told disk).file.seen) (told disk) (told disk'))
     pub fault : stop ≡ NotBegun Fault → Rose (told disk).faults (told disk').faults
     pub says : TellsStop (people_asked asked) stop empty full status
 

@@ -10,8 +10,7 @@ ghost use Rattle.journal_replay.specs.Replayed.{reading_of};
 ghost use Rattle.journal_start.specs.Starting.{IsLeftByStart};
 ghost use Rattle.journal_start.specs.declared.begin_stop.BeginStop.{BeginStop};
 ghost use Rattle.journal_runs.specs.declared.kept_stop.KeptStop.{KeptStop};
-ghost use Rattle.journal_file.specs.Records.{IsAsBefore};
-ghost use Rattle.journal_runs.specs.Begins.{BegunIn, IsFirst, StopsRun, WhereUntouched, disk_of_run};
+ghost use Rattle.journal_runs.specs.Begins.{BegunIn, IsFirst, StopsRun, disk_of_run};
 ghost use Rattle.journal_runs.specs.Ends.{IsStarved, TellsStop};
 ghost use Rattle.cmis_kept.specs.Kept.{people_asked, root_of, under};
 
@@ -75,8 +74,6 @@ pub(crate) fn begun<
     ensures any_moment { IsTrue K.tells → LeavesSince (IsLeftByStart
         (reading_of F.root_codec F.record_codec M.opening M.next M.adopt) (root_of moment asked.now)
         (K.told disk).file.seen) (K.told disk) (K.told (disk_of_run result)) }
-    ensures untouched { IsTrue K.tells → IfErr result (λ x. WhereUntouched x.0
-        (LeavesSince (IsAsBefore (K.told disk).file.seen) (K.told disk) (K.told x.1))) }
     ensures fault { IfErr result (λ x. x.0 ≡ KeptStop.NotBegun BeginStop.Fault
         → Rose (K.told disk).faults (K.told x.1).faults) }
 {

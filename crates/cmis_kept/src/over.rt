@@ -12,29 +12,12 @@ ghost use Rattle.cmis_kept.specs.Kept.{EndsBy};
 
 use crate::ran::Over;
 use desk_model::Machine;
-use desk_serve::{Closing, HostEnd};
+use desk_serve::Closing;
 use disk::Disk;
-use journal_keeper::{EntryCode, JournalKeeper, Lost};
+use journal_keeper::{EntryCode, JournalKeeper};
 use journal_runs::{Explains, Left, leave, tell_lost};
 use outside::Sink;
 use run_status::sum_up;
-
-// Writes how a run ends, and answers its status.
-fn ends<O: Sink, K: Explains>(
-    output: &mut O,
-    disk: &K,
-    unkept: Option<Option<Lost>>,
-    end: HostEnd,
-    sessions: u64,
-    steps: u64,
-) -> u8
-    ensures { EndsBy unkept end (summary sessions steps) (O.told output.old) (O.told output.new) result }
-{
-    match unkept {
-        None => sum_up(output, sessions, steps, end),
-        Some(lost) => tell_lost(output, disk, lost),
-    }
-}
 
 /// What stands once all connections are served, the disk, and the status; the line that tells it is written.
 pub(crate) fn over<M: Machine, F: EntryCode<M::Call>, K: Disk + Explains + Drop, O: Sink, L>(
@@ -62,9 +45,10 @@ pub(crate) fn over<M: Machine, F: EntryCode<M::Call>, K: Disk + Explains + Drop,
         end,
     } = closing;
     let Left { disk, unkept } = leave::<M::Call, K, F>(store);
-    let sessions = ended.len() as u64;
-    let steps = last.number();
-    let status = ends(output, &disk, unkept, end, sessions, steps);
+    let status = match unkept {
+        None => sum_up(output, ended.len() as u64, last.number(), end),
+        Some(lost) => tell_lost(output, &disk, lost),
+    };
     let over = Over {
         last,
         ended,

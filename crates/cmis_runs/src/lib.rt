@@ -15,6 +15,6 @@ mod summary;
 
 pub use loaded::load;
 pub use many::serve;
-pub use once::run_once;
+pub use once::{run_once, word_of};
 pub use running::{Ran, run};
 pub use scheduled::schedule;

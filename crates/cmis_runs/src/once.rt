@@ -56,9 +56,9 @@ fn serve<P: Program, L: Link, C: Clock + Drop>(
     }
 }
 
-// The natural number that a moment after 1970 is.
+/// The natural number that a moment after 1970 is.
 #[tactic(auto, using(crate::proofs::Moments::is_of_word))]
-fn word_of(moment: Moment) -> u64
+pub fn word_of(moment: Moment) -> u64
     requires { IsMoment moment }
     ensures { moment ≡ moment_of result }
 {

@@ -29,7 +29,7 @@ moment_good : (o : Option ℕ) → IfSome o (λ n. n ≤ last_moment) → IfSome
 moment_good None h = tt
 moment_good (Some n) h = (n, h, refl)
 
-at_good : (option : Option (List ℕ)) → IfSome (at_by option) (λ at. IfSome at IsMoment)
+pub at_good : (option : Option (List ℕ)) → IfSome (at_by option) (λ at. IfSome at IsMoment)
 at_good None = tt
 at_good (Some digits) = moment_good (at_most last_moment (decimal_u64 digits)) (at_most_bound last_moment (decimal_u64 digits))
 

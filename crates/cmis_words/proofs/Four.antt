@@ -1,7 +1,8 @@
--- Fewer than four words are no words of serve, with a file that keeps the repository or without one.
+-- Fewer than four words are no words of serve, with a file that keeps the repository or without one, and fewer than three no words of one session with such a file.
 use Rattle.std.proofs.Common.{◌≡◌, ◌<◌, List, [], ◌∷◌, length, map, refl, arith, String, Global, string_bytes, None}
 use Rattle.cmis_words.specs.Serving.{serve_of}
 use Rattle.cmis_words.specs.Keeping.{kept_of}
+use Rattle.cmis_words.specs.Keep.{keep_of}
 
 pub few : (ws : List (String Global)) → length ws < 4 → serve_of (map string_bytes ws) ≡ None
 few [] h = refl
@@ -16,3 +17,9 @@ few_kept (a ∷ []) h = refl
 few_kept (a ∷ b ∷ []) h = refl
 few_kept (a ∷ b ∷ c ∷ []) h = refl
 few_kept (a ∷ b ∷ c ∷ d ∷ ws) h = absurd (omega arith)
+
+pub few_keep : (ws : List (String Global)) → length ws < 3 → keep_of (map string_bytes ws) ≡ None
+few_keep [] h = refl
+few_keep (a ∷ []) h = refl
+few_keep (a ∷ b ∷ []) h = refl
+few_keep (a ∷ b ∷ c ∷ ws) h = absurd (omega arith)

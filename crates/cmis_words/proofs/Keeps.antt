@@ -50,14 +50,13 @@ before_false : (a b : Bool) → a ≡ false → a && b ≡ false
 before_false true b h = absurd (both_ways true h refl)
 before_false false b h = refl
 
-after : (word : List ℕ) (words : List (List ℕ)) (b : Bool) → is_some (behind (codes "keep") word) ≡ b → (is_some (behind (codes "keep") word) ≡ false → list_all is_serve_option words ≡ false)
-    → list_all is_serve_option (word ∷ words) ≡ false
-after word words true e rest = before_false (is_serve_option word) (list_all is_serve_option words) (not_serves word e)
-after word words false e rest = with_false (is_serve_option word) (list_all is_serve_option words) (rest e)
-
 not_all : (options : List (List ℕ)) (file : List ℕ) → option_of (codes "keep") options ≡ Some file → list_all is_serve_option options ≡ false
 not_all [] file h = absurd (both_ways false refl (ap is_some h))
-not_all (word ∷ words) file h = after word words (is_some (behind (codes "keep") word)) refl (λ e. not_all words file (rw e at h))
+not_all (word ∷ words) file h = by_word (is_some (behind (codes "keep") word)) refl
+  where
+    by_word : (b : Bool) → is_some (behind (codes "keep") word) ≡ b → list_all is_serve_option (word ∷ words) ≡ false
+    by_word true e = before_false (is_serve_option word) (list_all is_serve_option words) (not_serves word e)
+    by_word false e = with_false (is_serve_option word) (list_all is_serve_option words) (not_all words file (rw e at h))
 
 barred : (same few all links groups steps bytes : Bool) → all ≡ false → same && (few && all && links && groups && steps && bytes) ≡ false
 barred same few all links groups steps bytes h =

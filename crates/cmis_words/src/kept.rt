@@ -29,7 +29,8 @@ fn has_zero(name: &[u8]) -> bool
     name.iter().any(|b| *b == 0)
 }
 
-fn is_file_name(name: &[u8]) -> bool
+/// Whether this may be the name of a file.
+pub(crate) fn is_file_name(name: &[u8]) -> bool
     ensures { result ≡ is_file_name name.now }
 {
     1 <= name.len() && name.len() <= LONGEST_FILE_NAME && !has_zero(name)

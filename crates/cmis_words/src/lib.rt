@@ -4,6 +4,7 @@
 ghost use Rattle.std.specs.Prelude.{◌≡◌};
 
 pub mod groups;
+pub mod keep;
 pub mod kept;
 pub mod laws;
 mod limits;

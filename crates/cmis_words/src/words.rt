@@ -126,7 +126,8 @@ fn are_pipe_options(options: &[String]) -> bool
         && stands_once(options, "groups")
 }
 
-fn at(options: &[String]) -> Option<Option<Moment>>
+/// The moment of the option `at=MS`; without it there is none.
+pub(crate) fn at(options: &[String]) -> Option<Option<Moment>>
     ensures { result ≡ at_by (option_of (codes "at") (map string_bytes options.now)) }
 {
     match option(options, "at") {

@@ -3,15 +3,14 @@
 
 use cmis_app::{run, run_kept};
 use file_disk::FileDisk;
-use outside::{OpenGate, Sink};
-use real_edge::{Alarm, StdSink, StdSource, SystemClock, TcpHost};
+use outside::OpenGate;
+use real_edge::{StdSink, StdSource, SystemClock, TcpHost};
 use run_status::refuse;
 use std::alloc::{AllocError, Global};
 use std::io::ErrorKind;
 use std::process::ExitCode;
 use std::rt::Files;
 use std::{env, io};
-use watched_disk::WatchedDisk;
 use word_files::SystemFiles;
 use word_files::expand::expanded;
 use word_files::files::read_texts;
@@ -69,33 +68,22 @@ fn all_words(rt: &HostRuntime, alloc: Global) -> Result<Vec<String>, Unread> {
     }
 }
 
-// Says why there are no words to run, and answers the status.
-fn refused<O: Sink>(alloc: Global, output: &mut O, unread: Unread) -> u8 {
-    match unread {
-        Unread::Files(stop) => refuse_files(alloc, output, stop),
-        Unread::NotText => refuse(output),
-        Unread::Memory => 7,
-    }
-}
-
 fn main(rt: HostRuntime) -> ExitCode {
     let alloc = rt.alloc();
     let mut output = StdSink::new(rt.stdout());
     match all_words(&rt, alloc) {
         Ok(words) => {
             let mut input = StdSource::new(rt.stdin());
-            let alarm = Alarm::new();
-            let mut heeding = TcpHost::heeding(&rt, &alarm);
             let mut host = TcpHost::new(&rt);
             let mut clock = SystemClock::new(&rt);
-            let disk = WatchedDisk::new(&rt, &alarm, FileDisk::new(&rt, alloc));
+            let disk = FileDisk::new(&rt, alloc);
             let kept = run_kept(
                 &rt,
                 alloc,
                 &words,
                 disk,
                 &mut output,
-                &mut heeding,
+                &mut host,
                 &mut clock,
                 &OpenGate,
             );
@@ -117,6 +105,8 @@ fn main(rt: HostRuntime) -> ExitCode {
             };
             ExitCode::from(status)
         }
-        Err(unread) => ExitCode::from(refused(alloc, &mut output, unread)),
+        Err(Unread::Files(stop)) => ExitCode::from(refuse_files(alloc, &mut output, stop)),
+        Err(Unread::NotText) => ExitCode::from(refuse(&mut output)),
+        Err(Unread::Memory) => ExitCode::from(7),
     }
 }

@@ -64,5 +64,5 @@ module _ {S C A K : Type 0} (stands : K → Store K → List (Entry C) → List 
     ranks = begun_ranks t;
   }
 
-  pub begins_so : (key t : Beginning S C K) (a b : Laid (Arc (History S C) A) K) (xs : List (Slot S C A K)) → key ≡ t → arc_value a.version ≡ t.version → arc_value b.version ≡ t.version → stands t.keeper a.store t.version.journal t.version.journal → a.settled ≡ length t.version.journal → a.again ≡ None → xs ≡ Some a ∷ Some b ∷ [] → Kept stands key (opening (0 ∷ 0 ∷ 0 ∷ 0 ∷ 0 ∷ []) xs (beginner key))
-  begins_so key t a b xs same is also kept long alone two = subst (λ (z : Beginning S C K × List (Slot S C A K)). Kept stands z.0 (opening (0 ∷ 0 ∷ 0 ∷ 0 ∷ 0 ∷ []) z.1 (beginner z.0))) (λ i. (sym same i, sym two i)) (begins t a b is also kept long alone)
+  pub begins_so : (t : Beginning S C K) (a b : Laid (Arc (History S C) A) K) (xs : List (Slot S C A K)) → arc_value a.version ≡ t.version → arc_value b.version ≡ t.version → stands t.keeper a.store t.version.journal t.version.journal → a.settled ≡ length t.version.journal → a.again ≡ None → xs ≡ Some a ∷ Some b ∷ [] → Kept stands t (opening (0 ∷ 0 ∷ 0 ∷ 0 ∷ 0 ∷ []) xs (beginner t))
+  begins_so t a b xs is also kept long alone two = subst (λ (z : List (Slot S C A K)). Kept stands t (opening (0 ∷ 0 ∷ 0 ∷ 0 ∷ 0 ∷ []) z (beginner t))) (sym two) (begins t a b is also kept long alone)

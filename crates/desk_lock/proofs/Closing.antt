@@ -22,7 +22,7 @@ use Rattle.desk_lock.specs.declared.board.Turn.{Turn}
 use Rattle.desk_lock.specs.declared.board.Turn.TheVariants.{NoTurn, HasTurn}
 use Rattle.desk_lock.specs.Numbers.{Card, Ranks, by, IsIn, AreApart, names, numbers, numbers_at}
 use Rattle.desk_lock.specs.declared.board.Laid.{Laid}
-use Rattle.desk_lock.specs.Board.{Slot, KnowsTurn, Kept, card, IsTurn, InTurn}
+use Rattle.desk_lock.specs.Board.{Slot, AtHome, KnowsTurn, Kept, card, IsTurn, InTurn}
 use Rattle.desk_lock.specs.Seats.{Beginning, IsIdle}
 use Rattle.desk_lock.specs.Words.{LockView, PassView, Closes}
 use Rattle.desk_lock.proofs.Lists.{same_at, some_same}

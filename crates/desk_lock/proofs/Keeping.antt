@@ -10,7 +10,7 @@ use lib.Seq.{set-get_or}
 use Rattle.atomic_table.specs.Table.{State}
 use Rattle.atomic_table.proofs.Lists.{at_set, set_here, set_else, at_longer, set_again}
 use Rattle.desk_model.specs.declared.entry.Entry.{Entry}
-use Rattle.desk_model.specs.Histories.{CountsFrom}
+use Rattle.desk_model.specs.Histories.{History, CountsFrom}
 use Rattle.desk_lock.specs.declared.board.Store.{Store}
 use Rattle.desk_lock.specs.declared.board.View.{View}
 use Rattle.desk_lock.specs.declared.board.Turn.{Turn}

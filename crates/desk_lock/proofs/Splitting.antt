@@ -7,6 +7,7 @@ use lib.ListN.{get_elem?}
 use Rattle.atomic_table.specs.Table.{State, step, keeps, Splits, Joins, Allows}
 use Rattle.atomic_table.proofs.Lists.{at_set, set_else, set_again, at_map, at_snoc}
 use Rattle.desk_model.specs.declared.entry.Entry.{Entry}
+use Rattle.desk_model.specs.Histories.{History}
 use Rattle.desk_lock.specs.declared.board.Store.{Store}
 use Rattle.desk_lock.specs.declared.board.View.{View}
 use Rattle.desk_lock.specs.declared.board.Turn.TheVariants.{NoTurn}

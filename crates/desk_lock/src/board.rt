@@ -1,8 +1,6 @@
 //! The table of the lock.
 //! Word 0 is the history's length past the lock's beginning, word 1 is 1 while a pass has the turn, word 2 is 1 while a pass has the shelf,
 //! word 3 is the length past the beginning of the journal on the shelf, and word 4 counts the batches that have ended. Slot 0 is the version's home, slot 1 the shelf.
-ghost use Rattle.std.specs.Prelude.{◌≡◌};
-
 use atomic_table::{Seat, Shared, Table, TableRule};
 use desk_model::{Entry, Keeper, Machine, Version};
 use std::alloc::Global;
@@ -72,18 +70,6 @@ impl<M: Machine, K> Model for Begun<M, K> {
     ghost Value = { Beginning M.State M.Call K };
 
     ghost view = { λ b. record { version = b.version.value; keeper = b.keeper.value } };
-}
-
-impl<M: Machine, K> Begun<M, K> {
-    /// A lock begins with this version and this keeper. It takes no memory.
-    pub(crate) fn of(version: &Version<M>, keeper: &K) -> Begun<M, K>
-        ensures { result ≡ record { version = version.now; keeper = keeper.now } }
-    {
-        Begun {
-            version: Snapshot::of(version),
-            keeper: Snapshot::of(keeper),
-        }
-    }
 }
 
 /// What a seat at the table knows. No value of it is made.

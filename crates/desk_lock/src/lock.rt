@@ -83,7 +83,12 @@ impl<M: Machine, C: Clock + Drop, K: Keeper<M>> Lock<M, C, K> {
     {
         version.lawful();
         let first = snapshot::Snapshot::of(&keeper);
-        let about = Begun::of(&version, &keeper);
+        let began = snapshot::Snapshot::of(&version);
+        let kept_by = snapshot::Snapshot::of(&keeper);
+        let about = Begun {
+            version: began,
+            keeper: kept_by,
+        };
         let len = version.len();
         let version = Arc::new(alloc, version)?;
         let mut slots = Vec::new(alloc);

@@ -169,11 +169,10 @@ fn settle<M: Machine, K: Keeper<M>, R: Wait>(
     requires live { (place.old.me.0.live ≡ 1) × (place.old.me.0.shelf ≡ NoShelf) }
     requires start { (start ≡ place.old.me.0.start) × (start ≤ length (arc_value version).journal) }
     requires same { arc_value again ≡ arc_value version }
-    requires out { (g : List (Entry M.Call)) × (first : K)
-        × (place.old.me.0.turn ≡ HasTurn (arc_value version).journal g)
+    requires out { (g : List (Entry M.Call)) × (place.old.me.0.turn ≡ HasTurn (arc_value version).journal g)
         × (Some (arc_value version).opening ≡ place.old.me.0.origin) × (place.old.me.1 ≡ (0, None) ∷ [])
-        × IsPrefix g (arc_value version).journal × (settled ≡ length g) × (place.old.me.0.keeper ≡ Some first)
-        × Since K.stands K.went first keeper settled g }
+        × IsPrefix g (arc_value version).journal × (settled ≡ length g)
+        × ((first : K) × (place.old.me.0.keeper ≡ Some first) × Since K.stands K.went first keeper settled g) }
     ensures seat { (place.new.table_id ≡ place.old.table_id) × (place.new.id ≡ place.old.id) }
     ensures idle { place.new.me ≡ (record place.old.me.0 { turn = NoTurn }, []) }
 {

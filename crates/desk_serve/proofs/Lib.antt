@@ -1,6 +1,5 @@
 mod Lists
 mod Settling
 mod Noting
-mod Crossing
 mod Ending
 mod Taking

@@ -14,7 +14,7 @@ use Rattle.desk_lock.specs.Seats.{longer, greater}
 use Rattle.desk_lock.specs.Words.{HasFailed, LockView, PassView, IsOf, Retired, with_one_more, made_by, first_pass}
 use Rattle.talk.specs.declared.end.End.{End}
 use Rattle.talk.specs.declared.end.End.TheVariants.{Unkept}
-use Rattle.talk.specs.Session.{Setting}
+use Rattle.talk.specs.Session.{Setting, Session}
 use Rattle.talk.specs.Talked.{rose, IfUnkept}
 use Rattle.desk_serve.specs.declared.ended.Ended.{Ended}
 use Rattle.outside.specs.Hosts.{IsNew}

@@ -1,5 +1,5 @@
 -- What a session showed stays settled as more is.
-use Rattle.std.proofs.Common.{◌≡◌, ℕ, ◌≤◌, Bool, true, false, List, [], ◌∷◌, refl, inl, inr, arith, if◌then◌else◌, nat_lt}
+use Rattle.std.proofs.Common.{◌≡◌, ℕ, ◌≤◌, Bool, true, false, List, [], ◌∷◌, refl, ◌⊎◌, inl, inr, arith, if◌then◌else◌, nat_lt}
 use Rattle.std.proofs.lemmas.Bool.Decides.{nat_tests}
 use Rattle.cm_base.specs.declared.number.Moment.{Moment}
 use Rattle.cm_base.specs.declared.user.User.{User}
@@ -8,7 +8,7 @@ use Rattle.desk_lock.specs.Seats.{greater}
 use Rattle.talk.specs.declared.end.End.{End}
 use Rattle.talk.specs.declared.end.End.TheVariants.{Ended, Bad, ReadFault, WriteFault, Starved, Unkept}
 use Rattle.talk.specs.Served.{Kind, Ask, faulty, writes, reads, ask_of}
-use Rattle.talk.specs.Session.{Setting, Session, Turn}
+use Rattle.talk.specs.Session.{Setting, Session, Turn, IsUnsent}
 use Rattle.talk.specs.Settled.{IsWithin, AreWithin, ShowsWithin}
 use Rattle.desk_serve.specs.declared.ended.Ended as served
 use Rattle.desk_serve.specs.Sessions.{Terms, IsServed}

@@ -1,5 +1,5 @@
 -- The comparison decides whether two are the same people.
-use Rattle.std.specs.Prelude.{◌≡◌, ℕ, List, bytes_eq}
+use Rattle.std.specs.Prelude.{◌≡◌, ℕ, ◌&&◌, List, bytes_eq}
 use Rattle.std.specs.Bool.{Decides}
 use lib.Pointwise.{pointwise}
 use Rattle.std.proofs.Common.{refl, ap, ◌∙◌}

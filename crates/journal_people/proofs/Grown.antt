@@ -1,10 +1,12 @@
 -- What stays where people grow.
-use Rattle.std.specs.Prelude.{◌≡◌, ℕ, Bool, true, false, ◌&&◌, not, if◌then◌else◌, List, [], ◌∷◌, find, is_none, bytes_eq}
+use Rattle.std.specs.Prelude.{◌≡◌, ℕ, Bool, true, false, ◌&&◌, ◌||◌, not, if◌then◌else◌, List, [], ◌∷◌, find, Option, Some, None, is_none, bytes_eq}
+use Rattle.std.specs.List.{list_any}
 use Rattle.std.proofs.Common.{refl, sym, subst}
 use Rattle.std.proofs.lemmas.Bool.{both_ways}
 use Rattle.std.proofs.lemmas.Slice.Eq.{bytes_eq-Decides}
 use Rattle.cmis_spec.specs.Repository.{administrator_of}
 use Rattle.cmis_spec.specs.Well.{is_user}
+use Rattle.journal_start.specs.declared.meeting.Meeting.{Meeting}
 use Rattle.journal_start.specs.declared.meeting.Meeting.TheVariants.{Same, Changed, Refused}
 use Rattle.journal_people.specs.Told.{PeopleTold}
 use Rattle.journal_people.specs.Meetings.{same_people, same_administrator, lacking, growing}

@@ -7,17 +7,16 @@ use Rattle.journal_keeper.specs.Stores.{KeeperTold}
 use Rattle.journal_replay.specs.declared.record.Root.{Root}
 use Rattle.journal_replay.specs.Recorded.{Replay}
 use Rattle.journal_replay.specs.Replayed.{Reading}
-use Rattle.journal_start.specs.declared.begin.Started.{Started}
 use Rattle.journal_start.specs.declared.begin_stop.BeginStop.{BeginStop}
 use Rattle.journal_start.specs.declared.begin_stop.BeginStop.TheVariants.{Fault, Damaged, Stopped, People, Memory}
 use Rattle.journal_start.specs.declared.meeting.Meeting.{Meeting}
 use Rattle.journal_start.specs.Starting.{BeginsBy, IsLeftByStart}
 use Rattle.journal_runs.specs.declared.kept_stop.KeptStop.{KeptStop}
 use Rattle.journal_runs.specs.declared.kept_stop.KeptStop.TheVariants.{NotBegun, Sessions}
-use Rattle.journal_runs.specs.Begins.{BegunIn, CannotGoOn, StopsRun, WhereUntouched, disk_of_run}
+use Rattle.journal_runs.specs.Begins.{BegunIn, CannotGoOn, StopsRun, WhereUntouched}
 
 -- before the first call of a run nothing changed
-since_before : (P : List ℕ → Type 0) (old mid new : DiskTold) → IsUnchanged old mid → LeavesSince P mid new → LeavesSince P old new
+pub since_before : (P : List ℕ → Type 0) (old mid new : DiskTold) → IsUnchanged old mid → LeavesSince P mid new → LeavesSince P old new
 since_before P old mid new same a = record {
   since = a.since;
   moments_are = a.moments_are ∙ ap (λ (l : List FileTold). l ++ a.since) (ap (λ (l : List FileTold). l ++ mid.file ∷ []) same.past ∙ ap (λ (f : FileTold). old.past ++ f ∷ []) same.file);
@@ -36,7 +35,7 @@ pub stop_is : {P : Type 0} (stop other : BeginStop P) → NotBegun stop ≡ NotB
 stop_is stop other e = ap stop_in e
 
 -- what a run that doesn't go on tells
-untouched : {P : Type 0} (sessions : ℕ) (stop : KeptStop P) (X : Type 0) → CannotGoOn sessions stop → WhereUntouched stop X
+pub untouched : {P : Type 0} (sessions : ℕ) (stop : KeptStop P) (X : Type 0) → CannotGoOn sessions stop → WhereUntouched stop X
 untouched sessions Sessions X g = tt
 untouched sessions (NotBegun Memory) X g = tt
 untouched sessions (NotBegun Fault) X g = absurd g
@@ -44,19 +43,11 @@ untouched sessions (NotBegun (Damaged n)) X g = absurd g
 untouched sessions (NotBegun (Stopped n)) X g = absurd g
 untouched sessions (NotBegun (People people)) X g = absurd g
 
-no_fault : {P : Type 0} (X : Type 0) (sessions : ℕ) (stop : KeptStop P) → CannotGoOn sessions stop → stop ≡ NotBegun Fault → X
+pub no_fault : {P : Type 0} (X : Type 0) (sessions : ℕ) (stop : KeptStop P) → CannotGoOn sessions stop → stop ≡ NotBegun Fault → X
 no_fault X sessions stop g e = absurd (subst (CannotGoOn sessions) e g)
 
-pub untouched_where : {T P K : Type 0} (X : K → Type 0) (sessions : ℕ) (result : Result T (KeptStop P × K)) → IfErr result (λ x. CannotGoOn sessions x.0) → IfErr result (λ x. WhereUntouched x.0 (X x.1))
-untouched_where X sessions (Ok x) g = tt
-untouched_where X sessions (Err x) g = untouched sessions x.0 (X x.1) g
-
-pub no_fault_where : {T P K : Type 0} (X : K → Type 0) (sessions : ℕ) (result : Result T (KeptStop P × K)) → IfErr result (λ x. CannotGoOn sessions x.0) → IfErr result (λ x. x.0 ≡ NotBegun Fault → X x.1)
-no_fault_where X sessions (Ok x) g = tt
-no_fault_where X sessions (Err x) g = no_fault (X x.1) sessions x.0 g
-
 module _ {S C P A X : Type 0} (reading : Reading S C P A X) (judged : P → P → Meeting) (root : Root P) where
-  stops_by : (old new : List ℕ) (replay : Replay S P) (stop : KeptStop P) → BeginsBy reading judged root replay old new → CannotGoOn replay.sessions stop → StopsRun reading judged root old new stop
+  pub stops_by : (old new : List ℕ) (replay : Replay S P) (stop : KeptStop P) → BeginsBy reading judged root replay old new → CannotGoOn replay.sessions stop → StopsRun reading judged root old new stop
   stops_by old new replay Sessions b g = record { replay = replay; begins = b; beyond = g }
   stops_by old new replay (NotBegun Memory) b g = tt
   stops_by old new replay (NotBegun Fault) b g = absurd g
@@ -66,7 +57,7 @@ module _ {S C P A X : Type 0} (reading : Reading S C P A X) (judged : P → P �
 
   module _ {K : Type 0} (told : K → DiskTold) (under : S → S) where
     -- a run that goes on with a keeper over this journal
-    begun_by : (old : DiskTold) (disk begun : K) (replay : Replay S P) (state : S) (offset : ℕ) → begun ≡ disk → BeginsBy reading judged root replay old.file.seen (told disk).file.seen
+    pub begun_by : (old : DiskTold) (disk begun : K) (replay : Replay S P) (state : S) (offset : ℕ) → begun ≡ disk → BeginsBy reading judged root replay old.file.seen (told disk).file.seen
         → state ≡ under replay.state → offset ≡ replay.sessions → LeavesSince (IsLeftByStart reading root old.file.seen) old (told disk) → BegunIn reading judged root under old (told begun) state offset
     begun_by old disk begun replay state offset is begins state_is offset_is since = record {
       replay = replay;
@@ -76,22 +67,8 @@ module _ {S C P A X : Type 0} (reading : Reading S C P A X) (judged : P → P �
       since = subst (λ (d : K). LeavesSince (IsLeftByStart reading root old.file.seen) old (told d)) (sym is) since;
     }
 
-    pub opened_begun : {E : Type 0} (old : DiskTold) (started : Started K (Replay S P)) (result : Result (S × KeeperTold K) (E × K)) → disk_of_run result ≡ started.journal.disk
-        → BeginsBy reading judged root started.so_far old.file.seen (told started.journal.disk).file.seen
-        → LeavesSince (IsLeftByStart reading root old.file.seen) old (told started.journal.disk) → IfOk result (λ x. x.0 ≡ under started.so_far.state) → IfOk result (λ x. x.1.offset ≡ started.so_far.sessions)
-        → IfOk result (λ x. BegunIn reading judged root under old (told x.1.begun) x.0 x.1.offset)
-    opened_begun old started (Ok x) is begins since state offset = begun_by old started.journal.disk x.1.begun started.so_far x.0 x.1.offset is begins state offset since
-    opened_begun old started (Err e) is begins since state offset = tt
-
-    pub opened_stops : (old : DiskTold) (started : Started K (Replay S P)) (result : Result (S × KeeperTold K) (KeptStop P × K)) → disk_of_run result ≡ started.journal.disk
-        → BeginsBy reading judged root started.so_far old.file.seen (told started.journal.disk).file.seen → IfErr result (λ x. CannotGoOn started.so_far.sessions x.0)
-        → IfErr result (λ x. StopsRun reading judged root old.file.seen (told x.1).file.seen x.0)
-    opened_stops old started (Ok x) is begins stops = tt
-    opened_stops old started (Err x) is begins stops = subst (λ (d : K). StopsRun reading judged root old.file.seen (told d).file.seen x.0) (sym is)
-        (stops_by old.file.seen (told started.journal.disk).file.seen started.so_far x.0 begins stops)
-
     -- the same, from before the file was opened
-    begun_before : (old mid new : DiskTold) (state : S) (offset : ℕ) → IsUnchanged old mid → BegunIn reading judged root under mid new state offset → BegunIn reading judged root under old new state offset
+    pub begun_before : (old mid new : DiskTold) (state : S) (offset : ℕ) → IsUnchanged old mid → BegunIn reading judged root under mid new state offset → BegunIn reading judged root under old new state offset
     begun_before old mid new state offset same b = record {
       replay = b.replay;
       begins = subst (λ (f : FileTold). BeginsBy reading judged root b.replay f.seen new.file.seen) same.file b.begins;

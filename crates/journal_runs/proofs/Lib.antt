@@ -1,2 +1,2 @@
 mod Begun
-mod Ending
+mod Left

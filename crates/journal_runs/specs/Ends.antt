@@ -1,5 +1,5 @@
 -- How a run ends that doesn't begin, or whose entries are not all kept: its status, and what is written.
-use Rattle.std.specs.Prelude.{◌≡◌, ℕ, List, Some, None}
+use Rattle.std.specs.Prelude.{◌≡◌, ℕ, Some, None}
 use Rattle.std.specs.declared.option.Option.{Option}
 use Rattle.outside.specs.Outside.{SinkTold}
 use Rattle.cmis_spec.specs.Repository.{administrator_of}

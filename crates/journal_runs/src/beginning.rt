@@ -39,30 +39,6 @@ fn goes_on<M: Restarts<P>, P: Drop, L: LimitsOf<M::State>>(
     }
 }
 
-// Begins a run over a journal that has begun.
-fn begin_over<K: Disk, M: Restarts<P>, P: Drop, F: EntryCode<M::Call>, L: LimitsOf<M::State>>(
-    alloc: Global,
-    started: Started<K, SoFar<M, P>>,
-    limits: L,
-) -> Result<(M::State, JournalKeeper<K, F>), (KeptStop<P>, K)>
-    requires { L.are limits }
-    ensures state { IfOk result (λ x. x.0 ≡ L.under limits started.so_far.state) }
-    ensures offset { IfOk result (λ x. x.1.offset ≡ started.so_far.sessions) }
-    ensures first { IfOk result (λ x. IsFirst x.1) }
-    ensures stands { IfOk result (λ x. Stands K.tells K.told F.codec x.1 0 []) }
-    ensures stops { IfErr result (λ x. CannotGoOn started.so_far.sessions x.0) }
-    ensures disk { disk_of_run result ≡ started.journal.disk }
-{
-    let Started { journal, so_far } = started;
-    match goes_on::<M, P, L>(alloc, so_far, limits) {
-        Ok((state, offset)) => {
-            let keeper = JournalKeeper::<K, F>::new::<M::Call>(alloc, journal, offset);
-            Ok((state, keeper))
-        }
-        Err(stop) => Err((stop, journal.into_disk())),
-    }
-}
-
 // Begins a run over a disk whose file is open.
 fn begin_opened<
     K: Disk,
@@ -97,7 +73,13 @@ fn begin_opened<
         → Rose (K.told disk).faults (K.told x.1).faults) }
 {
     match begin_journal::<K, M, P, F, R>(alloc, disk, root) {
-        Ok(started) => begin_over::<K, M, P, F, L>(alloc, started, limits),
+        Ok(Started { journal, so_far }) => match goes_on::<M, P, L>(alloc, so_far, limits) {
+            Ok((state, offset)) => {
+                let keeper = JournalKeeper::<K, F>::new::<M::Call>(alloc, journal, offset);
+                Ok((state, keeper))
+            }
+            Err(stop) => Err((stop, journal.into_disk())),
+        },
         Err((stop, disk)) => Err((KeptStop::NotBegun(stop), disk)),
     }
 }

@@ -1,6 +1,5 @@
 //! What is told of a run that doesn't begin, and of one whose entries are not all kept.
-ghost use Rattle.std.specs.Prelude.{◌≡◌, slice_get};
-ghost use Rattle.std.specs.Option.{option_copied};
+ghost use Rattle.std.specs.Prelude.{◌≡◌};
 ghost use Rattle.keep_status.specs.Endings.{Told, administrator};
 ghost use Rattle.cmis_spec.specs.Repository.{administrator_of};
 ghost use Rattle.journal_runs.specs.Ends.{IsUnkept, TellsPeople, TellsNotBegun, TellsStop, TellsLost};
@@ -18,23 +17,13 @@ use std::alloc::Global;
 /// The status where memory is wanted.
 const WANTS_MEMORY: u8 = 7;
 
-// The name of the first user, if there is one.
-fn first_of(names: &[Text]) -> Option<&Text>
-    ensures { option_copied result ≡ slice_get names.now 0 }
-{
-    names.first()
-}
-
 // Tells who is the administrator of the file.
 fn tell_other<O: Sink>(alloc: Global, output: &mut O, kept: &People) -> u8
     ensures { Told 10 (administrator (administrator_of kept.now.names)) (O.told output.old) (O.told output.new) result }
 {
-    match first_of(kept.names().as_slice()) {
-        Some(name) => tell_administrator(output, name),
-        None => {
-            let nobody = Text::empty(alloc);
-            tell_administrator(output, &nobody)
-        }
+    match kept.names().as_slice() {
+        [first, ..] => tell_administrator(output, first),
+        [] => tell_administrator(output, &Text::empty(alloc)),
     }
 }
 

@@ -2,14 +2,13 @@ use Rattle.std.specs.Arc.{arc_value}
 use Rattle.std.proofs.Common.{rules, ◌<◌, ◌≤◌, ◌∙◌, ap, List, Bool, false, get_or, get_or-set_other, arith}
 use Rattle.std.specs.Slots.{slots_items, slots_filled, slots_len}
 use Rattle.desk_lock.proofs.Closing.{ends, never_none, that_one, both_empty}
-use Rattle.desk_lock.specs.Board.{KeepsSince}
 use Rattle.desk_lock.specs.Words.{Since}
 use Rattle.desk_lock.proofs.Putting.{settled_less, keeps_by, settled_by}
 use Rattle.desk_lock.proofs.lock.Lock.close.Goals as goal
 
 pub unreachable-requires : goal.unreachable-requires
 unreachable-requires g c = let p = c.pass.inside in let base = c.self.inside.board.shared.key in
-    never_none (KeepsSince g.K.Keeper.stands g.K.Keeper.went g.K.Keeper.faults) c.args.self c.args.pass c.take-home.result (ends (KeepsSince g.K.Keeper.stands g.K.Keeper.went g.K.Keeper.faults) base c.args.self c.args.pass c.self.inside.board.shared.table_id p.place.table_id (arc_value p.began).opening p.place.id p.place.me.0 _ (slots_items c.close_with-closed.result.slots) c.take-home.result c.self.view_is c.pass.view_is
+    never_none _ c.args.self c.args.pass c.take-home.result (ends _ base c.args.self c.args.pass c.self.inside.board.shared.table_id p.place.table_id (arc_value p.began).opening p.place.id p.place.me.0 _ (slots_items c.close_with-closed.result.slots) c.take-home.result c.self.view_is c.pass.view_is
     c.close_with-closed.ensures.values.2 (search rules) (search rules) c.requires.all c.take-home.ensures.value) c.in_default.is
 
 pub take-home-requires : goal.take-home-requires
@@ -28,18 +27,18 @@ free-requires g c = both_empty (slots_filled c.close_with-closed.result.slots) (
 
 pub returns-clause-closes : goal.returns-clause-closes
 returns-clause-closes g c = let p = c.pass.inside in let base = c.self.inside.board.shared.key in
-    (that_one (KeepsSince g.K.Keeper.stands g.K.Keeper.went g.K.Keeper.faults) c.args.self c.args.pass c.take-home.result c.in-Some.laid (ends (KeepsSince g.K.Keeper.stands g.K.Keeper.went g.K.Keeper.faults) base c.args.self c.args.pass c.self.inside.board.shared.table_id p.place.table_id (arc_value p.began).opening p.place.id p.place.me.0 _ (slots_items c.close_with-closed.result.slots) c.take-home.result c.self.view_is c.pass.view_is
+    (that_one _ c.args.self c.args.pass c.take-home.result c.in-Some.laid (ends _ base c.args.self c.args.pass c.self.inside.board.shared.table_id p.place.table_id (arc_value p.began).opening p.place.id p.place.me.0 _ (slots_items c.close_with-closed.result.slots) c.take-home.result c.self.view_is c.pass.view_is
     c.close_with-closed.ensures.values.2 (search rules) (search rules) c.requires.all c.take-home.ensures.value) c.in-Some.is).0
 
 pub settle_rest-store-requires : goal.settle_rest-store-requires
 settle_rest-store-requires g c = let p = c.pass.inside in let base = c.self.inside.board.shared.key in
-    let e = (that_one (KeepsSince g.K.Keeper.stands g.K.Keeper.went g.K.Keeper.faults) c.args.self c.args.pass c.take-home.result c.in-Some.laid (ends (KeepsSince g.K.Keeper.stands g.K.Keeper.went g.K.Keeper.faults) base c.args.self c.args.pass c.self.inside.board.shared.table_id p.place.table_id (arc_value p.began).opening p.place.id p.place.me.0 _ (slots_items c.close_with-closed.result.slots) c.take-home.result c.self.view_is c.pass.view_is
+    let e = (that_one _ c.args.self c.args.pass c.take-home.result c.in-Some.laid (ends _ base c.args.self c.args.pass c.self.inside.board.shared.table_id p.place.table_id (arc_value p.began).opening p.place.id p.place.me.0 _ (slots_items c.close_with-closed.result.slots) c.take-home.result c.self.view_is c.pass.view_is
     c.close_with-closed.ensures.values.2 (search rules) (search rules) c.requires.all c.take-home.ensures.value) c.in-Some.is).1 in
     record { home = (e.settled, e.begins, e.long, keeps_by g.K.Keeper.stands g.K.Keeper.went g.K.Keeper.faults c.args.self.keeper c.self.inside.first.value c.in-Some.laid.store e.settled (arc_value c.in-Some.laid.version).journal (search rules) e.keeps) }
 
 pub returns-clause-kept : goal.returns-clause-kept
 returns-clause-kept g c = let p = c.pass.inside in let base = c.self.inside.board.shared.key in
-    let e = (that_one (KeepsSince g.K.Keeper.stands g.K.Keeper.went g.K.Keeper.faults) c.args.self c.args.pass c.take-home.result c.in-Some.laid (ends (KeepsSince g.K.Keeper.stands g.K.Keeper.went g.K.Keeper.faults) base c.args.self c.args.pass c.self.inside.board.shared.table_id p.place.table_id (arc_value p.began).opening p.place.id p.place.me.0 _ (slots_items c.close_with-closed.result.slots) c.take-home.result c.self.view_is c.pass.view_is
+    let e = (that_one _ c.args.self c.args.pass c.take-home.result c.in-Some.laid (ends _ base c.args.self c.args.pass c.self.inside.board.shared.table_id p.place.table_id (arc_value p.began).opening p.place.id p.place.me.0 _ (slots_items c.close_with-closed.result.slots) c.take-home.result c.self.view_is c.pass.view_is
     c.close_with-closed.ensures.values.2 (search rules) (search rules) c.requires.all c.take-home.ensures.value) c.in-Some.is).1 in
     let few : c.args.pass.sure ≤ c.in-Some.laid.settled = (let a = e.long in let b = e.enough in omega arith) in
     settled_by g.K.Keeper.stands g.K.Keeper.went c.self.inside.first.value c.args.self.keeper c.settle_rest-store.result (arc_value c.in-Some.laid.version).journal c.args.pass.sure (search rules)
