@@ -38,7 +38,8 @@ where
         (O.told output.old) (I.told input.new) (O.told output.new) result.status
         × OnlyWhereFailed (I.told input.old) (O.told output.old) (I.told input.new) (O.told output.new) result.status) }
     ensures served { IfSome (serve_of (map string_bytes words.now)) (λ asked. MatchOption result.closing
-        (Unserved (H.told host.old) (H.told host.new) result.status × (O.told output.new ≡ O.told output.old))
+        (Unserved asked (H.told host.old) (H.left host.old) (H.told host.new) (H.left host.new) result.status
+        × (O.told output.new ≡ O.told output.old))
         (λ c. ServedAll H.Link.Source.told H.Link.Sink.told asked (C.words clock.old)
         (H.left host.old) c.last c.ended
         × Hosted asked (H.told host.old) (H.left host.old) (H.told host.new) (H.left host.new) (length c.ended) c.end

@@ -1,5 +1,5 @@
 -- The lock begins.
-use Rattle.std.proofs.Common.{◌≡◌, ◌≤◌, ℕ, List, [], ◌∷◌, ◌++◌, sym, refl, ap, ◌∙◌, subst, arith, append-nil, Some}
+use Rattle.std.proofs.Common.{◌≡◌, ◌≤◌, ℕ, List, [], ◌∷◌, ◌++◌, length, sym, refl, ap, ◌∙◌, subst, arith, append-nil, Option, Some, None}
 use mathlib.Core.Option.{some, some-injective, some-ne-none}
 use lib.ListN.{get_elem?}
 use Rattle.std.specs.Arc.{arc_value}
@@ -7,7 +7,10 @@ use Rattle.std_alloc.specs.declared.arc.Arc.{Arc}
 use Rattle.atomic_table.specs.Table.{opening}
 use Rattle.desk_model.specs.Histories.{History}
 use Rattle.desk_lock.specs.Numbers.{Card, Ranks, IsIn, AreApart, numbers, most_passes}
-use Rattle.desk_lock.specs.Board.{Slot, Fits, Kept, card}
+use Rattle.desk_model.specs.declared.entry.Entry.{Entry}
+use Rattle.desk_lock.specs.declared.board.Laid.{Laid}
+use Rattle.desk_lock.specs.declared.board.Store.{Store}
+use Rattle.desk_lock.specs.Board.{Slot, AtHome, Again, Fits, Kept, card}
 use Rattle.desk_lock.specs.Seats.{beginner}
 
 one_is_few : 1 ≤ most_passes
@@ -32,23 +35,32 @@ module _ {S C : Type 0} where
     ended = λ j k c x at there. let o = only (card (beginner t)) c j at in absurd (some-ne-none x (sym (subst (λ (z : Card C). get_elem? z.ended k ≡ some x) (sym o.1) there)));
   }
 
-module _ {S C A : Type 0} where
-  pub begins : (t : History S C) (a b : Arc (History S C) A) → arc_value a ≡ t → arc_value b ≡ t → Kept t (opening (0 ∷ 0 ∷ 0 ∷ 0 ∷ []) (Some a ∷ Some b ∷ []) (beginner t))
-  begins t a b is also = record {
+module _ {S C A K : Type 0} (stands : Store K → List (Entry C) → List (Entry C) → Type 0) where
+  pub begins : (t : History S C) (a b : Laid (Arc (History S C) A) K) → arc_value a.version ≡ t → arc_value b.version ≡ t → stands a.store t.journal t.journal → a.settled ≡ length t.journal → a.again ≡ None → Kept stands t (opening (0 ∷ 0 ∷ 0 ∷ 0 ∷ 0 ∷ []) (Some a ∷ Some b ∷ []) (beginner t))
+  begins t a b is also kept long alone = record {
     now = record { news = []; shelved = []; owed = []; turn = 0; holder = 0; shelf = 0; shower = 0 };
     words = record { wide = refl; count = refl; turn = refl; shelf = refl; shelf_number = refl };
     level = refl;
     slots = record {
-      home = λ _. (a, refl, ap (λ (z : History S C). z.opening) is, ap (λ (z : History S C). z.journal) is ∙ sym (append-nil t.journal));
-      owes = λ _. refl;
+      home = λ _. (
+        a,
+        refl,
+        ap (λ (z : History S C). z.opening) is,
+        ap (λ (z : History S C). z.journal) is ∙ sym (append-nil t.journal),
+        subst (AtHome stands a) (sym (append-nil t.journal)) record {
+          keeps = subst (stands a.store t.journal) (sym (ap (λ (z : History S C). z.journal) is)) kept;
+          settled = long;
+          again = subst (λ (o : Option (Arc (History S C) A)). Again (arc_value a.version) t.journal o) (sym alone) (ap (λ (z : History S C). z.journal) is);
+        },
+      );
       stand = λ _. (b, refl, ap (λ (z : History S C). z.opening) also, ap (λ (z : History S C). z.journal) also ∙ sym (append-nil t.journal));
     };
     manned = record { turn = λ ne. absurd (ne refl); shelf = λ ne. absurd (ne refl) };
     each = λ j v at. let o = only (beginner t) v j at in subst (Fits t record { news = []; shelved = []; owed = []; turn = 0; holder = 0; shelf = 0; shower = 0 } j) o.1
-        record { origin = λ _. refl; start = λ _. refl; seen = ([], refl); told = (t.journal ++ [], refl); own = λ _. refl; turn = tt; shelf = tt };
+        record { origin = λ _. refl; start = λ _. refl; seen = ([], refl); told = (t.journal ++ [], refl); sure = omega arith; told_sure = omega arith; own = λ _. refl; turn = tt; shelf = tt };
     serials = λ n. tt;
     ranks = begun_ranks t;
   }
 
-  pub begins_so : (t : History S C) (a b : Arc (History S C) A) (xs : List (Slot S C A)) → arc_value a ≡ t → arc_value b ≡ t → xs ≡ Some a ∷ Some b ∷ [] → Kept t (opening (0 ∷ 0 ∷ 0 ∷ 0 ∷ []) xs (beginner t))
-  begins_so t a b xs is also two = subst (λ (z : List (Slot S C A)). Kept t (opening (0 ∷ 0 ∷ 0 ∷ 0 ∷ []) z (beginner t))) (sym two) (begins t a b is also)
+  pub begins_so : (t : History S C) (a b : Laid (Arc (History S C) A) K) (xs : List (Slot S C A K)) → arc_value a.version ≡ t → arc_value b.version ≡ t → stands a.store t.journal t.journal → a.settled ≡ length t.journal → a.again ≡ None → xs ≡ Some a ∷ Some b ∷ [] → Kept stands t (opening (0 ∷ 0 ∷ 0 ∷ 0 ∷ 0 ∷ []) xs (beginner t))
+  begins_so t a b xs is also kept long alone two = subst (λ (z : List (Slot S C A K)). Kept stands t (opening (0 ∷ 0 ∷ 0 ∷ 0 ∷ 0 ∷ []) z (beginner t))) (sym two) (begins t a b is also kept long alone)

@@ -9,7 +9,7 @@ use Rattle.desk_model.specs.Desks.{with_seen, with_entry}
 use Rattle.desk_lock.specs.declared.board.View.{View}
 use Rattle.desk_lock.specs.Numbers.{by, most_passes}
 use Rattle.desk_lock.specs.Seats.{longer}
-use Rattle.desk_lock.specs.Words.{LockView, PassView, IsOf, place_of, knowing, made_by, first_pass}
+use Rattle.desk_lock.specs.Words.{LockView, PassView, IsOf, place_of, knowing, with_sure, made_by, first_pass}
 use Rattle.desk_lock.proofs.Lists.{by_mine, counts_more, below_append}
 
 -- tables with one place are one table
@@ -19,13 +19,17 @@ same_table y z e i = record { words = get_or (e i) 0 0; slots = get_or (e i) 1 0
 module _ {S C : Type 0} where
   -- the pass of a seat
   abbrev pub seat_pass : TableId → S → View S C → PassView S C
-  seat_pass z o v = record { table = z; known = record { opening = o; base = v.start; session = v.number; seen = v.seen; own = v.own }; made = v.made; ended = v.ended }
+  seat_pass z o v = record { table = z; known = record { opening = o; base = v.start; session = v.number; seen = v.seen; own = v.own }; sure = v.sure; made = v.made; ended = v.ended }
 
 module _ {S C A X : Type 0} (next : S → Entry C → std.Result (S × A) X) where
   -- a pass that has seen a legal journal with the same own entries
   pub sees : (l : LockView S C) (p : PassView S C) (g : List (Entry C)) → IsOf next l p → IsLegal next p.known.opening g → p.known.base ≤ length g → own p.known.base p.known.session g ≡ p.known.own
       → SessionsBelow most_passes (drop p.known.base g) → IsOf next l (knowing p (with_seen p.known g))
   sees l p g of legal begun mine below = record { table = of.table; opening = of.opening; base = of.base; below = below; sound = record { lawful = legal; begun = begun; mine = mine; serials = of.sound.serials } }
+
+  -- how much a pass is sure of is no matter
+  pub surely : (l : LockView S C) (p : PassView S C) (n : ℕ) → IsOf next l p → IsOf next l (with_sure p n)
+  surely l p n of = record { table = of.table; opening = of.opening; base = of.base; below = of.below; sound = of.sound }
 
   -- a pass with one more entry of its own
   pub adds : (l : LockView S C) (p : PassView S C) (g : List (Entry C)) (e : Entry C) → IsOf next l p → IsLegal next p.known.opening (g ++ e ∷ []) → p.known.base ≤ length g → own p.known.base p.known.session g ≡ p.known.own

@@ -9,7 +9,9 @@ use Rattle.desk_model.specs.declared.entry.Entry.{Entry}
 use Rattle.desk_model.specs.Histories.{History, IsLegal, replay, grown, shown_by, state_of}
 use Rattle.desk_model.specs.Desks.{with_seen, with_entry, entry_of, Wrote}
 use Rattle.desk_lock.specs.declared.board.View.{View}
+use Rattle.desk_lock.specs.declared.board.Turn.{Turn}
 use Rattle.desk_lock.specs.declared.board.Turn.TheVariants.{NoTurn}
+use Rattle.desk_lock.specs.Board.{Slot}
 use Rattle.desk_lock.specs.Numbers.{by}
 use Rattle.desk_lock.specs.Steps.{Sat, Follows, IsOpen}
 use Rattle.desk_lock.specs.Words.{LockView, PassView, IsOf, knowing}
@@ -84,15 +86,21 @@ module _ {S C A X : Type 0} (next : S → Entry C → std.Result (S × A) X) whe
   pub fits : (l : LockView S C) (q : PassView S C) (t : History S C) (e : Entry C) (p : PassView S C) (n : History S C) (mine len : ℕ) → Added l q t e p → mine ≡ length q.known.own → n.journal ≡ t.journal ++ e ∷ [] → len ≡ length n.journal → len < 2 ^ 64 → mine + 1 < 2 ^ 64
   fits l q t e p n mine len a is journal whole small = let more = ap length journal ∙ length-append t.journal (e ∷ []) in let f = a.few in omega arith
 
-module _ {S C A X B : Type 0} (next : S → Entry C → std.Result (S × A) X) (number : S → ℕ) where
+module _ {S C B K : Type 0} where
+  -- the turn was given back after a commit
+  pub left_so : (m1 mc m2 : Sat S C B K) (j o : List (Entry C)) (t : Turn C) (c : List (ℕ × Slot S C B K)) → mc ≡ (record m1.0 { seen = j; told = []; told_sure = 0; own = o; turn = t }, c) → m2 ≡ (record mc.0 { turn = NoTurn }, [])
+      → m2.0 ≡ record m1.0 { seen = j; told = []; told_sure = 0; own = o; turn = NoTurn }
+  left_so m1 mc m2 j o t c one two = ap (λ (x : Sat S C B K). x.0) two ∙ ap (λ (x : Sat S C B K). record x.0 { turn = NoTurn }) one
+
+module _ {S C A X B K : Type 0} (next : S → Entry C → std.Result (S × A) X) (number : S → ℕ) where
   -- an accepted write, by what its steps told
-  pub writes : (l : LockView S C) (q : PassView S C) (z zz : TableId) (o : S) (m m1 m2 : Sat S C B) (t n : History S C) (k s : ℕ) (us user : List ℕ) (moment : Moment) (call : C) (least num : ℕ) (shown : A)
-      → seat_pass z o m.0 ≡ q → IsOf next l q → m.0.origin ≡ Some o → IsOpen m t m1 → IsLegal next n.opening n.journal → k ≡ m.0.number → s ≡ length m.0.own → us ≡ user
+  pub writes : (l : LockView S C) (q : PassView S C) (z zz : TableId) (o : S) (m m1 m2 : Sat S C B K) (t : History S C) (g : List (Entry C)) (n : History S C) (k s : ℕ) (us user : List ℕ) (moment : Moment) (call : C) (least num : ℕ) (shown : A)
+      → seat_pass z o m.0 ≡ q → IsOf next l q → m.0.origin ≡ Some o → IsOpen m t g m1 → IsLegal next n.opening n.journal → k ≡ m.0.number → s ≡ length m.0.own → us ≡ user
       → n ≡ grown t record { session = k; serial = s; user = us; moment = moment; call = call }
-      → m2.0 ≡ record m1.0 { seen = n.journal; told = []; own = by m1.0.number (drop m1.0.start n.journal); turn = NoTurn } → zz ≡ z
+      → m2.0 ≡ record m1.0 { seen = n.journal; told = []; told_sure = 0; own = by m1.0.number (drop m1.0.start n.journal); turn = NoTurn } → zz ≡ z
       → num ≡ number (state_of next t) → least ≤ num → shown_by (next (state_of next t) record { session = k; serial = s; user = us; moment = moment; call = call }) ≡ std.Ok shown
       → Added next l q t (entry_of q.known user moment call) (seat_pass zz o m2.0) × Wrote next number q.known least user moment call (std.Ok shown) (seat_pass zz o m2.0).known
-  writes l q z zz o m m1 m2 t n k s us user moment call least num shown is of origin had legal session serial copied new left table counts judged told =
+  writes l q z zz o m m1 m2 t g n k s us user moment call least num shown is of origin had legal session serial copied new left table counts judged told =
       let e : Entry C = record { session = k; serial = s; user = us; moment = moment; call = call } in
       let same : e ≡ entry_of (seat_pass z o m.0).known user moment call = λ i. record { session = session i; serial = serial i; user = copied i; moment = moment; call = call } in
       let whole : e ≡ entry_of q.known user moment call = same ∙ ap (λ (p : PassView S C). entry_of p.known user moment call) is in

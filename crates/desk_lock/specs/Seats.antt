@@ -1,5 +1,5 @@
 -- Views of seats that are made, split and joined.
-use Rattle.std.specs.Prelude.{◌≡◌, ◌+◌, nat_lt, if◌then◌else◌, List, [], ◌∷◌, ◌++◌, length, Some, None}
+use Rattle.std.specs.Prelude.{◌≡◌, ℕ, ◌+◌, nat_lt, if◌then◌else◌, List, [], ◌∷◌, ◌++◌, length, Some, None}
 use Rattle.desk_model.specs.Histories.{History}
 use Rattle.desk_lock.specs.declared.board.View.{View}
 use Rattle.desk_lock.specs.declared.board.Turn.TheVariants.{NoTurn}
@@ -9,6 +9,10 @@ use Rattle.desk_lock.specs.declared.board.Hold.TheVariants.{NoShelf}
 abbrev pub longer : {X : Type 0} → List X → List X → List X
 longer a b = if nat_lt (length a) (length b) then b else a
 
+-- the greater of two numbers
+abbrev pub greater : ℕ → ℕ → ℕ
+greater m n = if nat_lt m n then n else m
+
 module _ {S C : Type 0} where
   -- the seat has neither the turn nor the shelf
   abbrev pub IsIdle : View S C → Type 0
@@ -16,11 +20,11 @@ module _ {S C : Type 0} where
 
   -- the first pass of a lock that begins with the version t
   abbrev pub beginner : History S C → View S C
-  beginner t = record { origin = Some t.opening; start = length t.journal; live = 1; number = 0; made = 1; seen = t.journal; told = []; own = []; ended = []; turn = NoTurn; shelf = NoShelf }
+  beginner t = record { origin = Some t.opening; start = length t.journal; live = 1; number = 0; made = 1; seen = t.journal; sure = length t.journal; told = []; told_sure = 0; own = []; ended = []; turn = NoTurn; shelf = NoShelf }
 
   -- a seat that was joined into another
   abbrev pub blank : View S C
-  blank = record { origin = None; start = 0; live = 0; number = 0; made = 0; seen = []; told = []; own = []; ended = []; turn = NoTurn; shelf = NoShelf }
+  blank = record { origin = None; start = 0; live = 0; number = 0; made = 0; seen = []; sure = 0; told = []; told_sure = 0; own = []; ended = []; turn = NoTurn; shelf = NoShelf }
 
   -- the first pass, after it has made another
   abbrev pub parent : View S C → View S C
@@ -28,16 +32,16 @@ module _ {S C : Type 0} where
 
   -- the pass that it makes
   abbrev pub child : View S C → View S C
-  child v = record { origin = v.origin; start = v.start; live = 1; number = v.made; made = 0; seen = v.seen; told = []; own = []; ended = []; turn = NoTurn; shelf = NoShelf }
+  child v = record { origin = v.origin; start = v.start; live = 1; number = v.made; made = 0; seen = v.seen; sure = v.sure; told = []; told_sure = 0; own = []; ended = []; turn = NoTurn; shelf = NoShelf }
 
   -- a helper, which only carries what was seen
   abbrev pub helper : View S C → View S C
-  helper v = record { origin = None; start = 0; live = 0; number = 0; made = 0; seen = v.seen; told = []; own = []; ended = []; turn = NoTurn; shelf = NoShelf }
+  helper v = record { origin = None; start = 0; live = 0; number = 0; made = 0; seen = v.seen; sure = v.sure; told = []; told_sure = 0; own = []; ended = []; turn = NoTurn; shelf = NoShelf }
 
   -- a seat that is told what another has seen
   abbrev pub told_by : View S C → View S C → View S C
-  told_by v w = record v { told = w.seen }
+  told_by v w = record v { told = w.seen; told_sure = w.sure }
 
   -- a seat that takes in an ended pass
   abbrev pub took_in : View S C → View S C → View S C
-  took_in v w = record v { told = w.seen; ended = v.ended ++ (w.number, w.own) ∷ w.ended }
+  took_in v w = record v { told = w.seen; told_sure = w.sure; ended = v.ended ++ (w.number, w.own) ∷ w.ended }

@@ -1,4 +1,5 @@
 mod Lists
+mod Settling
 mod Noting
 mod Ending
 mod Taking

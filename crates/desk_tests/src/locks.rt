@@ -5,7 +5,7 @@ ghost use Rattle.desk_lock.specs.Words.{IsOf};
 
 use cm_base::text::Text;
 use desk_lock::{Lock, Pass};
-use desk_model::{Entry, Halt, Machine, Version};
+use desk_model::{Entry, Halt, Machine, Nowhere, Version};
 use outside::FixedClock;
 use std::alloc::{AllocError, Global};
 use std::sync::atomic::AtomicU64;
@@ -94,16 +94,16 @@ impl Machine for Slow {
     }
 }
 
-type SlowLock = Lock<Slow, FixedClock>;
+type SlowLock = Lock<Slow, FixedClock, Nowhere>;
 
 // Writes once.
 fn write_once<R: Wait>(
     rt: &R,
     alloc: Global,
     lock: &SlowLock,
-    mut pass: Pass<Slow>,
+    mut pass: Pass<Slow, Nowhere>,
     flags: &Flags,
-) -> Pass<Slow>
+) -> Pass<Slow, Nowhere>
     requires { IsOf count_step lock.now pass }
     ensures is_of { IsOf count_step lock.now result }
     ensures made { (result.made ≡ pass.made) × (result.ended ≡ pass.ended) }
@@ -117,7 +117,12 @@ fn write_once<R: Wait>(
 }
 
 // Looks once a step has begun, and then lets it end.
-fn look_once<R: Wait>(rt: &R, lock: &SlowLock, mut pass: Pass<Slow>, flags: &Flags) -> Pass<Slow>
+fn look_once<R: Wait>(
+    rt: &R,
+    lock: &SlowLock,
+    mut pass: Pass<Slow, Nowhere>,
+    flags: &Flags,
+) -> Pass<Slow, Nowhere>
     requires { IsOf count_step lock.now pass }
     ensures is_of { IsOf count_step lock.now result }
     ensures made { (result.made ≡ pass.made) × (result.ended ≡ pass.ended) }
@@ -135,24 +140,24 @@ fn beside<R: Threads + Wait + Sync>(rt: &R, alloc: Global) -> Result<(u64, u64),
         may_end: Arc::new(alloc, AtomicU64::new(0))?,
     };
     let version = Version::opening(alloc, 0)?;
-    let (lock, mut first) = SlowLock::begin(alloc, version, FixedClock::new(5))?;
+    let (lock, mut first) = SlowLock::begin(alloc, version, FixedClock::new(5), Nowhere, false)?;
     let Ok(second) = lock.split(&mut first) else {
         return Err(AllocError);
     };
     let (mut first, second) = join(
         rt,
-        || -> Pass<Slow>
+        || -> Pass<Slow, Nowhere>
             requires { IsOf count_step lock first }
             ensures { IsOf count_step lock result × (result.made ≡ first.made) × (result.ended ≡ first.ended) }
         { write_once(rt, alloc, &lock, first, &flags) },
-        || -> Pass<Slow>
+        || -> Pass<Slow, Nowhere>
             requires { IsOf count_step lock second }
             ensures { IsOf count_step lock result × (result.made ≡ second.made) × (result.ended ≡ second.ended) }
         { look_once(rt, &lock, second, &flags) },
     );
     let seen = second.seen();
     lock.retire(&mut first, second);
-    let (snapshot, _clock) = lock.close(first);
+    let (snapshot, _clock, _store) = lock.close(first);
     Ok((seen, snapshot.len()))
 }
 
@@ -168,7 +173,7 @@ fn look_beside_write(rt: HostRuntime) -> Result<(), Fail> {
 // Two passes of one thread: one writes, and the other hears of it.
 fn heard<R: Wait>(rt: &R, alloc: Global) -> Result<(u64, u32), AllocError> {
     let version = Version::opening(alloc, 0)?;
-    let (lock, mut first) = SlowLock::begin(alloc, version, FixedClock::new(5))?;
+    let (lock, mut first) = SlowLock::begin(alloc, version, FixedClock::new(5), Nowhere, false)?;
     let Ok(mut second) = lock.split(&mut first) else {
         return Err(AllocError);
     };

@@ -1,6 +1,7 @@
-use Rattle.std.proofs.Common.{rules}
+use Rattle.std.proofs.Common.{rules, None}
+use Rattle.desk_lock.specs.declared.board.Store.TheVariants.{Absent, Whole}
 use Rattle.desk_lock.proofs.Beginning.{begins_so}
 use Rattle.desk_lock.proofs.lock.Lock.begin.Goals as goal
 
 pub new-requires-2 : goal.new-requires-2
-new-requires-2 g c = begins_so c.of-about.result.value c.in_ok-try_clone.field-0 c.in_ok-try_clone-2.field-0 c.push-2.new.self.items (search rules) (search rules) (search rules)
+new-requires-2 g c = begins_so _ c.of-about.result.value (record { version = c.in_ok-try_clone.field-0; again = None; settled = c.len-len.result; store = Whole c.args.keeper }) (record { version = c.in_ok-try_clone-2.field-0; again = None; settled = 0; store = Absent }) c.push-2.new.self.items (search rules) (search rules) (search rules) (search rules) (search rules) (search rules)
