@@ -6,5 +6,6 @@ ghost use Rattle.std.specs.Prelude.{◌≡◌};
 pub mod calls;
 pub mod law;
 pub mod repository_machine;
+pub mod restarts;
 pub mod served;
 pub mod server_machine;

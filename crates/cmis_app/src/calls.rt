@@ -5,7 +5,7 @@ use crate::alike::replies_of_seen;
 use crate::folders::Folders;
 use cm_repo::repository_machine::RepositoryMachine;
 use cm_repo::server_machine::ServerMachine;
-use cmis_runs::Program;
+use cmis_program::Program;
 
 /// The repository with all its calls.
 pub struct Calls;

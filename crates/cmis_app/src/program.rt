@@ -5,7 +5,8 @@ ghost use Rattle.cm_repo.specs.ServerMachine.{shown_step};
 ghost use Rattle.cmis_words.specs.Serving.{serve_of};
 ghost use Rattle.cmis_app.specs.Many.{ServedAll};
 ghost use Rattle.cmis_app.specs.Once.{RunsOnce};
-ghost use Rattle.cmis_runs.specs.Many.{Hosted, Unserved};
+ghost use Rattle.cmis_program.specs.Hosting.{Hosted};
+ghost use Rattle.cmis_runs.specs.Many.{Unserved};
 ghost use Rattle.run_status.specs.Status.{OnlyWhereFailed, Summed, summary};
 
 use crate::calls::Calls;
@@ -38,7 +39,8 @@ where
         (O.told output.old) (I.told input.new) (O.told output.new) result.status
         × OnlyWhereFailed (I.told input.old) (O.told output.old) (I.told input.new) (O.told output.new) result.status) }
     ensures served { IfSome (serve_of (map string_bytes words.now)) (λ asked. MatchOption result.closing
-        (Unserved (H.told host.old) (H.told host.new) result.status × (O.told output.new ≡ O.told output.old))
+        (Unserved asked (H.told host.old) (H.left host.old) (H.told host.new) (H.left host.new) result.status
+        × (O.told output.new ≡ O.told output.old))
         (λ c. ServedAll H.Link.Source.told H.Link.Sink.told asked (C.words clock.old)
         (H.left host.old) c.last c.ended
         × Hosted asked (H.told host.old) (H.left host.old) (H.told host.new) (H.left host.new) (length c.ended) c.end

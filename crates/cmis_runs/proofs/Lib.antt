@@ -1,3 +1,4 @@
+pub mod AllKept
 pub mod Asked
 pub mod Failed
 pub mod Moments

@@ -1,7 +1,6 @@
--- A moment within the bounds is that of its number as a clock's word, and the moment of a word is that of the clock's first.
-use Rattle.std.specs.Prelude.{◌≡◌, ◌≤◌, ℕ, pos, Option, Some, None, IfSome}
-use Rattle.std.proofs.Common.{sym, ap, ◌∙◌}
-use Rattle.outside.specs.Clocks.{Words, first_word, rest_words}
+-- A moment within the bounds is that of its number as a clock's word.
+use Rattle.std.specs.Prelude.{◌≡◌, ◌≤◌, ℕ, pos}
+use Rattle.std.proofs.Common.{sym, ap}
 use Rattle.desk_model.specs.Clocks.{moment_of}
 use Rattle.std.proofs.Math.Nat.{min-eq_left}
 use Rattle.std.specs.Prelude.{unsigned_abs}
@@ -14,8 +13,3 @@ of_word n h = ap (λ k. record { 0 = pos k }) (min-eq_left {n = n} {m = last_mom
 
 pub is_of_word : (m : Moment) → IsMoment m → m ≡ moment_of (unsigned_abs m.0)
 is_of_word m h = rw h.2 (sym (of_word h.0 h.1))
-
-pub of_first_word : (o after : Option Words) (word : ℕ) (root : Moment) → root ≡ moment_of word
-    → IfSome o (λ w. (word ≡ first_word w) × (after ≡ Some (rest_words w))) → IfSome o (λ w. root ≡ moment_of (first_word w))
-of_first_word None after word root e h = tt
-of_first_word (Some w) after word root e h = e ∙ ap moment_of h.0

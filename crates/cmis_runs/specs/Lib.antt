@@ -1,5 +1,3 @@
-pub mod Alike
-pub mod Kinds
 pub mod Loads
 pub mod Many
 pub mod Once

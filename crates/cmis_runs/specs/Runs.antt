@@ -15,7 +15,7 @@ use Rattle.talk.specs.Served.{Kind}
 use Rattle.run_status.specs.Status.{status_of, Refused, Unbegun}
 use Rattle.cmis_words.specs.declared.words.Words.{Words as Asked}
 use Rattle.cmis_words.specs.declared.words.Words.TheVariants.{Pipe}
-use Rattle.cmis_runs.specs.Alike.{RepliesOfSeen}
+use Rattle.cmis_program.specs.Alike.{RepliesOfSeen}
 use Rattle.cmis_runs.specs.Starts.{start_at}
 
 -- A session over this opening and a clock with these words, with nobody beside it; the session takes no other words of the clock than its turns need, and leaves these.

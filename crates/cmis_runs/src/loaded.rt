@@ -1,12 +1,12 @@
 //! A load.
 ghost use Rattle.std.specs.Prelude.{◌≡◌, ◌≤◌, string_bytes, IfOk};
 ghost use Rattle.cmis_spec.specs.Repository.{Repository};
-ghost use Rattle.cmis_runs.specs.Kinds.{kind_of};
+ghost use Rattle.cmis_program.specs.Kinds.{kind_of};
 ghost use Rattle.cmis_runs.specs.Loads.{IsMade, IsWritten, Loaded, summary};
 
 use crate::made::made;
-use crate::program::Program;
 use crate::summary::summary;
+use cmis_program::Program;
 use http_reply::send;
 use outside::Sink;
 use std::alloc::{AllocError, Global};

@@ -1,15 +1,15 @@
 //! The repository that the requests of a load make.
 ghost use Rattle.std.specs.Prelude.{◌≡◌, ◌≤◌, IfOk};
 ghost use Rattle.load_sessions.specs.Sessions.{Leads};
-ghost use Rattle.cmis_runs.specs.Kinds.{kind_of};
+ghost use Rattle.cmis_program.specs.Kinds.{kind_of};
 ghost use Rattle.cmis_runs.specs.Loads.{beginning, IsMade, the_users};
 
-use crate::program::Program;
 use crate::start::open_at;
 use cm_base::number::Moment;
 use cm_base::text::Text;
 use cm_base::user::{Groups, User, Users};
 use cm_state::state::State;
+use cmis_program::Program;
 use load_sessions::{numbers_in, run_session, sessions_of};
 use std::alloc::{AllocError, Global};
 

@@ -3,15 +3,15 @@ ghost use Rattle.std.specs.Prelude.{◌≡◌, length, map, IfOk, OnErr};
 ghost use Rattle.cm_base.specs.Limits.{AreLimits};
 ghost use Rattle.cmis_spec.specs.Well.{HasGroups};
 ghost use Rattle.desk_serve.specs.Sessions.{Taken, EndsFor};
-ghost use Rattle.cmis_runs.specs.Kinds.{kind_of};
+ghost use Rattle.cmis_program.specs.Kinds.{kind_of};
 ghost use Rattle.cmis_runs.specs.Many.{ServedAll};
 
-use crate::program::Program;
 use cm_base::limits::Start;
 use cm_opening::open::open;
+use cmis_program::Program;
 use cmis_words::serve::Serve;
-use desk_model::{Machine, moment_of_word};
-use desk_serve::Closing;
+use desk_model::{Machine, Nowhere, moment_of_word};
+use desk_serve::{Closing, nowhere_keeps_all};
 use outside::{Clock, Gate, Host};
 use std::alloc::{AllocError, Global};
 use std::sync::Wait;
@@ -25,7 +25,7 @@ pub fn serve<P: Program, H: Host, C: Clock + Send, G: Gate + Sync, R: Threads + 
     host: &mut H,
     clock: &mut C,
     gate: &G,
-) -> Result<Closing<P::Face, H::Link>, AllocError>
+) -> Result<Closing<P::Face, H::Link, Nowhere>, AllocError>
 where
     P::Face: Send + Sync,
     <P::Face as Machine>::State: Send + Sync,
@@ -53,8 +53,9 @@ where
     };
     let opening = open(alloc, &users, asked.groups, start)?;
     P::replies_of_seen();
+    nowhere_keeps_all();
     let _step = opening.step();
-    match desk_serve::serve::<P::Face, H, &mut C, G, R>(
+    match desk_serve::serve::<P::Face, H, &mut C, Nowhere, G, R>(
         rt,
         alloc,
         opening,
@@ -63,6 +64,8 @@ where
         asked.workers,
         host,
         gate,
+        Nowhere,
+        false,
     ) {
         Ok(closing) => Ok(closing),
         Err(failed) => Err(failed),

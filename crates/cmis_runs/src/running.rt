@@ -4,17 +4,18 @@ ghost use Rattle.cm_base.specs.Limits.{AreLimits};
 ghost use Rattle.cmis_spec.specs.Well.{HasGroups};
 ghost use Rattle.desk_model.specs.Histories.{state_of};
 ghost use Rattle.cmis_words.specs.Serving.{serve_of};
-ghost use Rattle.cmis_runs.specs.Kinds.{kind_of, rules_of};
+ghost use Rattle.cmis_program.specs.Kinds.{kind_of, rules_of};
 ghost use Rattle.cmis_runs.specs.Once.{RunsOnce};
 ghost use Rattle.run_status.specs.Status.{OnlyWhereFailed, Summed, summary};
-ghost use Rattle.cmis_runs.specs.Many.{ServedAll, Hosted, Unserved};
+ghost use Rattle.cmis_program.specs.Hosting.{Hosted};
+ghost use Rattle.cmis_runs.specs.Many.{ServedAll, Unserved};
 
 use crate::many::serve;
 use crate::once::run_once;
-use crate::program::Program;
+use cmis_program::Program;
 use cmis_words::serve::{Serve, read_serve};
 use cmis_words::words::WordsStop;
-use desk_model::Machine;
+use desk_model::{Machine, Nowhere};
 use desk_serve::Closing;
 use outside::{Clock, Gate, Host, Link, Sink, Source};
 use run_status::sum_up;
@@ -32,7 +33,7 @@ const HOST_FAILED: u8 = 5;
 #[derive(Drop)]
 pub struct Ran<M: Machine, L> {
     pub status: u8,
-    pub closing: Option<Closing<M, L>>,
+    pub closing: Option<Closing<M, L, Nowhere>>,
 }
 
 // Serves many connections.
@@ -60,8 +61,8 @@ where
     H::Link: Send,
     requires groups { HasGroups (map (λ u. u.name) asked.users) asked.groups }
     requires limits { AreLimits asked.limits }
-    ensures served { MatchOption result.closing (Unserved (H.told host.old) (H.told host.new) result.status
-        × (O.told output.new ≡ O.told output.old))
+    ensures served { MatchOption result.closing (Unserved asked (H.told host.old) (H.left host.old)
+        (H.told host.new) (H.left host.new) result.status × (O.told output.new ≡ O.told output.old))
         (λ c. ServedAll
         (kind_of P.Face.next P.Face.answer P.Face.number P.Face.call P.Face.user P.Face.least P.Face.closes)
         H.Link.Source.told H.Link.Sink.told asked (C.words clock.old)
@@ -134,7 +135,8 @@ where
         (O.told output.old) (I.told input.new) (O.told output.new) result.status
         × OnlyWhereFailed (I.told input.old) (O.told output.old) (I.told input.new) (O.told output.new) result.status) }
     ensures served { IfSome (serve_of (map string_bytes words.now)) (λ asked. MatchOption result.closing
-        (Unserved (H.told host.old) (H.told host.new) result.status × (O.told output.new ≡ O.told output.old))
+        (Unserved asked (H.told host.old) (H.left host.old) (H.told host.new) (H.left host.new) result.status
+        × (O.told output.new ≡ O.told output.old))
         (λ c. ServedAll
         (kind_of P.Face.next P.Face.answer P.Face.number P.Face.call P.Face.user P.Face.least P.Face.closes)
         H.Link.Source.told H.Link.Sink.told asked (C.words clock.old)

@@ -1,12 +1,12 @@
 //! A schedule: a script whose sessions take turns over a repository in memory.
 ghost use Rattle.std.specs.Prelude.{◌≡◌, IfOk};
-ghost use Rattle.cmis_runs.specs.Kinds.{rules_of};
+ghost use Rattle.cmis_program.specs.Kinds.{rules_of};
 ghost use Rattle.cmis_runs.specs.Loads.{beginning};
 ghost use Rattle.cmis_runs.specs.Schedules.{Schedules, status_at};
 
 use crate::made::{beginning, users};
-use crate::program::Program;
 use cm_state::state::State;
+use cmis_program::Program;
 use outside::{Sink, Source};
 use schedule_run::{End, run_script};
 use std::alloc::{AllocError, Global};

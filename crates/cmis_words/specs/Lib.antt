@@ -1,5 +1,6 @@
 pub mod Bounds
 pub mod GroupLists
+pub mod Keeping
 pub mod Limiting
 pub mod Options
 pub mod Programs

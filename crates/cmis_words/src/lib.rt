@@ -4,6 +4,7 @@
 ghost use Rattle.std.specs.Prelude.{◌≡◌};
 
 pub mod groups;
+pub mod kept;
 pub mod laws;
 mod limits;
 pub mod load;

@@ -1,16 +1,21 @@
 //! The program: it makes the real objects, calls the top call and ends with its status.
 #![tactic(auto)]
 
-use cmis_app::run;
-use cmis_runs::Ran;
-use outside::OpenGate;
-use real_edge::{StdSink, StdSource, SystemClock, TcpHost};
+use cmis_app::{run, run_kept};
+use disk::Disk;
+use file_disk::FileDisk;
+use journal_runs::Explains;
+use outside::{Clock, Host, OpenGate, Sink};
+use real_edge::{Alarm, StdSink, StdSource, SystemClock, TcpHost};
 use run_status::refuse;
 use std::alloc::{AllocError, Global};
 use std::io::ErrorKind;
 use std::process::ExitCode;
 use std::rt::Files;
+use std::sync::Wait;
+use std::thread::Threads;
 use std::{env, io};
+use watched_disk::WatchedDisk;
 use word_files::SystemFiles;
 use word_files::expand::expanded;
 use word_files::files::read_texts;
@@ -68,28 +73,84 @@ fn all_words(rt: &HostRuntime, alloc: Global) -> Result<Vec<String>, Unread> {
     }
 }
 
+// Says why there are no words to run, and answers the status.
+fn refused<O: Sink>(alloc: Global, output: &mut O, unread: Unread) -> u8 {
+    match unread {
+        Unread::Files(stop) => refuse_files(alloc, output, stop),
+        Unread::NotText => refuse(output),
+        Unread::Memory => 7,
+    }
+}
+
+// Runs these words where they keep a file, and answers the status. `None`: these are other words.
+fn kept<
+    K: Disk + Explains + Drop + Send,
+    O: Sink,
+    H: Host,
+    C: Clock + Send,
+    R: Threads + Wait + Sync,
+>(
+    rt: &R,
+    alloc: Global,
+    words: &[String],
+    disk: K,
+    output: &mut O,
+    host: &mut H,
+    clock: &mut C,
+) -> Option<u8>
+where
+    H::Link: Send,
+{
+    match run_kept(rt, alloc, words, disk, output, host, clock, &OpenGate) {
+        Some(ran) => {
+            let cmis_kept::Ran {
+                status,
+                disk: _,
+                over: _,
+            } = ran;
+            Some(status)
+        }
+        None => None,
+    }
+}
+
 fn main(rt: HostRuntime) -> ExitCode {
     let alloc = rt.alloc();
     let mut output = StdSink::new(rt.stdout());
     match all_words(&rt, alloc) {
         Ok(words) => {
             let mut input = StdSource::new(rt.stdin());
+            let alarm = Alarm::new();
+            let mut heeding = TcpHost::heeding(&rt, &alarm);
             let mut host = TcpHost::new(&rt);
             let mut clock = SystemClock::new(&rt);
-            let Ran { status, closing: _ } = run(
+            let disk = WatchedDisk::new(&rt, &alarm, FileDisk::new(&rt, alloc));
+            let status = match kept(
                 &rt,
                 alloc,
                 &words,
-                &mut input,
+                disk,
                 &mut output,
-                &mut host,
+                &mut heeding,
                 &mut clock,
-                &OpenGate,
-            );
+            ) {
+                Some(status) => status,
+                None => {
+                    let cmis_runs::Ran { status, closing: _ } = run(
+                        &rt,
+                        alloc,
+                        &words,
+                        &mut input,
+                        &mut output,
+                        &mut host,
+                        &mut clock,
+                        &OpenGate,
+                    );
+                    status
+                }
+            };
             ExitCode::from(status)
         }
-        Err(Unread::Files(stop)) => ExitCode::from(refuse_files(alloc, &mut output, stop)),
-        Err(Unread::NotText) => ExitCode::from(refuse(&mut output)),
-        Err(Unread::Memory) => ExitCode::from(7),
+        Err(unread) => ExitCode::from(refused(alloc, &mut output, unread)),
     }
 }

@@ -10,3 +10,4 @@ mod Writing
 mod Closing
 mod Meeting
 mod Bearing
+mod Putting

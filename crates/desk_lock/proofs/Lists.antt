@@ -71,6 +71,16 @@ module _ {A : Type 0} where
   nil_of [] e = refl
   nil_of (x ∷ l) e = absurd (omega arith)
 
+  pub same_long : (a b : List A) → IsPrefix b a → length a ≤ length b → IsPrefix a b
+  same_long a b p h =
+      let l = ap length (sym p.1) ∙ length-append b p.0 in
+      let none : p.0 ≡ [] = nil_of p.0 (omega arith) in
+      ([], append-nil a ∙ (sym p.1 ∙ (ap (λ (z : List A). b ++ z) none ∙ append-nil b)))
+
+  -- of two beginnings of one list the one that is no longer begins the other
+  pub within : (a b h : List A) → IsPrefix a h → IsPrefix b h → length a ≤ length b → IsPrefix a b
+  within a b h p q short = ⊎_elim (λ (t : IsPrefix a b). t) (λ (t : IsPrefix b a). same_long a b t short) (compare a b h p q)
+
 module _ {C : Type 0} where
   split_by : (b : Bool) (x : Entry C) (l m k : List (Entry C)) → k ≡ l ++ m → cond b (x ∷ k) k ≡ cond b (x ∷ l) l ++ m
   split_by true x l m k e = ap (λ z. x ∷ z) e

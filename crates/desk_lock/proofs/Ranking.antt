@@ -13,8 +13,8 @@ use Rattle.desk_lock.specs.Numbers.{Card, Ranks, by, names, numbers, numbers_at,
 use Rattle.desk_lock.specs.Board.{card}
 use Rattle.desk_lock.proofs.Lists.{by_other, same_at, inside, snoc_at, at_append, at_right, all_below}
 
-module _ {S C : Type 0} where
-  pub cards_stay : (vs : List (View S C)) (id : ℕ) (v w : View S C) → get_elem? vs id ≡ some v → card w ≡ card v → map card (set vs id w) ≡ map card vs
+module _ {S C K : Type 0} where
+  pub cards_stay : (vs : List (View S C K)) (id : ℕ) (v w : View S C K) → get_elem? vs id ≡ some v → card w ≡ card v → map card (set vs id w) ≡ map card vs
   cards_stay vs id v w at e = map-set card vs id w ∙ (ap (set (map card vs) id) e ∙ set_again (map card vs) id (card v) (at_map card vs id v at))
 
 module _ {C : Type 0} where

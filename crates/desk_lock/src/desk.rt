@@ -1,13 +1,13 @@
 //! The lock as a desk.
 ghost use Rattle.std.specs.Prelude.{◌≡◌, [], ◌∷◌, length, None};
 ghost use Rattle.desk_lock.specs.Numbers.{most_passes};
-ghost use Rattle.desk_lock.specs.Words.{IsOf, place_of};
+ghost use Rattle.desk_lock.specs.Words.{HasFailed, IsOf, place_of};
 
 use crate::lock::Lock;
 use crate::pass::Pass;
 use cm_base::number::Moment;
 use cm_base::text::Text;
-use desk_model::{Desk, Machine, Snapshot, Stop};
+use desk_model::{Desk, Keeper, Machine, Snapshot, Stop};
 use outside::Clock;
 use std::alloc::{AllocError, Global};
 use std::marker::{Model, PhantomData};
@@ -15,22 +15,29 @@ use std::sync::Wait;
 
 /// A lock as the desk of one of its passes. It tells no words of the clock, which all passes share.
 #[derive(Drop)]
-pub struct LockDesk<'a, R: Wait + 'a, M: Machine + 'a, C: Clock + 'a> {
-    lock: &'a Lock<M, C>,
+pub struct LockDesk<'a, R: Wait + 'a, M: Machine + 'a, C: Clock + 'a, K: Keeper<M> + 'a> {
+    lock: &'a Lock<M, C, K>,
     rt: PhantomData<R>,
 }
 
-impl<'a, R: Wait + 'a, M: Machine + 'a, C: Clock + 'a> Model for LockDesk<'a, R, M, C> {
+impl<'a, R: Wait + 'a, M: Machine + 'a, C: Clock + 'a, K: Keeper<M> + 'a> Model
+    for LockDesk<'a, R, M, C, K> {
     ghost use Rattle.desk_lock.specs.Words.{LockView};
 
-    ghost Value = { LockView M.State M.Call };
+    ghost Value = { LockView M.State M.Call K };
 
     ghost view = { λ d. d.lock.now };
 }
 
-impl<'a, R: Wait + 'a, M: Machine + 'a, C: Clock + Drop + 'a> LockDesk<'a, R, M, C> {
+impl<'a, R: Wait + 'a, M: Machine + 'a, C: Clock + Drop + 'a, K: Keeper<M> + 'a> LockDesk<
+    'a,
+    R,
+    M,
+    C,
+    K,
+> {
     /// The lock as a desk. It takes no memory.
-    pub fn new(lock: &'a Lock<M, C>) -> LockDesk<'a, R, M, C>
+    pub fn new(lock: &'a Lock<M, C, K>) -> LockDesk<'a, R, M, C, K>
         ensures { result ≡ lock.now }
     {
         LockDesk {
@@ -40,16 +47,21 @@ impl<'a, R: Wait + 'a, M: Machine + 'a, C: Clock + Drop + 'a> LockDesk<'a, R, M,
     }
 }
 
-impl<'a, R: Wait + 'a, M: Machine + 'a, C: Clock + Drop + 'a> Desk for LockDesk<'a, R, M, C> {
+impl<'a, R: Wait + 'a, M: Machine + 'a, C: Clock + Drop + 'a, K: Keeper<M> + 'a> Desk
+    for LockDesk<'a, R, M, C, K> {
     type Kind = M;
 
     type Leave = &'a R;
 
-    type Pass = Pass<M>;
+    type Pass = Pass<M, K>;
 
     ghost is_of = { λ d p. IsOf M.next d p };
 
     ghost known = { λ p. p.known };
+
+    ghost sure = { λ p. p.sure };
+
+    ghost failed = { λ p. HasFailed K.faults };
 
     ghost place = { λ p. p.made ∷ length p.ended ∷ place_of p.table };
 
@@ -65,7 +77,7 @@ impl<'a, R: Wait + 'a, M: Machine + 'a, C: Clock + Drop + 'a> Desk for LockDesk<
         &mut self,
         alloc: Global,
         leave: &mut &'a R,
-        pass: &mut Pass<M>,
+        pass: &mut Pass<M, K>,
         least: u64,
         user: &Text,
         moment: Moment,
@@ -75,11 +87,15 @@ impl<'a, R: Wait + 'a, M: Machine + 'a, C: Clock + Drop + 'a> Desk for LockDesk<
             .write(*leave, alloc, pass, least, user, moment, call)
     }
 
-    fn look(&mut self, leave: &mut &'a R, pass: &mut Pass<M>) -> Result<Snapshot<M>, AllocError> {
+    fn look(
+        &mut self,
+        leave: &mut &'a R,
+        pass: &mut Pass<M, K>,
+    ) -> Result<Snapshot<M>, AllocError> {
         self.lock.look(*leave, pass)
     }
 
-    fn session(&self, pass: &Pass<M>) -> u32 {
+    fn session(&self, pass: &Pass<M, K>) -> u32 {
         pass.number()
     }
 

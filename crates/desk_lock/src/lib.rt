@@ -3,6 +3,7 @@
 
 mod board;
 mod desk;
+mod failure;
 mod lock;
 mod pass;
 mod plays;
@@ -11,7 +12,7 @@ mod seats;
 mod shelf;
 mod turn;
 
-pub use board::{Hold, Turn, View};
+pub use board::{Begun, Hold, Laid, Store, Turn, View};
 pub use desk::LockDesk;
 pub use lock::{Lock, SplitStop, Tally};
 pub use pass::Pass;

@@ -1,23 +1,24 @@
 //! The lock and its calls.
-ghost use Rattle.std.specs.Prelude.{◌≡◌, ◌+◌, ◌<◌, length, IfOk, IfErr, OnOk, MatchResult};
+ghost use Rattle.std.specs.Prelude.{◌≡◌, ◌+◌, ◌<◌, ◌≤◌, true, false, length, IfOk, IfErr, OnOk, MatchResult};
 ghost use Rattle.std.specs.Arc.{arc_value};
 ghost use Rattle.desk_model.specs.Clocks.{IsOfWord};
-ghost use Rattle.desk_model.specs.Desks.{Wrote, Looked};
+ghost use Rattle.desk_model.specs.Desks.{Wrote, Looked, ShowsSettled, IfFault};
 ghost use Rattle.desk_model.specs.Halts.{TellsThird};
 ghost use Rattle.desk_model.specs.Histories.{IsLegal, grown, shown_by, state_of};
-ghost use Rattle.desk_lock.specs.Words.{LockView, PassView, IsOf, place_of, Splits, first_pass, knowing, Met, Retired, Closes};
+ghost use Rattle.desk_lock.specs.Board.{IsBroken, Settled};
+ghost use Rattle.desk_lock.specs.Words.{HasFailed, LockView, PassView, IsOf, place_of, Splits, first_pass, knowing, with_sure, IsSure, Met, Retired, Closes, Since};
 
-use crate::board::{Board, HOME, SHELVED};
+use crate::board::{Begun, Board, HOME, Laid, SHELVED, Store};
 use crate::pass::Pass;
 use crate::queue::Queues;
 use crate::seats::{bear, catch_up, hear, take_in};
-use crate::shelf::{look_at_shelf, open_shelf, shut_shelf};
-use crate::turn::{learn, open, publish, shut};
+use crate::shelf::{assure, look_at_shelf, open_shelf, shut_shelf, wait_for};
+use crate::turn::{commit, learn, leave, open, settle_rest};
 use atomic_table::Table;
 use cm_base::copies::Copies;
 use cm_base::number::Moment;
 use cm_base::text::Text;
-use desk_model::{Entry, Halt, Machine, Snapshot, Stop, Version, moment_of_word};
+use desk_model::{Entry, Halt, Keeper, Machine, Snapshot, Stop, Version, moment_of_word};
 use outside::Clock;
 use std::alloc::{AllocError, Global};
 use std::marker::Model;
@@ -41,55 +42,79 @@ pub enum SplitStop {
 
 /// A lock, which threads share by reference. Writes stand in one order, and a look never waits for a write's step.
 #[derive(Drop)]
-pub struct Lock<M: Machine, C: Clock> {
-    pub(crate) board: Board<M>,
-    queues: Queues,
+pub struct Lock<M: Machine, C: Clock, K: Keeper<M>> {
+    pub(crate) board: Board<M, K>,
+    queues: Queues<M, K>,
     clock: Mutex<C>,
+    /// The keeper with which it began.
+    first: snapshot::Snapshot<K>,
 }
 
-impl<M: Machine, C: Clock> Model for Lock<M, C> {
+impl<M: Machine, C: Clock, K: Keeper<M>> Model for Lock<M, C, K> {
+    ghost use Rattle.std.specs.Prelude.{◌≡◌};
     ghost use Rattle.desk_lock.specs.Board.{IsSized};
     ghost use Rattle.desk_lock.specs.Words.{LockView};
 
-    ghost Value = { LockView M.State M.Call };
+    ghost Value = { LockView M.State M.Call K };
 
-    ghost view = { λ l. record { table = l.board.shared.table_id; version = l.board.shared.key.value } };
+    ghost view = { λ l. record {
+      table = l.board.shared.table_id;
+      version = l.board.shared.key.version;
+      keeper = l.board.shared.key.keeper;
+    } };
 
-    ghost invariant = { λ l. IsSized l.board.shared.table_id };
+    ghost invariant = { λ l. IsSized l.board.shared.table_id × (l.first.value ≡ l.board.shared.key.keeper) };
 }
 
-impl<M: Machine, C: Clock + Drop> Lock<M, C> {
+impl<M: Machine, C: Clock + Drop, K: Keeper<M>> Lock<M, C, K> {
     /// A lock that begins with a version, and its first pass.
     pub fn begin(
         alloc: Global,
         version: Version<M>,
         clock: C,
-    ) -> Result<(Lock<M, C>, Pass<M>), AllocError>
+        keeper: K,
+        batches: bool,
+    ) -> Result<(Lock<M, C, K>, Pass<M, K>), AllocError>
+        requires { K.stands keeper (length version.journal) version.journal }
         ensures version { IfOk result (λ r. r.0.version ≡ version) }
+        ensures keeper { IfOk result (λ r. r.0.keeper ≡ keeper) }
         ensures first { IfOk result (λ r. r.1 ≡ first_pass r.0) }
         ensures is_of { IfOk result (λ r. IsOf M.next r.0 r.1) }
     {
         version.lawful();
-        let about = snapshot::Snapshot::of(&version);
+        let first = snapshot::Snapshot::of(&keeper);
+        let about = Begun::of(&version, &keeper);
         let len = version.len();
         let version = Arc::new(alloc, version)?;
         let mut slots = Vec::new(alloc);
-        slots.push(Some(Arc::try_clone(&version)?))?;
-        slots.push(Some(Arc::try_clone(&version)?))?;
-        let Ok((board, place)) = Table::new(alloc, &[0, 0, 0, 0], slots, &about) else {
+        slots.push(Some(Laid {
+            version: Arc::try_clone(&version)?,
+            again: None,
+            settled: len,
+            store: Store::Whole(keeper),
+        }))?;
+        slots.push(Some(Laid {
+            version: Arc::try_clone(&version)?,
+            again: None,
+            settled: 0,
+            store: Store::Absent,
+        }))?;
+        let Ok((board, place)) = Table::new(alloc, &[0, 0, 0, 0, 0], slots, &about) else {
             return Err(AllocError);
         };
         Ok((
             Lock {
                 board,
-                queues: Queues::empty(),
+                queues: Queues::empty(batches),
                 clock: Mutex::new(clock),
+                first,
             },
             Pass {
                 place,
                 began: version,
                 number: 0,
                 made: 1,
+                start: len,
                 seen: len,
                 own: 0,
             },
@@ -97,7 +122,7 @@ impl<M: Machine, C: Clock + Drop> Lock<M, C> {
     }
 
     /// A new pass with a new number, which has seen what the first pass has seen.
-    pub fn split(&self, pass: &mut Pass<M>) -> Result<Pass<M>, SplitStop>
+    pub fn split(&self, pass: &mut Pass<M, K>) -> Result<Pass<M, K>, SplitStop>
         requires is_of { IsOf M.next self.now pass.old }
         requires first { 0 < pass.old.made }
         ensures split { Splits pass.old pass.new result }
@@ -119,13 +144,14 @@ impl<M: Machine, C: Clock + Drop> Lock<M, C> {
             began,
             number,
             made: 0,
+            start: pass.start,
             seen: pass.seen,
             own: 0,
         })
     }
 
     /// `gone` ends into `keep`, which has then seen the longer of both. It takes no memory.
-    pub fn retire(&self, keep: &mut Pass<M>, gone: Pass<M>) -> Tally
+    pub fn retire(&self, keep: &mut Pass<M, K>, gone: Pass<M, K>) -> Tally
         requires is_of { IsOf M.next self.now keep.old × IsOf M.next self.now gone }
         requires other { gone.made ≡ 0 }
         ensures retired { Retired keep.old gone keep.new }
@@ -138,6 +164,7 @@ impl<M: Machine, C: Clock + Drop> Lock<M, C> {
             began: _,
             number,
             made: _,
+            start: _,
             seen,
             own,
         } = gone;
@@ -147,7 +174,7 @@ impl<M: Machine, C: Clock + Drop> Lock<M, C> {
     }
 
     /// Both have then seen the longer of what they had seen. It takes no memory.
-    pub fn meet(&self, a: &mut Pass<M>, b: &mut Pass<M>)
+    pub fn meet(&self, a: &mut Pass<M, K>, b: &mut Pass<M, K>)
         requires is_of { IsOf M.next self.now a.old × IsOf M.next self.now b.old }
         ensures met { Met a.old b.old a.new b.new }
         ensures is_of { IsOf M.next self.now a.new × IsOf M.next self.now b.new }
@@ -160,12 +187,12 @@ impl<M: Machine, C: Clock + Drop> Lock<M, C> {
         b.seen = most;
     }
 
-    /// Takes the turn, and makes the write at the end of the journal, unless the least number that it asks for is ahead there.
-    pub fn write<R: Wait>(
+    // Takes the turn, and makes the write at the end of the journal, unless the least number that it asks for is ahead there.
+    fn make<R: Wait>(
         &self,
         rt: &R,
         alloc: Global,
-        pass: &mut Pass<M>,
+        pass: &mut Pass<M, K>,
         least: u64,
         user: &Text,
         moment: Moment,
@@ -174,12 +201,14 @@ impl<M: Machine, C: Clock + Drop> Lock<M, C> {
         requires { IsOf M.next self.now pass.old }
         ensures wrote { Wrote M.next M.number pass.old.known least user.now moment call result pass.new.known }
         ensures same { pass.new ≡ knowing pass.old pass.new.known }
+        ensures fault { IfFault result (HasFailed K.faults) }
         ensures is_of { IsOf M.next self.now pass.new }
     {
         let Ok(user) = user.copied(alloc) else {
             return Err(Stop::Memory);
         };
         let top = &self.board.shared;
+        let start = pass.began_at();
         let entry = Entry {
             session: pass.number,
             serial: pass.own,
@@ -187,30 +216,60 @@ impl<M: Machine, C: Clock + Drop> Lock<M, C> {
             moment,
             call,
         };
-        let version = open(rt, top, &self.queues, &mut pass.place);
+        let Laid {
+            version,
+            again,
+            settled,
+            store,
+        } = open(rt, top, &self.queues, &mut pass.place);
         version.lawful();
         let number = version.number();
         let seen = version.len();
         if number < least {
             learn(top, &mut pass.place, &version);
-            shut(top, &self.queues, &mut pass.place, version);
+            let laid = Laid {
+                version,
+                again,
+                settled,
+                store,
+            };
+            leave(rt, top, &self.queues, &mut pass.place, start, laid);
             pass.seen = seen;
             return Err(Stop::Ahead { number });
         }
         match next_of(alloc, &version, entry) {
             Err(Halt::Memory) => {
-                shut(top, &self.queues, &mut pass.place, version);
+                let laid = Laid {
+                    version,
+                    again,
+                    settled,
+                    store,
+                };
+                leave(rt, top, &self.queues, &mut pass.place, start, laid);
                 Err(Stop::Memory)
             }
             Err(Halt::Refused(cause)) => {
                 learn(top, &mut pass.place, &version);
-                shut(top, &self.queues, &mut pass.place, version);
+                let laid = Laid {
+                    version,
+                    again,
+                    settled,
+                    store,
+                };
+                leave(rt, top, &self.queues, &mut pass.place, start, laid);
                 pass.seen = seen;
                 Err(Stop::Refused { cause, number })
             }
             Ok((next, again, shown)) => {
                 let len = next.len();
-                publish(rt, top, &self.queues, &mut pass.place, next, again);
+                let version = commit(top, &mut pass.place, next);
+                let laid = Laid {
+                    version,
+                    again: Some(again),
+                    settled,
+                    store,
+                };
+                leave(rt, top, &self.queues, &mut pass.place, start, laid);
                 pass.seen = len;
                 pass.own += 1;
                 Ok(shown)
@@ -218,15 +277,80 @@ impl<M: Machine, C: Clock + Drop> Lock<M, C> {
         }
     }
 
+    // Waits until all that the pass has seen is settled. False: the keeper has failed.
+    fn wait<R: Wait>(&self, rt: &R, pass: &mut Pass<M, K>) -> bool
+        requires { IsOf M.next self.now pass.old }
+        ensures same { pass.new ≡ with_sure pass.old pass.new.sure }
+        ensures later { pass.old.sure ≤ pass.new.sure }
+        ensures sure { result ≡ true → IsSure pass.new }
+        ensures failed { result ≡ false → HasFailed K.faults }
+        ensures is_of { IsOf M.next self.now pass.new }
+    {
+        let owed = pass.seen - pass.began_at();
+        wait_for(rt, &self.board.shared, &self.queues, &mut pass.place, owed)
+    }
+
+    /// Makes the write at the end of the journal, unless the least number that it asks for is ahead there, and waits until all that it was judged at is settled.
+    /// A fault comes only where the count of faults of a keeper rose.
+    pub fn write<R: Wait>(
+        &self,
+        rt: &R,
+        alloc: Global,
+        pass: &mut Pass<M, K>,
+        least: u64,
+        user: &Text,
+        moment: Moment,
+        call: M::Call,
+    ) -> Result<M::Shown, Stop<M::Cause>>
+        requires { IsOf M.next self.now pass.old }
+        ensures wrote { Wrote M.next M.number pass.old.known least user.now moment call result pass.new.known }
+        ensures same { pass.new ≡ with_sure (knowing pass.old pass.new.known) pass.new.sure }
+        ensures later { pass.old.sure ≤ pass.new.sure }
+        ensures settled { ShowsSettled result pass.new.known pass.new.sure }
+        ensures fault { IfFault result (HasFailed K.faults) }
+        ensures is_of { IsOf M.next self.now pass.new }
+    {
+        match self.make(rt, alloc, pass, least, user, moment, call) {
+            Ok(shown) => {
+                if self.wait(rt, pass) {
+                    Ok(shown)
+                } else {
+                    Err(Stop::Fault)
+                }
+            }
+            Err(Stop::Refused { cause, number }) => {
+                if self.wait(rt, pass) {
+                    Err(Stop::Refused { cause, number })
+                } else {
+                    Err(Stop::Fault)
+                }
+            }
+            Err(Stop::Ahead { number }) => {
+                if self.wait(rt, pass) {
+                    Err(Stop::Ahead { number })
+                } else {
+                    Err(Stop::Fault)
+                }
+            }
+            Err(Stop::Memory) => Err(Stop::Memory),
+            Err(Stop::Fault) => Err(Stop::Fault),
+        }
+    }
+
     /// Takes what stands on the shelf: a version whose journal begins with all that the pass had seen, and that it has then seen.
-    pub fn look<R: Wait>(&self, rt: &R, pass: &mut Pass<M>) -> Result<Snapshot<M>, AllocError>
+    pub fn look<R: Wait>(&self, rt: &R, pass: &mut Pass<M, K>) -> Result<Snapshot<M>, AllocError>
         requires { IsOf M.next self.now pass.old }
         ensures looked { MatchResult result (λ v. Looked pass.old.known v pass.new.known) (λ _. pass.new.known
             ≡ pass.old.known) }
-        ensures same { pass.new ≡ knowing pass.old pass.new.known }
+        ensures same { pass.new ≡ with_sure (knowing pass.old pass.new.known) pass.new.sure }
+        ensures later { pass.old.sure ≤ pass.new.sure }
+        ensures settled { OnOk result (IsSure pass.new) }
         ensures is_of { IsOf M.next self.now pass.new }
     {
         let top = &self.board.shared;
+        if pass.seen - pass.began_at() > assure(top, &mut pass.place) {
+            return Err(AllocError);
+        }
         let version = open_shelf(rt, top, &self.queues, &mut pass.place);
         version.lawful();
         match Arc::try_clone(&version) {
@@ -246,7 +370,7 @@ impl<M: Machine, C: Clock + Drop> Lock<M, C> {
     /// A pass that comes back from a desk at its old place, with its opening and beginning, is still one of this lock.
     #[tactic(auto, using(crate::proofs::Knowing::back))]
     pub fn takes_back(&self)
-        ensures { (d : LockView M.State M.Call) (p q : PassView M.State M.Call) → IsOf M.next self.now p
+        ensures { (d : LockView M.State M.Call K) (p q : PassView M.State M.Call) → IsOf M.next self.now p
             → IsOf M.next d q → place_of q.table ≡ place_of p.table → q.known.opening ≡ p.known.opening
             → q.known.base ≡ p.known.base → IsOf M.next self.now q }
     {}
@@ -258,22 +382,27 @@ impl<M: Machine, C: Clock + Drop> Lock<M, C> {
         moment_of_word(self.clock.lock(rt).now())
     }
 
-    /// The one journal, and the clock. Every other pass has ended into this one, which is the first. It takes no memory.
-    pub fn close(self, pass: Pass<M>) -> (Snapshot<M>, C)
+    /// The one journal, the clock, and the keeper, at which all of the journal stands; or, where the keeper has failed, a front of it, with all that this pass
+    /// is sure of. The keeper goes on from the one with which the lock began. Every other pass has ended into this one, which is the first. It takes no memory.
+    pub fn close(self, pass: Pass<M, K>) -> (Snapshot<M>, C, Store<K>)
         requires is_of { IsOf M.next self pass }
         requires all { pass.made ≡ 1 + length pass.ended }
-        ensures { Closes self pass result.0 }
+        ensures closes { Closes self pass result.0 }
+        ensures kept { Settled (Since K.stands K.went self.keeper) result.2 result.0.journal pass.sure }
+        ensures failed { IsBroken result.2 → HasFailed K.faults }
     {
         let Lock {
             board,
             queues: _,
             clock,
+            first,
         } = self;
         let Pass {
             place,
             began: _,
             number: _,
             made: _,
+            start: _,
             seen: _,
             own: _,
         } = pass;
@@ -281,8 +410,15 @@ impl<M: Machine, C: Clock + Drop> Lock<M, C> {
         let home = closed.take(HOME);
         let _shelved = closed.take(SHELVED);
         closed.free();
-        let Some(version) = home else { unreachable!() };
-        (Snapshot { version }, clock.into_inner())
+        let Some(laid) = home else { unreachable!() };
+        let Laid {
+            version,
+            again: _,
+            settled,
+            store,
+        } = laid;
+        let store = settle_rest(&first, &version, settled, store);
+        (Snapshot { version }, clock.into_inner(), store)
     }
 }
 

@@ -9,10 +9,13 @@ ghost use Rattle.desk_lock.specs.Steps.{caught};
 
 use crate::board::{COUNT, Place, Top};
 use crate::plays::{Bear, CatchUp, Help, TakeIn, Tell};
-use desk_model::Machine;
+use desk_model::{Keeper, Machine};
 
 /// A new pass's seat.
-pub(crate) fn bear<M: Machine>(top: &Top<M>, place: &mut Place<M>) -> Place<M>
+pub(crate) fn bear<M: Machine, K: Keeper<M>>(
+    top: &Top<M, K>,
+    place: &mut Place<M, K>,
+) -> Place<M, K>
     requires table { (place.old.table_id ≡ top.now.table_id) × IsSized top.now.table_id }
     requires first { (place.old.me.0.live ≡ 1) × (0 < place.old.me.0.made) × (place.old.me.0.made < most_passes)
         × IsIdle place.old.me.0 }
@@ -25,17 +28,21 @@ pub(crate) fn bear<M: Machine>(top: &Top<M>, place: &mut Place<M>) -> Place<M>
 }
 
 /// What the seat was told is seen, if it is longer.
-pub(crate) fn catch_up<M: Machine>(top: &Top<M>, place: &mut Place<M>)
+pub(crate) fn catch_up<M: Machine, K: Keeper<M>>(top: &Top<M, K>, place: &mut Place<M, K>)
     requires table { (place.old.table_id ≡ top.now.table_id) × IsSized top.now.table_id }
     requires live { (place.old.me.0.live ≡ 1) × IsIdle place.old.me.0 }
     ensures seat { (place.new.table_id ≡ place.old.table_id) × (place.new.id ≡ place.old.id) }
     ensures seen { (n : ℕ) × caught (step 2 0 0 0 none) place.old.me n place.new.me }
 {
-    top.load::<CatchUp<M>>(place, COUNT);
+    top.load::<CatchUp<M, K>>(place, COUNT);
 }
 
 /// What `from` has seen is seen, if it is longer.
-pub(crate) fn hear<M: Machine>(top: &Top<M>, place: &mut Place<M>, from: &mut Place<M>)
+pub(crate) fn hear<M: Machine, K: Keeper<M>>(
+    top: &Top<M, K>,
+    place: &mut Place<M, K>,
+    from: &mut Place<M, K>,
+)
     requires table { (place.old.table_id ≡ top.now.table_id) × (from.old.table_id ≡ top.now.table_id)
         × IsSized top.now.table_id }
     requires ready { (place.old.me.0.live ≡ 1) × IsIdle place.old.me.0 × IsIdle from.old.me.0 × (from.old.me.1 ≡ []) }
@@ -50,7 +57,11 @@ pub(crate) fn hear<M: Machine>(top: &Top<M>, place: &mut Place<M>, from: &mut Pl
 }
 
 /// The seat `gone` is joined into this one.
-pub(crate) fn take_in<M: Machine>(top: &Top<M>, place: &mut Place<M>, gone: Place<M>)
+pub(crate) fn take_in<M: Machine, K: Keeper<M>>(
+    top: &Top<M, K>,
+    place: &mut Place<M, K>,
+    gone: Place<M, K>,
+)
     requires table { (place.old.table_id ≡ top.now.table_id) × (gone.table_id ≡ top.now.table_id)
         × IsSized top.now.table_id }
     requires ready { (place.old.me.0.live ≡ 1) × IsIdle place.old.me.0 × (gone.me.0.live ≡ 1) × (gone.me.0.made ≡ 0)

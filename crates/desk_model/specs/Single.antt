@@ -4,7 +4,7 @@ use mathlib.Core.List.{IsPrefix}
 use Rattle.outside.specs.Clocks.{Words}
 use Rattle.desk_model.specs.declared.entry.Entry.{Entry}
 use Rattle.desk_model.specs.declared.machine.Stop.{Stop}
-use Rattle.desk_model.specs.declared.machine.Stop.TheVariants.{Refused, Ahead, Memory}
+use Rattle.desk_model.specs.declared.machine.Stop.TheVariants.{Refused, Ahead, Memory, Fault}
 use Rattle.desk_model.specs.Histories.{History, own, SessionsBelow}
 use Rattle.desk_model.specs.Desks.{Known, KeptByCalls, IsSound}
 
@@ -48,9 +48,10 @@ pub record IsOf {S C A X : Type 0} (next : S → Entry C → Result (S × A) X) 
   pub below : SessionsBelow d.made (drop p.base p.seen)
   pub sound : IsSound next p
 
--- what a write does at this desk: an accepted one puts its entry at the journal's end, every other leaves the desk as it was; the pass has then seen the whole journal, but where memory was wanted
+-- what a write does at this desk: an accepted one puts its entry at the journal's end, every other leaves the desk as it was; the pass has then seen the whole journal, but where memory was wanted. No fault comes
 abbrev pub Kept : {S C A X : Type 0} → Single S C → Single S C → Known S C → Entry C → Result A (Stop X) → Type 0
 Kept d f p e (Ok a) = (f ≡ with_journal d (d.journal ++ e ∷ [])) × (p.seen ≡ f.journal)
 Kept d f p e (Err (Refused cause n)) = (f ≡ d) × (p.seen ≡ d.journal)
 Kept d f p e (Err (Ahead n)) = (f ≡ d) × (p.seen ≡ d.journal)
 Kept d f p e (Err Memory) = f ≡ d
+Kept d f p e (Err Fault) = ⊥

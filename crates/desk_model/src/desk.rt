@@ -1,9 +1,9 @@
 //! Desks: where writes are made one after the other, and looked at.
-ghost use Rattle.std.specs.Prelude.{◌≡◌, ◌≢◌, ℕ, List, Option, Some, IfSome, MatchResult, Result, drop};
+ghost use Rattle.std.specs.Prelude.{◌≡◌, ◌≢◌, ◌≤◌, ℕ, List, Option, Some, IfSome, MatchResult, OnOk, Result, drop, length};
 ghost use Rattle.outside.specs.Clocks.{Words, first_word, rest_words};
 ghost use Rattle.desk_model.specs.Clocks.{moment_of, IsOfWord};
 ghost use Rattle.desk_model.specs.Histories.{SessionsBelow};
-ghost use Rattle.desk_model.specs.Desks.{Known, KeptByCalls, IsSound, Wrote, Looked};
+ghost use Rattle.desk_model.specs.Desks.{Known, KeptByCalls, IsSound, Wrote, Looked, ShowsSettled, IfFault};
 
 use crate::machine::{Machine, Stop};
 use crate::snapshot::Snapshot;
@@ -25,6 +25,12 @@ pub trait Desk {
     /// What a pass knows.
     ghost known: { Self.Pass → Known Self.Kind.State Self.Kind.Call };
 
+    /// So many entries of what the pass has seen are settled, if not more: they stand at the keeper of the desk's journal.
+    ghost sure: { Self.Pass → ℕ };
+
+    /// The keeper has failed, and the pass was told.
+    ghost failed: { Self.Pass → Type 0 };
+
     /// What tells the pass's desk from others, as numbers.
     ghost place: { Self.Pass → List ℕ };
 
@@ -42,7 +48,7 @@ pub trait Desk {
         ensures aside { aside self.new ≡ aside self.old }
         ensures passes { (p : Self.Pass) → is_of self.old p → is_of self.new p };
 
-    /// Makes a write at the end of the journal, unless the least number that it asks for is ahead there.
+    /// Makes a write at the end of the journal, unless the least number that it asks for is ahead there. What it shows is settled.
     fn write(
         &mut self,
         alloc: Global,
@@ -56,6 +62,9 @@ pub trait Desk {
         requires { is_of self.old pass.old }
         ensures wrote { Wrote Self.Kind.next Self.Kind.number (known pass.old) least user.now moment call result
             (known pass.new) }
+        ensures settled { ShowsSettled result (known pass.new) (sure pass.new) }
+        ensures later { sure pass.old ≤ sure pass.new }
+        ensures fault { IfFault result (failed pass.new) }
         ensures words { words self.new ≡ words self.old }
         ensures is_of { is_of self.new pass.new }
         ensures place { place pass.new ≡ place pass.old }
@@ -63,7 +72,7 @@ pub trait Desk {
         ensures passes { (p : Self.Pass) → (known p).session ≢ (known pass.old).session → is_of self.old p
             → is_of self.new p };
 
-    /// A version whose journal begins with all that the pass had seen.
+    /// A version whose journal begins with all that the pass had seen, and is settled.
     fn look(
         &mut self,
         leave: &mut Self::Leave,
@@ -72,6 +81,8 @@ pub trait Desk {
         requires { is_of self.old pass.old }
         ensures looked { MatchResult result (λ v. Looked (known pass.old) v (known pass.new)) (λ _. known pass.new
             ≡ known pass.old) }
+        ensures settled { OnOk result (length (known pass.new).seen ≤ sure pass.new) }
+        ensures later { sure pass.old ≤ sure pass.new }
         ensures words { words self.new ≡ words self.old }
         ensures is_of { is_of self.new pass.new }
         ensures place { place pass.new ≡ place pass.old }

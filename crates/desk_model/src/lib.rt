@@ -5,6 +5,7 @@
 mod clock;
 mod desk;
 mod entry;
+mod keeper;
 mod machine;
 mod one;
 mod shared;
@@ -14,6 +15,7 @@ mod version;
 pub use clock::moment_of_word;
 pub use desk::Desk;
 pub use entry::Entry;
+pub use keeper::{Keeper, Nowhere};
 pub use machine::{Halt, Machine, Stop};
 pub use one::{OneDesk, OnePass};
 pub use shared::versions_are_shared;

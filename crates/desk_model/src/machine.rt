@@ -15,12 +15,14 @@ pub enum Halt<X> {
 }
 
 /// Why a write wasn't made: the machine refuses it at a state with this number, the number that was asked for
-/// is ahead of the state's number, or there was no memory.
+/// is ahead of the state's number, there was no memory, or it could not be kept.
 #[derive(Drop)]
 pub enum Stop<X> {
     Refused { cause: X, number: u64 },
     Ahead { number: u64 },
     Memory,
+    /// The keeper of the desk's journal failed, in this call or before it.
+    Fault,
 }
 
 /// A machine. Its step, its answers and the number of a state are functions; only want of memory is left free.

@@ -2,7 +2,7 @@
 ghost use Rattle.std.specs.Prelude.{◌≡◌, ◌≢◌, ◌<◌, ◌≤◌, ◌^◌, ◌+◌, ℕ, List, [], ◌∷◌, ◌++◌, length, IfOk, OnOk, OnErr, MatchResult, Option};
 ghost use Rattle.std.specs.Arc.{arc_value};
 ghost use Rattle.desk_model.specs.Histories.{History, own, IsLegal, grown, shown_by, state_of};
-ghost use Rattle.desk_model.specs.Desks.{Known, known_at, entry_of, Wrote, Looked};
+ghost use Rattle.desk_model.specs.Desks.{Known, known_at, entry_of, Wrote, Looked, ShowsSettled, IfFault};
 ghost use Rattle.desk_model.specs.Halts.{TellsThird};
 ghost use Rattle.desk_model.specs.Single.{Single, IsOf, Kept, the_place, kept_by_calls, with_made};
 
@@ -81,7 +81,8 @@ impl<M: Machine> OnePass<M> {
     }
 }
 
-/// The desk of one thread. It waits for nobody, and its passes see the whole journal at each call.
+/// The desk of one thread. It waits for nobody, and its passes see the whole journal at each call. Its journal ends with the process: an entry is
+/// settled as it is made, and no fault comes.
 #[derive(Drop)]
 pub struct OneDesk<M: Machine, C: Clock> {
     base: u64,
@@ -175,6 +176,10 @@ impl<M: Machine, C: Clock> Desk for OneDesk<M, C> {
 
     ghost known = { λ p. p };
 
+    ghost sure = { λ p. length p.seen };
+
+    ghost failed = { λ p. ⊥ };
+
     ghost place = { the_place };
 
     ghost words = { λ d. d.words };
@@ -197,6 +202,9 @@ impl<M: Machine, C: Clock> Desk for OneDesk<M, C> {
     ) -> Result<M::Shown, Stop<M::Cause>>
         requires { IsOf M.next self.old pass.old }
         ensures wrote { Wrote M.next M.number pass.old least user.now moment call result pass.new }
+        ensures settled { ShowsSettled result pass.new (length pass.new.seen) }
+        ensures later { length pass.old.seen ≤ length pass.new.seen }
+        ensures fault { IfFault result ⊥ }
         ensures kept { Kept self.old self.new pass.new (entry_of pass.old user.now moment call) result }
         ensures words { self.new.words ≡ self.old.words }
         ensures is_of { IsOf M.next self.new pass.new }
@@ -234,6 +242,8 @@ impl<M: Machine, C: Clock> Desk for OneDesk<M, C> {
     fn look(&mut self, _leave: &mut (), pass: &mut OnePass<M>) -> Result<Snapshot<M>, AllocError>
         requires { IsOf M.next self.old pass.old }
         ensures looked { MatchResult result (λ v. Looked pass.old v pass.new) (λ _. pass.new ≡ pass.old) }
+        ensures settled { OnOk result (length pass.new.seen ≤ length pass.new.seen) }
+        ensures later { length pass.old.seen ≤ length pass.new.seen }
         ensures whole { IfOk result (λ v. v.journal ≡ self.old.journal) }
         ensures kept { self.new ≡ self.old }
         ensures words { self.new.words ≡ self.old.words }

@@ -1,5 +1,5 @@
 -- What is told as the lock is closed.
-use Rattle.std.proofs.Common.{append-nil, ◌≡◌, ◌≢◌, ℕ, eqb, zero, suc, ◌+◌, Bool, true, false, List, [], ◌∷◌, ◌++◌, length, drop, map, ap, sym, ◌∙◌, subst, ⊎_elim, arith, if◌then◌else◌, nat_lt, eq-eqb, Option, Some, None}
+use Rattle.std.proofs.Common.{append-nil, ◌≡◌, ◌≢◌, ℕ, eqb, zero, suc, ◌≤◌, ◌+◌, Bool, true, false, List, [], ◌∷◌, ◌++◌, length, drop, map, ap, sym, ◌∙◌, subst, ⊎_elim, arith, if◌then◌else◌, nat_lt, eq-eqb, Option, Some, None}
 use Rattle.std.proofs.lemmas.List.{length-append}
 use Rattle.std.proofs.lemmas.List.Elements.{All-weaker}
 use Rattle.std.specs.List.{count_by, filter}
@@ -14,6 +14,7 @@ use Rattle.desk_lock.specs.Seats.{longer}
 use Rattle.desk_lock.specs.Words.{LockView, PassView, IsOf, Retired, Closes}
 use Rattle.talk.specs.declared.end.End.{End}
 use Rattle.talk.specs.Session.{Setting, Session}
+use Rattle.talk.specs.Settled.{ShowsWithin}
 use Rattle.talk.specs.Talked.{rose}
 use Rattle.desk_serve.specs.declared.ended.Ended.{Ended}
 use Rattle.desk_serve.specs.Sessions.{Terms, Taken, EndsFor, IsServed, Closed, setting_of, number_of, is_at}
@@ -21,6 +22,7 @@ use Rattle.desk_serve.specs.declared.ended.HostEnd.{HostEnd}
 use Rattle.outside.specs.Hosts.{HostTold}
 use Rattle.desk_serve.specs.Keeping.{IsNoted, IsFresh, Keeps, IsDone, IsStopped, IsOverAll}
 use Rattle.desk_serve.proofs.Lists.{prefix_trans, begin_longer, get_left, get_mid, at_append, names_append}
+use Rattle.desk_serve.proofs.Settling.{SettledSession, below_greater}
 use Rattle.desk_serve.proofs.Noting.{kept_note}
 
 abbrev one_if : Bool → ℕ
@@ -42,21 +44,23 @@ module _ {C : Type 0} where
   has_one (x ∷ h) zero e at none = picked (eqb x.session e.session) x (filter (is_by e.session) h) (eq-eqb x.session e.session (ap (λ (y : Entry C). y.session) (some-injective x e at))) none
   has_one (x ∷ h) (suc k) e at none = has_one h k e at (rest_of (eqb x.session e.session) x (filter (is_by e.session) h) none)
 
-module _ {S C Q L : Type 0} (t : Terms S C Q L) where
+module _ {S C Q L K : Type 0} (t : Terms S C Q L K) where
   -- what a session was over a history it is over each longer one in which its own entries are the same
   abbrev pub Stands : Type 0
   Stands = (at : Setting S) (after : ℕ) (g h : List (Entry C)) (input : List ℕ) (over : Bool) (output : List ℕ) (times : List Moment) (read_failed write_failed : Bool) (end : End)
-      → Session t.kind at after g input over output times read_failed write_failed end → IsPrefix g h → own 0 at.number h ≡ own 0 at.number g
-      → Session t.kind at after h input over output times read_failed write_failed end
+      (s : Session t.kind at after g input over output times read_failed write_failed end) → IsPrefix g h → own 0 at.number h ≡ own 0 at.number g
+      → (u : Session t.kind at after h input over output times read_failed write_failed end) × (u.turns ≡ s.turns)
 
-module _ {S C Q L : Type 0} (t : Terms S C Q L) (l : LockView S C) (stands : Stands t) where
-  serves : (p : PassView S C) (last : History S C) → l.version.journal ≡ [] → IsOf t.kind.next l p → Closes l p last → (x : Ended L) → IsNoted t p x → IsServed t l.version.opening last.journal x
+module _ {S C Q L K : Type 0} (t : Terms S C Q L K) (l : LockView S C K) (stands : Stands t) where
+  serves : (p : PassView S C) (last : History S C) → l.version.journal ≡ [] → IsOf t.kind.next l p → Closes l p last → (x : Ended L) → IsNoted t p x → IsServed t l.version.opening last.journal p.sure x
   serves p last empty of_ c x n =
       let s = n.served in
       let base : length l.version.journal ≡ 0 = ap length empty in
       let grows = prefix_trans n.history p.known.seen last.journal n.seen c.seen in
       let now : own 0 x.number last.journal ≡ n.mine = ap (λ (b : ℕ). own b x.number last.journal) (sym base) ∙ c.ended n.at (x.number, n.mine) n.tallied in
       let there = stands (setting_of p.known.opening t.users x) x.after n.history last.journal s.input (t.source x.link).ended s.output s.times (rose (t.source s.from).faults (t.source x.link).faults) (rose (t.sink s.from).faults (t.sink x.link).faults) x.outcome s.session grows (now ∙ sym n.owns) in
+      let whole = subst (λ (o : S). SettledSession t (setting_of o t.users x) x.after last.journal p.sure s.input (t.source x.link).ended s.output s.times (rose (t.source s.from).faults (t.source x.link).faults) (rose (t.sink s.from).faults (t.sink x.link).faults) x.outcome) of_.opening
+      (there.0, subst (λ ts. ShowsWithin t.kind t.users p.sure ts s.output x.outcome) (sym there.1) s.settled) in
       record {
         from = s.from;
         given = s.given;
@@ -66,7 +70,9 @@ module _ {S C Q L : Type 0} (t : Terms S C Q L) (l : LockView S C) (stands : Sta
         times = s.times;
         gave = s.gave;
         took = s.took;
-        session = subst (λ (o : S). Session t.kind (setting_of o t.users x) x.after last.journal s.input (t.source x.link).ended s.output s.times (rose (t.source s.from).faults (t.source x.link).faults) (rose (t.sink s.from).faults (t.sink x.link).faults) x.outcome) of_.opening there;
+        session = whole.0;
+        settled = whole.1;
+        kept = s.kept;
       }
 
   covers : (p : PassView S C) (last : History S C) (ended : List (Ended L)) (rest : List ℕ) → l.version.journal ≡ [] → Closes l p last → p.known.own ≡ [] → names p.ended ≡ map number_of ended ++ rest
@@ -84,7 +90,7 @@ module _ {S C Q L : Type 0} (t : Terms S C Q L) (l : LockView S C) (stands : Sta
       absurd (has_one last.journal k e at (ap (λ (b : ℕ). own b e.session last.journal) (sym base) ∙ c.ended j.0 (e.session, []) j.1)))
       (at_append (map number_of ended) rest i e.session (ap (λ m. get_elem? m i) (sym numbers) ∙ is))
 
-  pub closed : (p : PassView S C) (last : History S C) (ended : List (Ended L)) → IsDone t l p ended → Closes l p last → IsLegal t.kind.next last.opening last.journal → Closed t l.version.opening last ended
+  pub closed : (p : PassView S C) (last : History S C) (ended : List (Ended L)) → IsDone t l p ended → Closes l p last → IsLegal t.kind.next last.opening last.journal → Closed t l.version.opening last p.sure ended
   closed p last ended d c lawful =
       let base : length l.version.journal ≡ 0 = ap length d.empty in
       record {
@@ -96,10 +102,10 @@ module _ {S C Q L : Type 0} (t : Terms S C Q L) (l : LockView S C) (stands : Sta
             let e : suc i ≡ suc j = c.apart (suc i) (suc j) n (up i a) (up j b) in omega arith);
         sessions = (λ k e at. let q = c.all k e (ap (λ (b : ℕ). get_elem? (drop b last.journal) k) base ∙ at) in covers p last ended d.rest d.empty c d.idle d.numbers d.resting k e at q.0 q.1);
         places = d.places;
-        served = All-weaker (IsNoted t p) (IsServed t l.version.opening last.journal) (serves p last d.empty d.is_of c) ended d.noted;
+        served = All-weaker (IsNoted t p) (IsServed t l.version.opening last.journal p.sure) (serves p last d.empty d.is_of c) ended d.noted;
       }
 
-module _ {S C Q L : Type 0} (t : Terms S C Q L) (l : LockView S C) where
+module _ {S C Q L K : Type 0} (t : Terms S C Q L K) (l : LockView S C K) where
   all_places : (ended : List (Ended L)) (held : ℕ → ℕ) (n : ℕ) → ((k : ℕ) → held k ≡ 0) → length ended + 0 ≡ n → ((place : ℕ) → count_by (is_at place) ended + held place ≡ (if nat_lt place n then 1 else 0)) → (place : ℕ) → count_by (is_at place) ended ≡ (if nat_lt place (length ended) then 1 else 0)
   all_places ended held n none total places place = (let z = none place in let a : count_by (is_at place) ended ≡ count_by (is_at place) ended + held place = omega arith in a) ∙ (places place ∙ ap (λ (m : ℕ). if nat_lt place m then 1 else 0) (let e : n ≡ length ended = omega arith in e))
 
@@ -128,6 +134,7 @@ module _ {S C Q L : Type 0} (t : Terms S C Q L) (l : LockView S C) where
       let ends : q.ended ≡ p.ended ++ (r.known.session, []) ∷ [] = ap (λ (y : PassView S C). y.ended) same ∙ ap (λ (y : List (Entry C) × List (ℕ × List (Entry C))). p.ended ++ (r.known.session, y.0) ∷ y.1) (λ i. (fresh.own i, fresh.ended i)) in
       let seen : q.known.seen ≡ longer p.known.seen r.known.seen = ap (λ (y : PassView S C). y.known.seen) same in
       let grows : IsPrefix p.known.seen q.known.seen = subst (λ g. IsPrefix p.known.seen g) (sym seen) (begin_longer p.known.seen r.known.seen retired.0).0 in
+      let later : p.sure ≤ q.sure = (let s = ap (λ (y : PassView S C). y.sure) same in let a = (below_greater p.sure r.sure).0 in omega arith) in
       record {
         empty = k.empty;
         is_of = of_;
@@ -136,7 +143,7 @@ module _ {S C Q L : Type 0} (t : Terms S C Q L) (l : LockView S C) where
         rest = r.known.session ∷ [];
         numbers = ap names ends ∙ (names_append p.ended ((r.known.session, []) ∷ []) ∙ ap (λ e. e ++ r.known.session ∷ []) (sym k.numbers));
         resting = (λ n i. (length p.ended, ap (λ e. get_elem? e (length p.ended)) ends ∙ (get_mid p.ended [] (r.known.session, []) ∙ ap (λ (m : ℕ). some (m, [])) (only r.known.session n i.0 i.1))));
-        noted = All-weaker (IsNoted t p) (IsNoted t q) (kept_note t p q ((r.known.session, []) ∷ []) (ap (λ (y : PassView S C). y.known.opening) same) grows ends) ended k.noted;
+        noted = All-weaker (IsNoted t p) (IsNoted t q) (kept_note t p q ((r.known.session, []) ∷ []) (ap (λ (y : PassView S C). y.known.opening) same) grows later ends) ended k.noted;
         places = all_places ended held n none k.total k.places;
       }
 

@@ -1,4 +1,6 @@
 mod Lists
+mod Settling
 mod Noting
+mod Crossing
 mod Ending
 mod Taking

@@ -1,5 +1,6 @@
 //! What is told of the links that were served.
 use cm_base::items::Items;
+use desk_lock::Store;
 use desk_model::{Machine, Snapshot};
 use talk::End;
 
@@ -32,10 +33,11 @@ pub enum HostEnd {
     Memory,
 }
 
-/// What stands once all sessions are over: the last version, the links, and why no more were taken.
+/// What stands once all sessions are over: the last version, what is left of the keeper, the links, and why no more were taken.
 #[derive(Drop)]
-pub struct Closing<M: Machine, L> {
+pub struct Closing<M: Machine, L, K> {
     pub last: Snapshot<M>,
+    pub store: Store<K>,
     pub ended: Items<Ended<L>>,
     pub end: HostEnd,
 }

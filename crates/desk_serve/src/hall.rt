@@ -10,7 +10,7 @@ use crate::running::Running;
 use crate::session::Seat;
 use cm_base::user::Users;
 use desk_lock::{Lock, Pass};
-use desk_model::Machine;
+use desk_model::{Keeper, Machine};
 use outside::{Clock, Host, Link};
 use std::snapshot::Snapshot;
 use std::sync::Wait;
@@ -19,8 +19,8 @@ use talk::Served;
 
 /// A session that runs: its thread, the row of its mark, the place of its link, and how much its pass had seen.
 #[derive(Drop)]
-pub(crate) struct Row<M: Served, L: Link + Drop, C: Clock> {
-    pub(crate) handle: Running<M, L, C>,
+pub(crate) struct Row<M: Served, L: Link + Drop, C: Clock, K: Keeper<M>> {
+    pub(crate) handle: Running<M, L, C, K>,
     pub(crate) row: usize,
     pub(crate) place: u64,
     pub(crate) before: u64,
@@ -28,35 +28,35 @@ pub(crate) struct Row<M: Served, L: Link + Drop, C: Clock> {
 
 /// What the calling thread keeps: its pass, the sessions that run, and the links that were served.
 #[derive(Drop)]
-pub(crate) struct Hall<M: Served, L: Link + Drop, C: Clock> {
-    pub(crate) pass: Pass<M>,
-    pub(crate) running: Vec<Row<M, L, C>>,
+pub(crate) struct Hall<M: Served, L: Link + Drop, C: Clock, K: Keeper<M>> {
+    pub(crate) pass: Pass<M, K>,
+    pub(crate) running: Vec<Row<M, L, C, K>>,
     pub(crate) ended: Vec<Ended<L>>,
 }
 
 /// Takes in the pass of a session that is over, and notes its link.
-pub(crate) fn note<M: Served, H: Host, C: Clock + Drop>(
-    lock: &Lock<M, C>,
+pub(crate) fn note<M: Served, H: Host, C: Clock + Drop, K: Keeper<M>>(
+    lock: &Lock<M, C, K>,
     users: &Users,
     all: &Snapshot<H>,
-    hall: &mut Hall<M, H::Link, C>,
+    hall: &mut Hall<M, H::Link, C, K>,
     place: u64,
     before: u64,
-    seat: Seat<M, H::Link>,
+    seat: Seat<M, H::Link, K>,
 )
     requires is_of { IsOf M.next lock.now hall.old.pass }
     requires held { IsHeld
-        (terms M.next M.answer M.number M.call M.user M.least M.closes H.Link.Source.told H.Link.Sink.told users.now
-        (H.left all.now.value)) lock.now place before seat.pass seat.link seat.outcome }
+        (terms M.next M.answer M.number M.call M.user M.least M.closes K.faults H.Link.Source.told H.Link.Sink.told
+        users.now (H.left all.now.value)) lock.now place before seat.pass seat.link seat.outcome }
     requires room { vec_len hall.old.ended < vec_capacity hall.old.ended }
     ensures keeps { (held : ℕ → ℕ) (running spare n : ℕ)
         → Keeps
-        (terms M.next M.answer M.number M.call M.user M.least M.closes H.Link.Source.told H.Link.Sink.told users.now
-        (H.left all.now.value)) lock.now hall.old.pass hall.old.ended.items (and_at place held)
+        (terms M.next M.answer M.number M.call M.user M.least M.closes K.faults H.Link.Source.told H.Link.Sink.told
+        users.now (H.left all.now.value)) lock.now hall.old.pass hall.old.ended.items (and_at place held)
         (running + 1) spare n
         → Keeps
-        (terms M.next M.answer M.number M.call M.user M.least M.closes H.Link.Source.told H.Link.Sink.told users.now
-        (H.left all.now.value)) lock.now hall.new.pass hall.new.ended.items held running spare n }
+        (terms M.next M.answer M.number M.call M.user M.least M.closes K.faults H.Link.Source.told H.Link.Sink.told
+        users.now (H.left all.now.value)) lock.now hall.new.pass hall.new.ended.items held running spare n }
     ensures running { hall.new.running ≡ hall.old.running }
     ensures room { (vec_len hall.new.ended ≡ vec_len hall.old.ended + 1)
         × (vec_capacity hall.new.ended ≡ vec_capacity hall.old.ended) }
@@ -81,28 +81,28 @@ pub(crate) fn note<M: Served, H: Host, C: Clock + Drop>(
 
 // Joins a session that was taken off the list, and notes it.
 #[tactic(auto, using(crate::proofs::Noting::held_of))]
-fn settle<M: Served, H: Host, C: Clock + Drop, R: Threads>(
+fn settle<M: Served, H: Host, C: Clock + Drop, K: Keeper<M>, R: Threads>(
     rt: &R,
-    lock: &Lock<M, C>,
+    lock: &Lock<M, C, K>,
     users: &Users,
     all: &Snapshot<H>,
-    hall: &mut Hall<M, H::Link, C>,
-    row: Row<M, H::Link, C>,
+    hall: &mut Hall<M, H::Link, C, K>,
+    row: Row<M, H::Link, C, K>,
 )
     requires is_of { IsOf M.next lock.now hall.old.pass }
-    requires runs { Runs (terms M.next M.answer M.number M.call M.user M.least M.closes H.Link.Source.told
+    requires runs { Runs (terms M.next M.answer M.number M.call M.user M.least M.closes K.faults H.Link.Source.told
         H.Link.Sink.told users.now (H.left all.now.value)) lock.now row.handle.promise.lock.value
         row.handle.promise.users.value row.handle.promise.pass.value row.handle.promise.link.value row.place
         row.before }
     requires room { vec_len hall.old.ended < vec_capacity hall.old.ended }
     ensures keeps { (held : ℕ → ℕ) (running spare n : ℕ)
         → Keeps
-        (terms M.next M.answer M.number M.call M.user M.least M.closes H.Link.Source.told H.Link.Sink.told users.now
-        (H.left all.now.value)) lock.now hall.old.pass hall.old.ended.items (and_at row.place held)
+        (terms M.next M.answer M.number M.call M.user M.least M.closes K.faults H.Link.Source.told H.Link.Sink.told
+        users.now (H.left all.now.value)) lock.now hall.old.pass hall.old.ended.items (and_at row.place held)
         (running + 1) spare n
         → Keeps
-        (terms M.next M.answer M.number M.call M.user M.least M.closes H.Link.Source.told H.Link.Sink.told users.now
-        (H.left all.now.value)) lock.now hall.new.pass hall.new.ended.items held running spare n }
+        (terms M.next M.answer M.number M.call M.user M.least M.closes K.faults H.Link.Source.told H.Link.Sink.told
+        users.now (H.left all.now.value)) lock.now hall.new.pass hall.new.ended.items held running spare n }
     ensures running { hall.new.running ≡ hall.old.running }
     ensures room { (vec_len hall.new.ended ≡ vec_len hall.old.ended + 1)
         × (vec_capacity hall.new.ended ≡ vec_capacity hall.old.ended) }
@@ -118,10 +118,10 @@ fn settle<M: Served, H: Host, C: Clock + Drop, R: Threads>(
 }
 
 // Waits for the mark of a session that runs, and answers where it stands in the list.
-fn find<M: Served, L: Link + Drop, C: Clock, R: Wait>(
+fn find<M: Served, L: Link + Drop, C: Clock, K: Keeper<M>, R: Wait>(
     rt: &R,
     marks: &Marks,
-    running: &Vec<Row<M, L, C>>,
+    running: &Vec<Row<M, L, C, K>>,
 ) -> usize
     ensures { result < vec_len running.now }
 {
@@ -137,30 +137,30 @@ fn find<M: Served, L: Link + Drop, C: Clock, R: Wait>(
 }
 
 /// Waits for a session to be over, and notes it.
-pub(crate) fn join_one<M: Served, H: Host, C: Clock + Drop, R: Threads + Wait>(
+pub(crate) fn join_one<M: Served, H: Host, C: Clock + Drop, K: Keeper<M>, R: Threads + Wait>(
     rt: &R,
-    lock: &Lock<M, C>,
+    lock: &Lock<M, C, K>,
     users: &Users,
     all: &Snapshot<H>,
     marks: &Marks,
-    hall: &mut Hall<M, H::Link, C>,
+    hall: &mut Hall<M, H::Link, C, K>,
     place: u64,
 )
     requires keeps { Keeps
-        (terms M.next M.answer M.number M.call M.user M.least M.closes H.Link.Source.told H.Link.Sink.told users.now
-        (H.left all.now.value)) lock.now hall.old.pass hall.old.ended.items
+        (terms M.next M.answer M.number M.call M.user M.least M.closes K.faults H.Link.Source.told H.Link.Sink.told
+        users.now (H.left all.now.value)) lock.now hall.old.pass hall.old.ended.items
         (held_by (λ r. r.place) hall.old.running.items) (vec_len hall.old.running) 0 place }
-    requires rows { All (λ r. Runs (terms M.next M.answer M.number M.call M.user M.least M.closes H.Link.Source.told
-        H.Link.Sink.told users.now (H.left all.now.value)) lock.now r.handle.promise.lock.value
+    requires rows { All (λ r. Runs (terms M.next M.answer M.number M.call M.user M.least M.closes K.faults
+        H.Link.Source.told H.Link.Sink.told users.now (H.left all.now.value)) lock.now r.handle.promise.lock.value
         r.handle.promise.users.value r.handle.promise.pass.value r.handle.promise.link.value r.place r.before)
         hall.old.running.items }
     requires room { vec_len hall.old.ended + vec_len hall.old.running ≤ vec_capacity hall.old.ended }
     ensures keeps { Keeps
-        (terms M.next M.answer M.number M.call M.user M.least M.closes H.Link.Source.told H.Link.Sink.told users.now
-        (H.left all.now.value)) lock.now hall.new.pass hall.new.ended.items
+        (terms M.next M.answer M.number M.call M.user M.least M.closes K.faults H.Link.Source.told H.Link.Sink.told
+        users.now (H.left all.now.value)) lock.now hall.new.pass hall.new.ended.items
         (held_by (λ r. r.place) hall.new.running.items) (vec_len hall.new.running) 0 place }
-    ensures rows { All (λ r. Runs (terms M.next M.answer M.number M.call M.user M.least M.closes H.Link.Source.told
-        H.Link.Sink.told users.now (H.left all.now.value)) lock.now r.handle.promise.lock.value
+    ensures rows { All (λ r. Runs (terms M.next M.answer M.number M.call M.user M.least M.closes K.faults
+        H.Link.Source.told H.Link.Sink.told users.now (H.left all.now.value)) lock.now r.handle.promise.lock.value
         r.handle.promise.users.value r.handle.promise.pass.value r.handle.promise.link.value r.place r.before)
         hall.new.running.items }
     ensures room { vec_len hall.new.ended + vec_len hall.new.running ≤ vec_capacity hall.new.ended }
@@ -173,29 +173,29 @@ pub(crate) fn join_one<M: Served, H: Host, C: Clock + Drop, R: Threads + Wait>(
 }
 
 /// Joins all that run.
-pub(crate) fn join_all<M: Served, H: Host, C: Clock + Drop, R: Threads>(
+pub(crate) fn join_all<M: Served, H: Host, C: Clock + Drop, K: Keeper<M>, R: Threads>(
     rt: &R,
-    lock: &Lock<M, C>,
+    lock: &Lock<M, C, K>,
     users: &Users,
     all: &Snapshot<H>,
     host: &H,
-    hall: &mut Hall<M, H::Link, C>,
-    spare: &Option<Pass<M>>,
+    hall: &mut Hall<M, H::Link, C, K>,
+    spare: &Option<Pass<M, K>>,
     end: &HostEnd,
 )
     requires stopped { IsStopped
-        (terms M.next M.answer M.number M.call M.user M.least M.closes H.Link.Source.told H.Link.Sink.told users.now
-        (H.left all.now.value)) lock.now hall.old.pass hall.old.ended.items
+        (terms M.next M.answer M.number M.call M.user M.least M.closes K.faults H.Link.Source.told H.Link.Sink.told
+        users.now (H.left all.now.value)) lock.now hall.old.pass hall.old.ended.items
         (held_by (λ r. r.place) hall.old.running.items) (vec_len hall.old.running) (H.told all.now.value)
         (H.told host.now) (H.left host.now) spare.now end.now }
-    requires rows { All (λ r. Runs (terms M.next M.answer M.number M.call M.user M.least M.closes H.Link.Source.told
-        H.Link.Sink.told users.now (H.left all.now.value)) lock.now r.handle.promise.lock.value
+    requires rows { All (λ r. Runs (terms M.next M.answer M.number M.call M.user M.least M.closes K.faults
+        H.Link.Source.told H.Link.Sink.told users.now (H.left all.now.value)) lock.now r.handle.promise.lock.value
         r.handle.promise.users.value r.handle.promise.pass.value r.handle.promise.link.value r.place r.before)
         hall.old.running.items }
     requires room { vec_len hall.old.ended + vec_len hall.old.running ≤ vec_capacity hall.old.ended }
     ensures stopped { IsStopped
-        (terms M.next M.answer M.number M.call M.user M.least M.closes H.Link.Source.told H.Link.Sink.told users.now
-        (H.left all.now.value)) lock.now hall.new.pass hall.new.ended.items
+        (terms M.next M.answer M.number M.call M.user M.least M.closes K.faults H.Link.Source.told H.Link.Sink.told
+        users.now (H.left all.now.value)) lock.now hall.new.pass hall.new.ended.items
         (held_by (λ r. r.place) hall.new.running.items) (vec_len hall.new.running) (H.told all.now.value)
         (H.told host.now) (H.left host.now) spare.now end.now }
     ensures none_run { vec_len hall.new.running ≡ 0 }
@@ -209,25 +209,25 @@ pub(crate) fn join_all<M: Served, H: Host, C: Clock + Drop, R: Threads>(
 }
 
 /// Takes in a pass that got no link.
-pub(crate) fn take_in_spare<M: Served, H: Host, C: Clock + Drop>(
-    lock: &Lock<M, C>,
+pub(crate) fn take_in_spare<M: Served, H: Host, C: Clock + Drop, K: Keeper<M>>(
+    lock: &Lock<M, C, K>,
     users: &Users,
     all: &Snapshot<H>,
     host: &H,
-    hall: &mut Hall<M, H::Link, C>,
-    spare: Option<Pass<M>>,
+    hall: &mut Hall<M, H::Link, C, K>,
+    spare: Option<Pass<M, K>>,
     end: HostEnd,
 )
     requires stopped { IsStopped
-        (terms M.next M.answer M.number M.call M.user M.least M.closes H.Link.Source.told H.Link.Sink.told users.now
-        (H.left all.now.value)) lock.now hall.old.pass hall.old.ended.items
+        (terms M.next M.answer M.number M.call M.user M.least M.closes K.faults H.Link.Source.told H.Link.Sink.told
+        users.now (H.left all.now.value)) lock.now hall.old.pass hall.old.ended.items
         (held_by (λ r. r.place) hall.old.running.items) (vec_len hall.old.running) (H.told all.now.value)
         (H.told host.now) (H.left host.now) spare end }
     requires none_run { vec_len hall.old.running ≡ 0 }
     ensures { IsOverAll
-        (terms M.next M.answer M.number M.call M.user M.least M.closes H.Link.Source.told H.Link.Sink.told users.now
-        (H.left all.now.value)) lock.now hall.new.pass hall.new.ended.items (H.told all.now.value) (H.told host.now)
-        (H.left host.now) end }
+        (terms M.next M.answer M.number M.call M.user M.least M.closes K.faults H.Link.Source.told H.Link.Sink.told
+        users.now (H.left all.now.value)) lock.now hall.new.pass hall.new.ended.items (H.told all.now.value) (H.told
+        host.now) (H.left host.now) end }
 {
     let _ = users;
     let _ = all;
@@ -242,7 +242,9 @@ pub(crate) fn take_in_spare<M: Served, H: Host, C: Clock + Drop>(
 }
 
 /// A row whose mark no session has that runs.
-pub(crate) fn free_row<M: Served, L: Link + Drop, C: Clock>(running: &Vec<Row<M, L, C>>) -> usize {
+pub(crate) fn free_row<M: Served, L: Link + Drop, C: Clock, K: Keeper<M>>(
+    running: &Vec<Row<M, L, C, K>>,
+) -> usize {
     for row in 0..64 {
         if !running.iter().any(|r| r.row == row) {
             return row;
@@ -253,7 +255,9 @@ pub(crate) fn free_row<M: Served, L: Link + Drop, C: Clock>(running: &Vec<Row<M,
 
 /// Makes room for one session more. False: memory was wanted.
 #[tactic(auto, unfolding(crate::specs::Keeping::most_workers))]
-pub(crate) fn reserve<M: Served, L: Link + Drop, C: Clock>(hall: &mut Hall<M, L, C>) -> bool
+pub(crate) fn reserve<M: Served, L: Link + Drop, C: Clock, K: Keeper<M>>(
+    hall: &mut Hall<M, L, C, K>,
+) -> bool
     requires room { vec_len hall.old.ended + vec_len hall.old.running ≤ vec_capacity hall.old.ended }
     requires few { vec_len hall.old.running < most_workers }
     ensures pass { hall.new.pass ≡ hall.old.pass }

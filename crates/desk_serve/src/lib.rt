@@ -4,6 +4,7 @@
 
 mod ended;
 mod hall;
+mod laws;
 mod marks;
 mod running;
 mod serving;
@@ -11,4 +12,5 @@ mod session;
 mod task;
 
 pub use ended::{Closing, Ended, HostEnd};
+pub use laws::nowhere_keeps_all;
 pub use serving::serve;

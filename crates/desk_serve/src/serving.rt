@@ -2,8 +2,8 @@
 ghost use Rattle.std.specs.Prelude.{◌≡◌, ◌⊎◌, ◌+◌, ◌<◌, ◌≤◌, ℕ, List, [], length, vec_len, vec_capacity, IfOk, OnErr, MatchOption, true, All, None};
 ghost use Rattle.outside.specs.Outside.{Rose};
 ghost use Rattle.outside.specs.Hosts.{IsNew, NoneLeft};
-ghost use Rattle.desk_lock.specs.Words.{IsOf, first_pass};
-ghost use Rattle.desk_serve.specs.Sessions.{terms, most_links, IsGiven, Taken, EndsFor, Closed};
+ghost use Rattle.desk_lock.specs.Words.{IsOf, Since, first_pass};
+ghost use Rattle.desk_serve.specs.Sessions.{terms, most_links, IsGiven, Taken, EndsFor, ClosedOver};
 ghost use Rattle.desk_serve.specs.Keeping.{IsFresh, IsReady, Keeps, KeepsWith, IsStopped, IsDone, IsOverAll, Runs, held_by, most_workers};
 
 use crate::ended::{Closing, Ended, HostEnd};
@@ -13,7 +13,7 @@ use crate::running::start;
 use cm_base::items::Items;
 use cm_base::user::Users;
 use desk_lock::{Lock, Pass, SplitStop};
-use desk_model::Version;
+use desk_model::{Keeper, Version};
 use outside::{Clock, Failed, Gate, Host};
 use std::alloc::{AllocError, Global};
 use std::snapshot::Snapshot;
@@ -42,33 +42,33 @@ fn at_once(workers: usize) -> usize
 
 // Where as many sessions run as may, one of them is joined.
 #[tactic(auto, unfolding(crate::specs::Keeping::most_workers))]
-fn join_down<M: Served, H: Host, C: Clock + Drop, R: Threads + Wait>(
+fn join_down<M: Served, H: Host, C: Clock + Drop, K: Keeper<M>, R: Threads + Wait>(
     rt: &R,
-    lock: &Lock<M, C>,
+    lock: &Lock<M, C, K>,
     users: &Users,
     all: &Snapshot<H>,
     marks: &Marks,
     workers: usize,
-    hall: &mut Hall<M, H::Link, C>,
+    hall: &mut Hall<M, H::Link, C, K>,
     place: u64,
 )
     requires keeps { Keeps
-        (terms M.next M.answer M.number M.call M.user M.least M.closes H.Link.Source.told H.Link.Sink.told users.now
-        (H.left all.now.value)) lock.now hall.old.pass hall.old.ended.items
+        (terms M.next M.answer M.number M.call M.user M.least M.closes K.faults H.Link.Source.told H.Link.Sink.told
+        users.now (H.left all.now.value)) lock.now hall.old.pass hall.old.ended.items
         (held_by (λ r. r.place) hall.old.running.items) (vec_len hall.old.running) 0 place }
-    requires rows { All (λ r. Runs (terms M.next M.answer M.number M.call M.user M.least M.closes H.Link.Source.told
-        H.Link.Sink.told users.now (H.left all.now.value)) lock.now r.handle.promise.lock.value
+    requires rows { All (λ r. Runs (terms M.next M.answer M.number M.call M.user M.least M.closes K.faults
+        H.Link.Source.told H.Link.Sink.told users.now (H.left all.now.value)) lock.now r.handle.promise.lock.value
         r.handle.promise.users.value r.handle.promise.pass.value r.handle.promise.link.value r.place r.before)
         hall.old.running.items }
     requires room { vec_len hall.old.ended + vec_len hall.old.running ≤ vec_capacity hall.old.ended }
     requires workers { workers ≤ most_workers }
     requires few { vec_len hall.old.running ≤ most_workers }
     ensures keeps { Keeps
-        (terms M.next M.answer M.number M.call M.user M.least M.closes H.Link.Source.told H.Link.Sink.told users.now
-        (H.left all.now.value)) lock.now hall.new.pass hall.new.ended.items
+        (terms M.next M.answer M.number M.call M.user M.least M.closes K.faults H.Link.Source.told H.Link.Sink.told
+        users.now (H.left all.now.value)) lock.now hall.new.pass hall.new.ended.items
         (held_by (λ r. r.place) hall.new.running.items) (vec_len hall.new.running) 0 place }
-    ensures rows { All (λ r. Runs (terms M.next M.answer M.number M.call M.user M.least M.closes H.Link.Source.told
-        H.Link.Sink.told users.now (H.left all.now.value)) lock.now r.handle.promise.lock.value
+    ensures rows { All (λ r. Runs (terms M.next M.answer M.number M.call M.user M.least M.closes K.faults
+        H.Link.Source.told H.Link.Sink.told users.now (H.left all.now.value)) lock.now r.handle.promise.lock.value
         r.handle.promise.users.value r.handle.promise.pass.value r.handle.promise.link.value r.place r.before)
         hall.new.running.items }
     ensures room { vec_len hall.new.ended + vec_len hall.new.running ≤ vec_capacity hall.new.ended }
@@ -80,33 +80,33 @@ fn join_down<M: Served, H: Host, C: Clock + Drop, R: Threads + Wait>(
 }
 
 // Makes room for a note and a session. False: memory was wanted.
-fn make_room<M: Served, H: Host, C: Clock + Drop, R: Threads + Wait>(
+fn make_room<M: Served, H: Host, C: Clock + Drop, K: Keeper<M>, R: Threads + Wait>(
     rt: &R,
-    lock: &Lock<M, C>,
+    lock: &Lock<M, C, K>,
     users: &Users,
     all: &Snapshot<H>,
     marks: &Marks,
     workers: usize,
-    hall: &mut Hall<M, H::Link, C>,
+    hall: &mut Hall<M, H::Link, C, K>,
     place: u64,
 ) -> bool
     requires keeps { Keeps
-        (terms M.next M.answer M.number M.call M.user M.least M.closes H.Link.Source.told H.Link.Sink.told users.now
-        (H.left all.now.value)) lock.now hall.old.pass hall.old.ended.items
+        (terms M.next M.answer M.number M.call M.user M.least M.closes K.faults H.Link.Source.told H.Link.Sink.told
+        users.now (H.left all.now.value)) lock.now hall.old.pass hall.old.ended.items
         (held_by (λ r. r.place) hall.old.running.items) (vec_len hall.old.running) 0 place }
-    requires rows { All (λ r. Runs (terms M.next M.answer M.number M.call M.user M.least M.closes H.Link.Source.told
-        H.Link.Sink.told users.now (H.left all.now.value)) lock.now r.handle.promise.lock.value
+    requires rows { All (λ r. Runs (terms M.next M.answer M.number M.call M.user M.least M.closes K.faults
+        H.Link.Source.told H.Link.Sink.told users.now (H.left all.now.value)) lock.now r.handle.promise.lock.value
         r.handle.promise.users.value r.handle.promise.pass.value r.handle.promise.link.value r.place r.before)
         hall.old.running.items }
     requires room { vec_len hall.old.ended + vec_len hall.old.running ≤ vec_capacity hall.old.ended }
     requires workers { workers ≤ most_workers }
     requires few { vec_len hall.old.running ≤ most_workers }
     ensures keeps { Keeps
-        (terms M.next M.answer M.number M.call M.user M.least M.closes H.Link.Source.told H.Link.Sink.told users.now
-        (H.left all.now.value)) lock.now hall.new.pass hall.new.ended.items
+        (terms M.next M.answer M.number M.call M.user M.least M.closes K.faults H.Link.Source.told H.Link.Sink.told
+        users.now (H.left all.now.value)) lock.now hall.new.pass hall.new.ended.items
         (held_by (λ r. r.place) hall.new.running.items) (vec_len hall.new.running) 0 place }
-    ensures rows { All (λ r. Runs (terms M.next M.answer M.number M.call M.user M.least M.closes H.Link.Source.told
-        H.Link.Sink.told users.now (H.left all.now.value)) lock.now r.handle.promise.lock.value
+    ensures rows { All (λ r. Runs (terms M.next M.answer M.number M.call M.user M.least M.closes K.faults
+        H.Link.Source.told H.Link.Sink.told users.now (H.left all.now.value)) lock.now r.handle.promise.lock.value
         r.handle.promise.users.value r.handle.promise.pass.value r.handle.promise.link.value r.place r.before)
         hall.new.running.items }
     ensures room { vec_len hall.new.ended + vec_len hall.new.running ≤ vec_capacity hall.new.ended }
@@ -120,21 +120,21 @@ fn make_room<M: Served, H: Host, C: Clock + Drop, R: Threads + Wait>(
 }
 
 // A new pass, for the next link. None: memory was wanted.
-fn new_pass<M: Served, H: Host, C: Clock + Drop>(
-    lock: &Lock<M, C>,
+fn new_pass<M: Served, H: Host, C: Clock + Drop, K: Keeper<M>>(
+    lock: &Lock<M, C, K>,
     users: &Users,
     all: &Snapshot<H>,
-    hall: &mut Hall<M, H::Link, C>,
+    hall: &mut Hall<M, H::Link, C, K>,
     place: u64,
-) -> Option<Pass<M>>
+) -> Option<Pass<M, K>>
     requires keeps { Keeps
-        (terms M.next M.answer M.number M.call M.user M.least M.closes H.Link.Source.told H.Link.Sink.told users.now
-        (H.left all.now.value)) lock.now hall.old.pass hall.old.ended.items
+        (terms M.next M.answer M.number M.call M.user M.least M.closes K.faults H.Link.Source.told H.Link.Sink.told
+        users.now (H.left all.now.value)) lock.now hall.old.pass hall.old.ended.items
         (held_by (λ r. r.place) hall.old.running.items) (vec_len hall.old.running) 0 place }
     requires fewer { place < most_links }
     ensures keeps { KeepsWith
-        (terms M.next M.answer M.number M.call M.user M.least M.closes H.Link.Source.told H.Link.Sink.told users.now
-        (H.left all.now.value)) lock.now hall.new.pass hall.new.ended.items
+        (terms M.next M.answer M.number M.call M.user M.least M.closes K.faults H.Link.Source.told H.Link.Sink.told
+        users.now (H.left all.now.value)) lock.now hall.new.pass hall.new.ended.items
         (held_by (λ r. r.place) hall.new.running.items) (vec_len hall.new.running) place result }
     ensures ended { hall.new.ended ≡ hall.old.ended }
     ensures running { hall.new.running ≡ hall.old.running }
@@ -180,20 +180,21 @@ fn launch<
     M: Served + 's,
     H: Host,
     C: Clock + Drop + Send + 's,
+    K: Keeper<M> + Send + 's,
     G: Gate + Sync + 's,
     R: Threads + Wait + Sync + 's,
 >(
     scope: &Scope<'s, E>,
     rt: &'s R,
     alloc: Global,
-    lock: &'s Lock<M, C>,
+    lock: &'s Lock<M, C, K>,
     users: &'s Users,
     gate: &'s G,
     marks: &'s Marks,
     all: &Snapshot<H>,
-    hall: &mut Hall<M, H::Link, C>,
+    hall: &mut Hall<M, H::Link, C, K>,
     place: u64,
-    pass: Pass<M>,
+    pass: Pass<M, K>,
     link: H::Link,
 )
 where
@@ -203,11 +204,11 @@ where
     M::Question: Send,
     H::Link: Send + 's,
     requires keeps { Keeps
-        (terms M.next M.answer M.number M.call M.user M.least M.closes H.Link.Source.told H.Link.Sink.told users.now
-        (H.left all.now.value)) lock.now hall.old.pass hall.old.ended.items
+        (terms M.next M.answer M.number M.call M.user M.least M.closes K.faults H.Link.Source.told H.Link.Sink.told
+        users.now (H.left all.now.value)) lock.now hall.old.pass hall.old.ended.items
         (held_by (λ r. r.place) hall.old.running.items) (vec_len hall.old.running) 1 place }
-    requires rows { All (λ r. Runs (terms M.next M.answer M.number M.call M.user M.least M.closes H.Link.Source.told
-        H.Link.Sink.told users.now (H.left all.now.value)) lock.now r.handle.promise.lock.value
+    requires rows { All (λ r. Runs (terms M.next M.answer M.number M.call M.user M.least M.closes K.faults
+        H.Link.Source.told H.Link.Sink.told users.now (H.left all.now.value)) lock.now r.handle.promise.lock.value
         r.handle.promise.users.value r.handle.promise.pass.value r.handle.promise.link.value r.place r.before)
         hall.old.running.items }
     requires room { (vec_len hall.old.ended + vec_len hall.old.running + 1 ≤ vec_capacity hall.old.ended)
@@ -217,11 +218,11 @@ where
     requires given { IsGiven (H.left all.now.value) place link }
     requires was_new { IsNew (H.Link.Source.told link) (H.Link.Sink.told link) }
     ensures keeps { Keeps
-        (terms M.next M.answer M.number M.call M.user M.least M.closes H.Link.Source.told H.Link.Sink.told users.now
-        (H.left all.now.value)) lock.now hall.new.pass hall.new.ended.items
+        (terms M.next M.answer M.number M.call M.user M.least M.closes K.faults H.Link.Source.told H.Link.Sink.told
+        users.now (H.left all.now.value)) lock.now hall.new.pass hall.new.ended.items
         (held_by (λ r. r.place) hall.new.running.items) (vec_len hall.new.running) 0 (place + 1) }
-    ensures rows { All (λ r. Runs (terms M.next M.answer M.number M.call M.user M.least M.closes H.Link.Source.told
-        H.Link.Sink.told users.now (H.left all.now.value)) lock.now r.handle.promise.lock.value
+    ensures rows { All (λ r. Runs (terms M.next M.answer M.number M.call M.user M.least M.closes K.faults
+        H.Link.Source.told H.Link.Sink.told users.now (H.left all.now.value)) lock.now r.handle.promise.lock.value
         r.handle.promise.users.value r.handle.promise.pass.value r.handle.promise.link.value r.place r.before)
         hall.new.running.items }
     ensures room { vec_len hall.new.ended + vec_len hall.new.running ≤ vec_capacity hall.new.ended }
@@ -248,21 +249,22 @@ fn take_links<
     M: Served + 's,
     H: Host,
     C: Clock + Drop + Send + 's,
+    K: Keeper<M> + Send + 's,
     G: Gate + Sync + 's,
     R: Threads + Wait + Sync + 's,
 >(
     scope: &Scope<'s, E>,
     rt: &'s R,
     alloc: Global,
-    lock: &'s Lock<M, C>,
+    lock: &'s Lock<M, C, K>,
     users: &'s Users,
     gate: &'s G,
     marks: &'s Marks,
     workers: usize,
     host: &mut H,
     all: &Snapshot<H>,
-    hall: &mut Hall<M, H::Link, C>,
-) -> (HostEnd, Option<Pass<M>>)
+    hall: &mut Hall<M, H::Link, C, K>,
+) -> (HostEnd, Option<Pass<M, K>>)
 where
     M: Send + Sync,
     M::State: Send + Sync,
@@ -270,11 +272,11 @@ where
     M::Question: Send,
     H::Link: Send + 's,
     requires keeps { Keeps
-        (terms M.next M.answer M.number M.call M.user M.least M.closes H.Link.Source.told H.Link.Sink.told users.now
-        (H.left all.now.value)) lock.now hall.old.pass hall.old.ended.items
+        (terms M.next M.answer M.number M.call M.user M.least M.closes K.faults H.Link.Source.told H.Link.Sink.told
+        users.now (H.left all.now.value)) lock.now hall.old.pass hall.old.ended.items
         (held_by (λ r. r.place) hall.old.running.items) (vec_len hall.old.running) 0 0 }
-    requires rows { All (λ r. Runs (terms M.next M.answer M.number M.call M.user M.least M.closes H.Link.Source.told
-        H.Link.Sink.told users.now (H.left all.now.value)) lock.now r.handle.promise.lock.value
+    requires rows { All (λ r. Runs (terms M.next M.answer M.number M.call M.user M.least M.closes K.faults
+        H.Link.Source.told H.Link.Sink.told users.now (H.left all.now.value)) lock.now r.handle.promise.lock.value
         r.handle.promise.users.value r.handle.promise.pass.value r.handle.promise.link.value r.place r.before)
         hall.old.running.items }
     requires room { vec_len hall.old.ended + vec_len hall.old.running ≤ vec_capacity hall.old.ended }
@@ -282,12 +284,12 @@ where
     requires few { vec_len hall.old.running ≤ most_workers }
     requires taken { Taken (H.told all.now.value) (H.left all.now.value) (H.told host.old) (H.left host.old) 0 }
     ensures stopped { IsStopped
-        (terms M.next M.answer M.number M.call M.user M.least M.closes H.Link.Source.told H.Link.Sink.told users.now
-        (H.left all.now.value)) lock.now hall.new.pass hall.new.ended.items
+        (terms M.next M.answer M.number M.call M.user M.least M.closes K.faults H.Link.Source.told H.Link.Sink.told
+        users.now (H.left all.now.value)) lock.now hall.new.pass hall.new.ended.items
         (held_by (λ r. r.place) hall.new.running.items) (vec_len hall.new.running) (H.told all.now.value)
         (H.told host.new) (H.left host.new) result.1 result.0 }
-    ensures rows { All (λ r. Runs (terms M.next M.answer M.number M.call M.user M.least M.closes H.Link.Source.told
-        H.Link.Sink.told users.now (H.left all.now.value)) lock.now r.handle.promise.lock.value
+    ensures rows { All (λ r. Runs (terms M.next M.answer M.number M.call M.user M.least M.closes K.faults
+        H.Link.Source.told H.Link.Sink.told users.now (H.left all.now.value)) lock.now r.handle.promise.lock.value
         r.handle.promise.users.value r.handle.promise.pass.value r.handle.promise.link.value r.place r.before)
         hall.new.running.items }
     ensures room { vec_len hall.new.ended + vec_len hall.new.running ≤ vec_capacity hall.new.ended }
@@ -312,9 +314,9 @@ where
 
 // What the scope gives back: the host and what the calling thread keeps, the same as it was lent, and why no more links were taken.
 #[derive(Drop)]
-struct Back<'h, 'k, M: Served, H: Host, C: Clock> {
+struct Back<'h, 'k, M: Served, H: Host, C: Clock, K: Keeper<M>> {
     host: &'h mut H,
-    hall: &'k mut Hall<M, H::Link, C>,
+    hall: &'k mut Hall<M, H::Link, C, K>,
     end: HostEnd,
 }
 
@@ -327,20 +329,21 @@ fn work<
     M: Served + 's,
     H: Host,
     C: Clock + Drop + Send + 's,
+    K: Keeper<M> + Send + 's,
     G: Gate + Sync + 's,
     R: Threads + Wait + Sync + 's,
 >(
     scope: &Scope<'s, E>,
     rt: &'s R,
     alloc: Global,
-    lock: &'s Lock<M, C>,
+    lock: &'s Lock<M, C, K>,
     users: &'s Users,
     gate: &'s G,
     marks: &'s Marks,
     workers: usize,
     host: &'h mut H,
-    hall: &'k mut Hall<M, H::Link, C>,
-) -> Back<'h, 'k, M, H, C>
+    hall: &'k mut Hall<M, H::Link, C, K>,
+) -> Back<'h, 'k, M, H, C, K>
 where
     M: Send + Sync,
     M::State: Send + Sync,
@@ -349,13 +352,13 @@ where
     H::Link: Send + 's,
     requires workers { workers ≤ most_workers }
     requires ready { IsReady
-        (terms M.next M.answer M.number M.call M.user M.least M.closes H.Link.Source.told H.Link.Sink.told users.now
-        (H.left host.old)) lock.now hall.old.pass hall.old.ended.items (vec_len hall.old.running) }
+        (terms M.next M.answer M.number M.call M.user M.least M.closes K.faults H.Link.Source.told H.Link.Sink.told
+        users.now (H.left host.old)) lock.now hall.old.pass hall.old.ended.items (vec_len hall.old.running) }
     ensures same_host { result.host.ghost_name ≡ host.entry.ghost_name }
     ensures same_hall { result.hall.ghost_name ≡ hall.entry.ghost_name }
     ensures over { IsOverAll
-        (terms M.next M.answer M.number M.call M.user M.least M.closes H.Link.Source.told H.Link.Sink.told users.now
-        (H.left host.old)) lock.now result.hall.now.pass result.hall.now.ended.items (H.told host.old)
+        (terms M.next M.answer M.number M.call M.user M.least M.closes K.faults H.Link.Source.told H.Link.Sink.told
+        users.now (H.left host.old)) lock.now result.hall.now.pass result.hall.now.ended.items (H.told host.old)
         (H.told result.host.now) (H.left result.host.now) result.end }
 {
     let all = Snapshot::of(&*host);
@@ -374,19 +377,20 @@ fn scoped<
     M: Served,
     H: Host,
     C: Clock + Drop + Send,
+    K: Keeper<M> + Send,
     G: Gate + Sync,
     R: Threads + Wait + Sync,
 >(
     rt: &R,
     alloc: Global,
-    lock: &Lock<M, C>,
+    lock: &Lock<M, C, K>,
     users: &Users,
     gate: &G,
     marks: &Marks,
     workers: usize,
     host: &'h mut H,
-    hall: &'k mut Hall<M, H::Link, C>,
-) -> Back<'h, 'k, M, H, C>
+    hall: &'k mut Hall<M, H::Link, C, K>,
+) -> Back<'h, 'k, M, H, C, K>
 where
     M: Send + Sync,
     M::State: Send + Sync,
@@ -395,28 +399,28 @@ where
     H::Link: Send,
     requires workers { workers ≤ most_workers }
     requires ready { IsReady
-        (terms M.next M.answer M.number M.call M.user M.least M.closes H.Link.Source.told H.Link.Sink.told users.now
-        (H.left host.old)) lock.now hall.old.pass hall.old.ended.items (vec_len hall.old.running) }
+        (terms M.next M.answer M.number M.call M.user M.least M.closes K.faults H.Link.Source.told H.Link.Sink.told
+        users.now (H.left host.old)) lock.now hall.old.pass hall.old.ended.items (vec_len hall.old.running) }
     ensures same_host { result.host.ghost_name ≡ host.entry.ghost_name }
     ensures same_hall { result.hall.ghost_name ≡ hall.entry.ghost_name }
     ensures over { IsOverAll
-        (terms M.next M.answer M.number M.call M.user M.least M.closes H.Link.Source.told H.Link.Sink.told users.now
-        (H.left host.old)) lock.now result.hall.now.pass result.hall.now.ended.items (H.told host.old)
+        (terms M.next M.answer M.number M.call M.user M.least M.closes K.faults H.Link.Source.told H.Link.Sink.told
+        users.now (H.left host.old)) lock.now result.hall.now.pass result.hall.now.ended.items (H.told host.old)
         (H.told result.host.now) (H.left result.host.now) result.end }
 {
     thread::scope(
         thread::scope_env(),
         rt,
-        move |scope| -> Back<'_, '_, M, H, C>
+        move |scope| -> Back<'_, '_, M, H, C, K>
             requires workers { workers ≤ most_workers }
-            requires ready { IsReady (terms M.next M.answer M.number M.call M.user M.least M.closes H.Link.Source.told
-                H.Link.Sink.told users.now (H.left host.now)) lock.now hall.now.pass hall.now.ended.items
-                (vec_len hall.now.running) }
+            requires ready { IsReady (terms M.next M.answer M.number M.call M.user M.least M.closes K.faults
+                H.Link.Source.told H.Link.Sink.told users.now (H.left host.now)) lock.now hall.now.pass
+                hall.now.ended.items (vec_len hall.now.running) }
             ensures same_host { result.host.ghost_name ≡ host.entry.ghost_name }
             ensures same_hall { result.hall.ghost_name ≡ hall.entry.ghost_name }
-            ensures over { IsOverAll (terms M.next M.answer M.number M.call M.user M.least M.closes H.Link.Source.told
-                H.Link.Sink.told users.entry.now (H.left host.entry.now)) lock.entry.now result.hall.now.pass
-                result.hall.now.ended.items (H.told host.entry.now) (H.told result.host.now)
+            ensures over { IsOverAll (terms M.next M.answer M.number M.call M.user M.least M.closes K.faults
+                H.Link.Source.told H.Link.Sink.told users.entry.now (H.left host.entry.now)) lock.entry.now
+                result.hall.now.pass result.hall.now.ended.items (H.told host.entry.now) (H.told result.host.now)
                 (H.left result.host.now) result.end }
         {
             work(
@@ -427,16 +431,23 @@ where
 }
 
 // Serves in a scope of threads, and tells why no more links were taken.
-fn in_scope<M: Served, H: Host, C: Clock + Drop + Send, G: Gate + Sync, R: Threads + Wait + Sync>(
+fn in_scope<
+    M: Served,
+    H: Host,
+    C: Clock + Drop + Send,
+    K: Keeper<M> + Send,
+    G: Gate + Sync,
+    R: Threads + Wait + Sync,
+>(
     rt: &R,
     alloc: Global,
-    lock: &Lock<M, C>,
+    lock: &Lock<M, C, K>,
     users: &Users,
     gate: &G,
     marks: &Marks,
     workers: usize,
     host: &mut H,
-    hall: &mut Hall<M, H::Link, C>,
+    hall: &mut Hall<M, H::Link, C, K>,
 ) -> HostEnd
 where
     M: Send + Sync,
@@ -446,11 +457,11 @@ where
     H::Link: Send,
     requires workers { workers ≤ most_workers }
     requires ready { IsReady
-        (terms M.next M.answer M.number M.call M.user M.least M.closes H.Link.Source.told H.Link.Sink.told users.now
-        (H.left host.old)) lock.now hall.old.pass hall.old.ended.items (vec_len hall.old.running) }
+        (terms M.next M.answer M.number M.call M.user M.least M.closes K.faults H.Link.Source.told H.Link.Sink.told
+        users.now (H.left host.old)) lock.now hall.old.pass hall.old.ended.items (vec_len hall.old.running) }
     ensures { IsOverAll
-        (terms M.next M.answer M.number M.call M.user M.least M.closes H.Link.Source.told H.Link.Sink.told users.now
-        (H.left host.old)) lock.now hall.new.pass hall.new.ended.items (H.told host.old) (H.told host.new)
+        (terms M.next M.answer M.number M.call M.user M.least M.closes K.faults H.Link.Source.told H.Link.Sink.told
+        users.now (H.left host.old)) lock.now hall.new.pass hall.new.ended.items (H.told host.old) (H.told host.new)
         (H.left host.new) result }
 {
     let back = scoped(rt, alloc, lock, users, gate, marks, workers, host, hall);
@@ -458,49 +469,51 @@ where
 }
 
 // Closes the lock.
-fn close<M: Served, H: Host, C: Clock + Drop>(
-    lock: Lock<M, C>,
+fn close<M: Served, H: Host, C: Clock + Drop, K: Keeper<M>>(
+    lock: Lock<M, C, K>,
     users: &Users,
     all: &Snapshot<H>,
-    pass: Pass<M>,
+    pass: Pass<M, K>,
     ended: Vec<Ended<H::Link>>,
     end: HostEnd,
-) -> Closing<M, H::Link>
+) -> Closing<M, H::Link, K>
     requires { IsDone
-        (terms M.next M.answer M.number M.call M.user M.least M.closes H.Link.Source.told H.Link.Sink.told users.now
-        (H.left all.now.value)) lock pass ended.items }
-    ensures closed { Closed
-        (terms M.next M.answer M.number M.call M.user M.least M.closes H.Link.Source.told H.Link.Sink.told users.now
-        (H.left all.now.value)) lock.version.opening result.last result.ended }
+        (terms M.next M.answer M.number M.call M.user M.least M.closes K.faults H.Link.Source.told H.Link.Sink.told
+        users.now (H.left all.now.value)) lock pass ended.items }
+    ensures closed { ClosedOver
+        (terms M.next M.answer M.number M.call M.user M.least M.closes K.faults H.Link.Source.told H.Link.Sink.told
+        users.now (H.left all.now.value)) (Since K.stands K.went lock.keeper) lock.version.opening result.store
+        result.last result.ended }
     ensures ended { result.ended ≡ ended.items }
     ensures end { result.end ≡ end }
 {
     let _ = users;
     let _ = all;
     session_stands::<M>();
-    let (last, _clock) = lock.close(pass);
+    let (last, _clock, store) = lock.close(pass);
     last.version.lawful();
     Closing {
         last,
+        store,
         ended: Items::from_vec(ended),
         end,
     }
 }
 
 // What the calling thread has at first.
-fn first_hall<M: Served, H: Host, C: Clock + Drop>(
+fn first_hall<M: Served, H: Host, C: Clock + Drop, K: Keeper<M>>(
     alloc: Global,
-    lock: &Lock<M, C>,
+    lock: &Lock<M, C, K>,
     users: &Users,
     all: &Snapshot<H>,
-    pass: Pass<M>,
-) -> Hall<M, H::Link, C>
+    pass: Pass<M, K>,
+) -> Hall<M, H::Link, C, K>
     requires empty { lock.now.version.journal ≡ [] }
     requires first { pass ≡ first_pass lock.now }
     requires is_of { IsOf M.next lock.now pass }
     ensures { IsReady
-        (terms M.next M.answer M.number M.call M.user M.least M.closes H.Link.Source.told H.Link.Sink.told users.now
-        (H.left all.now.value)) lock.now result.pass result.ended.items (vec_len result.running) }
+        (terms M.next M.answer M.number M.call M.user M.least M.closes K.faults H.Link.Source.told H.Link.Sink.told
+        users.now (H.left all.now.value)) lock.now result.pass result.ended.items (vec_len result.running) }
 {
     let _ = lock;
     let _ = users;
@@ -512,9 +525,17 @@ fn first_hall<M: Served, H: Host, C: Clock + Drop>(
     }
 }
 
-/// Serves the host's links over an opening, each by a session of its own, at most so many at once. More than 64 are taken for 64. Where memory is
-/// wanted before the first one, the host isn't asked.
-pub fn serve<M: Served, H: Host, C: Clock + Drop + Send, G: Gate + Sync, R: Threads + Wait + Sync>(
+/// Serves the host's links over an opening, each by a session of its own, at most so many at once. More than 64 are taken for 64. The journal's
+/// entries are kept by the keeper, at which none stand yet: one after the other, or all that wait together. Where memory is wanted before the
+/// first link, the host isn't asked.
+pub fn serve<
+    M: Served,
+    H: Host,
+    C: Clock + Drop + Send,
+    K: Keeper<M> + Send,
+    G: Gate + Sync,
+    R: Threads + Wait + Sync,
+>(
     rt: &R,
     alloc: Global,
     opening: M::State,
@@ -523,16 +544,19 @@ pub fn serve<M: Served, H: Host, C: Clock + Drop + Send, G: Gate + Sync, R: Thre
     workers: usize,
     host: &mut H,
     gate: &G,
-) -> Result<Closing<M, H::Link>, AllocError>
+    keeper: K,
+    batches: bool,
+) -> Result<Closing<M, H::Link, K>, AllocError>
 where
     M: Send + Sync,
     M::State: Send + Sync,
     M::Call: Send + Sync,
     M::Question: Send,
     H::Link: Send,
-    ensures closed { IfOk result (λ c. Closed
-        (terms M.next M.answer M.number M.call M.user M.least M.closes H.Link.Source.told H.Link.Sink.told users.now
-        (H.left host.old)) opening c.last c.ended) }
+    requires { K.stands keeper 0 [] }
+    ensures closed { IfOk result (λ c. ClosedOver
+        (terms M.next M.answer M.number M.call M.user M.least M.closes K.faults H.Link.Source.told H.Link.Sink.told
+        users.now (H.left host.old)) (Since K.stands K.went keeper) opening c.store c.last c.ended) }
     ensures taken { IfOk result (λ c. Taken (H.told host.old) (H.left host.old) (H.told host.new) (H.left host.new)
         (length c.ended)) }
     ensures end { IfOk result (λ c. EndsFor (H.told host.old) (H.told host.new) (H.left host.new)
@@ -541,7 +565,7 @@ where
 {
     let all = Snapshot::of(&*host);
     let version: Version<M> = Version::opening(alloc, opening)?;
-    let (lock, pass) = Lock::begin(alloc, version, clock)?;
+    let (lock, pass) = Lock::begin(alloc, version, clock, keeper, batches)?;
     let marks = Marks::new();
     let workers = at_once(workers);
     let mut hall = first_hall(alloc, &lock, users, &all, pass);

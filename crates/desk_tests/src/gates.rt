@@ -5,6 +5,7 @@ ghost use Rattle.outside.specs.Hosts.{is_new};
 use crate::locks::waited;
 use crate::replies::ShownSums;
 use cm_base::items::Items;
+use desk_model::Nowhere;
 use desk_serve::{Ended, serve};
 use outside::{FixedClock, Gate, Host, MemHost, MemLink};
 use std::alloc::{AllocError, Global};
@@ -85,8 +86,8 @@ fn served<R: Threads + Wait + Sync>(
     drop(host.begin(8080, None));
     let users = Items::new(alloc);
     let clock = FixedClock::new(5);
-    let closing = serve::<ShownSums, MemHost, FixedClock, Holding, R>(
-        rt, alloc, 0, clock, &users, 2, &mut host, gate,
+    let closing = serve::<ShownSums, MemHost, FixedClock, Nowhere, Holding, R>(
+        rt, alloc, 0, clock, &users, 2, &mut host, gate, Nowhere, false,
     )?;
     Ok((count_of_ended(&closing.ended), closing.last.number()))
 }

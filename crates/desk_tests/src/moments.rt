@@ -6,7 +6,7 @@ use crate::gates::link;
 use crate::replies::ShownSums;
 use cm_base::items::Items;
 use cm_base::number::Moment;
-use desk_model::Snapshot;
+use desk_model::{Nowhere, Snapshot};
 use desk_serve::serve;
 use outside::{Host, ListClock, MemHost, MemLink, OpenGate};
 use std::alloc::{AllocError, Global};
@@ -41,8 +41,8 @@ fn served<R: Threads + Wait + Sync>(
     let mut host = MemHost::new(alloc, links, &[], &[])?;
     drop(host.begin(8080, None));
     let users = Items::new(alloc);
-    let closing = serve::<ShownSums, MemHost, ListClock, OpenGate, R>(
-        rt, alloc, 0, clock, &users, 1, &mut host, &OpenGate,
+    let closing = serve::<ShownSums, MemHost, ListClock, Nowhere, OpenGate, R>(
+        rt, alloc, 0, clock, &users, 1, &mut host, &OpenGate, Nowhere, true,
     )?;
     Ok(closing.last)
 }

@@ -4,8 +4,8 @@ use Rattle.cm_call.specs.declared.write.Write.{Write}
 use Rattle.desk_model.specs.declared.entry.Entry.{Entry}
 use Rattle.byte_codec.specs.Marks.{begins}
 use Rattle.byte_codec.specs.Payloads.{Encodes}
-use Rattle.journal_codec.specs.declared.people.People.{People}
-use Rattle.journal_codec.specs.Openings.{new_people_codec}
+use Rattle.journal_people.specs.Told.{PeopleTold}
+use Rattle.journal_codec.specs.Roots.{new_people_codec}
 use Rattle.journal_codec.specs.Entries.{entry_codec}
 use Rattle.journal_codec.specs.Fronts.{entries_are_no_people}
 
@@ -13,7 +13,7 @@ both_ways : (b : Bool) → b ≡ true → b ≡ false → ⊥
 both_ways true e f = absurd cc
 both_ways false e f = absurd cc
 
-pub apart : (e : Entry Write) (p : People) (bytes : List ℕ) → Encodes entry_codec e bytes → Encodes new_people_codec p bytes → ⊥
+pub apart : (e : Entry Write) (p : PeopleTold) (bytes : List ℕ) → Encodes entry_codec e bytes → Encodes new_people_codec p bytes → ⊥
 apart e p bytes h k =
     let no : begins 80 (entry_codec.code e ++ []) ≡ false = entries_are_no_people.not e [] h.fits in
     let yes : begins 80 (new_people_codec.code p ++ []) ≡ true = entries_are_no_people.is p [] k.fits in

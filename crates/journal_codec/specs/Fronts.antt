@@ -4,10 +4,10 @@ use Rattle.std.specs.Prelude.{◌==◌}
 use Rattle.std.specs.Int.{byte_at}
 use Rattle.cm_call.specs.declared.write.Write.{Write}
 use Rattle.desk_model.specs.declared.entry.Entry.{Entry}
-use Rattle.journal_codec.specs.declared.people.People.{People}
+use Rattle.journal_people.specs.Told.{PeopleTold}
 use Rattle.byte_codec.specs.Marks.{begins, IsApart}
 use Rattle.byte_codec.specs.Numbers.{number_code}
-use Rattle.journal_codec.specs.Openings.{new_people_codec}
+use Rattle.journal_codec.specs.Roots.{new_people_codec}
 use Rattle.journal_codec.specs.Entries.{entry_codec}
 
 zero_is_no_mark : (b : ℕ) → b ≡ 0 → (b == 80) ≡ false

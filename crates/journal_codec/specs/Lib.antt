@@ -1,4 +1,4 @@
-pub mod Openings
+pub mod Roots
 pub mod Entries
 pub mod Fronts
 pub mod Recorded

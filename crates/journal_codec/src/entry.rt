@@ -4,9 +4,10 @@ ghost use Rattle.byte_codec.specs.Codecs.{Codec, Writes, Reads};
 ghost use Rattle.byte_codec.specs.Payloads.{Encodes, Decoded, Is};
 ghost use Rattle.desk_model.specs.declared.entry.Entry.{Entry};
 ghost use Rattle.cm_call.specs.declared.write.Write.{Write};
-ghost use Rattle.journal_codec.specs.declared.payload.Payload.TheVariants as payloads;
+ghost use Rattle.journal_keeper.specs.Recorded.{by_session};
+ghost use Rattle.journal_replay.specs.declared.record.Record.TheVariants.{Written};
 ghost use Rattle.journal_codec.specs.Entries.{entry_codec};
-ghost use Rattle.journal_codec.specs.Recorded.{payload_codec};
+ghost use Rattle.journal_codec.specs.Recorded.{record_codec};
 
 use crate::form::JournalForm;
 use argument_codec::form::put_four;
@@ -18,13 +19,20 @@ use desk_model::Entry;
 use std::alloc::Global;
 use write_codec::form::{put_write, take_written};
 
+// Puts the code of an entry, made by the session of this number, behind what is there.
+fn put_by(session: u32, entry: &Entry<Write>, out: &mut Vec<u8>) -> Result<(), EncodeStop>
+    ensures { OnOk result (Writes entry_codec (by_session session entry.now) out.old.items out.new.items) }
+{
+    put_four(&session, &entry.serial, &entry.user, &entry.moment, out)?;
+    put_write(&entry.call, out)?;
+    Ok(())
+}
+
 impl Coded<JournalForm> for Entry<Write> {
     ghost codec = { entry_codec };
 
     fn write(&self, out: &mut Vec<u8>) -> Result<(), EncodeStop> {
-        put_four(&self.session, &self.serial, &self.user, &self.moment, out)?;
-        put_write(&self.call, out)?;
-        Ok(())
+        put_by(self.session, self, out)
     }
 
     fn read(alloc: Global, from: &mut Reader<'_>) -> Result<Entry<Write>, DecodeStop> {
@@ -39,10 +47,19 @@ impl Coded<JournalForm> for Entry<Write> {
     }
 }
 
-/// The encoding of an entry, which is that of the payload that tells it.
+/// The encoding of an entry, made by the session of this number.
+pub fn encode_by(alloc: Global, session: u32, entry: &Entry<Write>) -> Result<Vec<u8>, EncodeStop>
+    ensures { IfOk result (λ v. Encodes entry_codec (by_session session entry.now) v.items) }
+{
+    let mut out = Vec::new(alloc);
+    put_by(session, entry, &mut out)?;
+    Ok(out)
+}
+
+/// The encoding of an entry, which is that of the record that tells it.
 pub fn encode(alloc: Global, written: &Entry<Write>) -> Result<Vec<u8>, EncodeStop>
     ensures alone { IfOk result (λ v. Encodes entry_codec written.now v.items) }
-    ensures payload { IfOk result (λ v. Encodes payload_codec (payloads.Entry written.now) v.items) }
+    ensures as_record { IfOk result (λ v. Encodes record_codec (Written written.now) v.items) }
 {
     let bytes = byte_codec::payload::encode::<JournalForm, Entry<Write>>(alloc, written)?;
     Ok(bytes)

@@ -1,9 +1,10 @@
-//! The payloads of a journal as bytes: what it begins with, the entries, and the people that hold from one entry on.
+//! The payloads of the repository's journal as bytes: its root, the entries, and the people that hold from one of its places on.
 #![tactic(auto)]
 
 pub mod entry;
 pub mod form;
+pub mod journal;
 pub mod laws;
-pub mod opening;
-pub mod payload;
 pub mod people;
+pub mod record;
+pub mod root;

@@ -18,7 +18,7 @@ fn is_final(end: End) -> bool
 {
     match end {
         End::Ended | End::Bad(_) => true,
-        End::ReadFault | End::WriteFault | End::Starved => false,
+        End::ReadFault | End::WriteFault | End::Starved | End::Unkept => false,
     }
 }
 

@@ -1,8 +1,9 @@
-//! The real objects behind the traits of `outside`: standard input, standard output, the system's clock, and connections on loopback.
-//! They keep their count of faults, and tell nothing of content.
+//! The real objects behind the traits of `outside`: standard input, standard output, the system's clock, and connections on loopback,
+//! with an alarm that ends these. They keep their count of faults, and tell nothing of content.
 #![tactic(auto)]
 
 mod again;
+mod alarm;
 mod clock;
 mod sink;
 mod source;
@@ -10,6 +11,7 @@ mod tcp;
 #[cfg(test)]
 mod tests;
 
+pub use alarm::Alarm;
 pub use clock::{LATEST_MS, SystemClock};
 pub use sink::StdSink;
 pub use source::StdSource;

@@ -1,5 +1,5 @@
 //! One test for each: what a reader, a writer and a clock do, seen through the traits; and the system's own once.
-use crate::{LATEST_MS, StdSink, StdSource, SystemClock, TcpHost, TcpLink};
+use crate::{Alarm, LATEST_MS, StdSink, StdSource, SystemClock, TcpHost, TcpLink};
 use outside::{Clock, Failed, Host, Link, Sink, Source};
 use std::io::{self, Error, ErrorKind, Read, Write};
 use std::net::{IpAddr, Ipv4Addr, Net, OpenListener, OpenStream, SocketAddr};
@@ -108,7 +108,7 @@ impl Net for Free {
 #[test]
 fn link_ends_and_counts(rt: HostRuntime) {
     let mut room = [0; 4];
-    let mut link = TcpLink::new(Short);
+    let mut link = TcpLink::new(Short, None);
     assert_eq!(rt; link.read(&mut room), Ok(0));
     assert_eq!(rt; link.write(b"abcd"), Ok(3));
     assert_eq!(rt; link.write(b"d"), Err(Failed));
@@ -130,6 +130,24 @@ fn host_fails_where_its_port_is_taken(rt: HostRuntime) {
     let net = Free(80);
     let mut host = TcpHost::new(&net);
     assert_eq!(rt; host.begin(81, None), Err(Failed));
+    assert!(rt; host.accept().is_err());
+}
+
+#[test]
+fn alarm_ends_host_and_links(rt: HostRuntime) {
+    let mut room = [0; 4];
+    let net = Free(80);
+    let alarm = Alarm::new();
+    let mut host = TcpHost::heeding(&net, &alarm);
+    assert_eq!(rt; host.begin(80, None), Ok(()));
+    let mut link = match host.accept() {
+        Ok(Some(link)) => link,
+        _ => panic!(rt; "no link"),
+    };
+    assert_eq!(rt; link.write(b"abcd"), Ok(3));
+    alarm.raise(&net);
+    assert_eq!(rt; link.write(b"abcd"), Err(Failed));
+    assert_eq!(rt; link.read(&mut room), Err(Failed));
     assert!(rt; host.accept().is_err());
 }
 

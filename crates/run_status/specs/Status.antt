@@ -5,7 +5,7 @@ use Rattle.http_reply.specs.Sent.{TookFront}
 use Rattle.desk_serve.specs.declared.ended.HostEnd.{HostEnd}
 use Rattle.desk_serve.specs.declared.ended.HostEnd.TheVariants.{Empty, Fault, Many, Memory}
 use Rattle.talk.specs.declared.end.End.{End}
-use Rattle.talk.specs.declared.end.End.TheVariants.{Ended, Bad, ReadFault, WriteFault, Starved}
+use Rattle.talk.specs.declared.end.End.TheVariants.{Ended, Bad, ReadFault, WriteFault, Starved, Unkept}
 use Rattle.talk.specs.Talked.{rose}
 
 -- the status of a session's end
@@ -15,6 +15,7 @@ status_of ReadFault = 3
 status_of WriteFault = 4
 status_of Starved = 7
 status_of (Bad fault) = 8
+status_of Unkept = 9
 
 -- what is written for words that are none of the program's
 abbrev pub not_valid : List ℕ

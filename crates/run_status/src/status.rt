@@ -17,6 +17,9 @@ const NOT_THE_PROGRAMS: u8 = 2;
 /// The status where memory is wanted.
 const WANTS_MEMORY: u8 = 7;
 
+/// The status where the journal could not be kept.
+const NOT_KEPT: u8 = 9;
+
 /// The status where the host fails.
 const HOST_FAILED: u8 = 5;
 
@@ -42,8 +45,8 @@ pub fn refused<L: Link>(link: &mut L) -> u8
     }
 }
 
-/// The status of a session's end: 0 where it ended well, 3 or 4 where its input or its output failed, 7 where memory was wanted, and 8 where
-/// the bytes of a request had a fault.
+/// The status of a session's end: 0 where it ended well, 3 or 4 where its input or its output failed, 7 where memory was wanted, 8 where
+/// the bytes of a request had a fault, and 9 where a reply could not be kept.
 pub fn status_of(end: End) -> u8
     ensures { result ≡ status_of end }
 {
@@ -53,6 +56,7 @@ pub fn status_of(end: End) -> u8
         End::WriteFault => 4,
         End::Starved => WANTS_MEMORY,
         End::Bad(_) => 8,
+        End::Unkept => NOT_KEPT,
     }
 }
 

@@ -10,7 +10,7 @@ use Rattle.http_grammar.specs.declared.fault.HttpFault.{HttpFault}
 use Rattle.http_grammar.specs.declared.fault.HttpFault.TheVariants.{Cut}
 use Rattle.http_grammar.specs.First.{Fault, IsPending}
 use Rattle.talk.specs.declared.end.End.{End}
-use Rattle.talk.specs.declared.end.End.TheVariants.{Ended, Bad, ReadFault, WriteFault, Starved}
+use Rattle.talk.specs.declared.end.End.TheVariants.{Ended, Bad, ReadFault, WriteFault, Starved, Unkept}
 use Rattle.talk.specs.Served.{Kind}
 use Rattle.talk.specs.Wire.{Wire}
 use Rattle.talk.specs.Requests.{Arrived, rest_after, Due, interim, no_interim, HasFault, at_front, cut, AtEnd, closed, at_border, IsBad}
@@ -95,6 +95,7 @@ session-given kind opening users after h input over output times read_failed wri
 session-given kind opening users after h input over output times read_failed write_failed ReadFault words v s mine gives final = absurd final
 session-given kind opening users after h input over output times read_failed write_failed WriteFault words v s mine gives final = absurd final
 session-given kind opening users after h input over output times read_failed write_failed Starved words v s mine gives final = absurd final
+session-given kind opening users after h input over output times read_failed write_failed Unkept words v s mine gives final = absurd final
 
 -- on those and the bytes that were left behind them
 pub session-alone : {S C Q : Type 0} (kind : Kind S C Q) (opening : S) (users : List User) (after : ℕ) (h : List (Entry C)) (input more : List ℕ) (over : Bool) (output : List ℕ) (times : List Moment) (read_failed write_failed : Bool) (end : End) (words v : Words)
@@ -121,6 +122,7 @@ session-alone kind opening users after h input more over output times read_faile
 session-alone kind opening users after h input more over output times read_failed write_failed ReadFault words v law s mine gives none final = absurd final
 session-alone kind opening users after h input more over output times read_failed write_failed WriteFault words v law s mine gives none final = absurd final
 session-alone kind opening users after h input more over output times read_failed write_failed Starved words v law s mine gives none final = absurd final
+session-alone kind opening users after h input more over output times read_failed write_failed Unkept words v law s mine gives none final = absurd final
 
 -- a session whose read failed is the session alone on the bytes that it was given, which ends there in one of two ways
 pub due_empty : (w : Wire) → GrammarLaws → (due : List ℕ) → Due w [] due → due ≡ []

@@ -14,7 +14,7 @@ use Rattle.http_grammar.specs.Fields.{expects_continue}
 use Rattle.http_grammar.specs.declared.fault.HttpFault.{HttpFault}
 use Rattle.http_grammar.specs.First.{First, Whole, Fault, HoldsHead}
 use Rattle.talk.specs.declared.end.End.{End}
-use Rattle.talk.specs.declared.end.End.TheVariants.{Ended, Bad, ReadFault, WriteFault, Starved}
+use Rattle.talk.specs.declared.end.End.TheVariants.{Ended, Bad, ReadFault, WriteFault, Starved, Unkept}
 use Rattle.talk.specs.Wire.{Wire}
 use Rattle.talk.specs.Served.{Kind, Ask, faulty, writes, reads}
 use Rattle.talk.specs.Requests.{Arrived, rest_after, IsOpen, AreRequests, interim_of, Due, interim, at_front, fault_text, closed, at_border}
@@ -58,6 +58,7 @@ end-begins w rs rest before output (Bad fault) e = (e.due ++ fault_text w fault,
 end-begins w rs rest before output ReadFault e = absurd e
 end-begins w rs rest before output WriteFault e = absurd e
 end-begins w rs rest before output Starved e = absurd e
+end-begins w rs rest before output Unkept e = absurd e
 
 -- the request right behind some
 behind : (w : Wire) (input : List ℕ) (x : Arrived) (more rs : List Arrived) → AreRequests w input (x ∷ (more ++ rs)) → (y : Arrived) × (m : List Arrived) × (x ∷ (more ++ rs) ≡ m ++ (y ∷ rs)) × AreRequests w input (y ∷ rs)
@@ -135,6 +136,7 @@ front-of-interim {C = C} kind opening users words input o e h rs head law laws p
     by_end ReadFault x = absurd x
     by_end WriteFault x = absurd x
     by_end Starved x = absurd x
+    by_end Unkept x = absurd x
 
     by_more : (more : List Arrived) → a.arrived ≡ more ++ rs → IsPrefix ((run rs).output ++ kind.wire.interim_text) o
     by_more [] is = by_end e (subst (λ qs. EndsAlone kind.wire qs (rest_after input qs) (run qs).output o e) is a.ends)

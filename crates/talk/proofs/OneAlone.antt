@@ -9,7 +9,7 @@ use Rattle.http_grammar.specs.Request.{Head, Request}
 use Rattle.http_grammar.specs.declared.fault.HttpFault.{HttpFault}
 use Rattle.http_grammar.specs.First.{First, Front, Nothing, Beginning, Waits, Whole, Fault, empty, IsPending}
 use Rattle.talk.specs.declared.end.End.{End}
-use Rattle.talk.specs.declared.end.End.TheVariants.{Ended, Bad, ReadFault, WriteFault, Starved}
+use Rattle.talk.specs.declared.end.End.TheVariants.{Ended, Bad, ReadFault, WriteFault, Starved, Unkept}
 use Rattle.talk.specs.Served.{Kind}
 use Rattle.talk.specs.Wire.{Wire}
 use Rattle.talk.specs.Requests.{Arrived, rest_after, IsOpen, IsClosed, AreRequests, HasFault, at_front, cut, AtEnd, closed, at_border, IsBad, fault_text}
@@ -77,6 +77,7 @@ no_request w law rs rest before output (Bad fault) r n e o first = fault_faces w
 no_request w law rs rest before output ReadFault r n e o first = e
 no_request w law rs rest before output WriteFault r n e o first = e
 no_request w law rs rest before output Starved r n e o first = e
+no_request w law rs rest before output Unkept r n e o first = e
 
 empty_fault : (w : Wire) → FrontLaws → (rest : List ℕ) (over : Bool) (fault : HttpFault) → rest ≡ [] → HasFault rest over fault → ⊥
 empty_fault w law rest over fault nothing (at_front first) = absurd (differ (law.one rest Nothing (Fault fault) (empty nothing refl) first))
@@ -110,12 +111,15 @@ one_end w law rs rest before o o' (Bad f) (Bad g) a b =
 one_end w law rs rest before o o' Ended ReadFault a b = absurd b
 one_end w law rs rest before o o' Ended WriteFault a b = absurd b
 one_end w law rs rest before o o' Ended Starved a b = absurd b
+one_end w law rs rest before o o' Ended Unkept a b = absurd b
 one_end w law rs rest before o o' (Bad f) ReadFault a b = absurd b
 one_end w law rs rest before o o' (Bad f) WriteFault a b = absurd b
 one_end w law rs rest before o o' (Bad f) Starved a b = absurd b
+one_end w law rs rest before o o' (Bad f) Unkept a b = absurd b
 one_end w law rs rest before o o' ReadFault e' a b = absurd a
 one_end w law rs rest before o o' WriteFault e' a b = absurd a
 one_end w law rs rest before o o' Starved e' a b = absurd a
+one_end w law rs rest before o o' Unkept e' a b = absurd a
 
 -- nothing more, where the shorter has ended
 pub same_requests : (w : Wire) → FrontLaws → (input before output : List ℕ) (end : End) (rs qs : List Arrived) → AreRequests w input rs → AreRequests w input qs → EndsAlone w rs (rest_after input rs) before output end → length rs ≤ length qs → qs ≡ rs

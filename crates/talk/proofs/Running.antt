@@ -1,5 +1,5 @@
 -- A session of the first pass of a desk that begins with an opening is the session alone.
-use Rattle.std.proofs.Common.{IfSome, ◌≡◌, ℕ, Bool, true, List, [], ◌∷◌, ◌++◌, Option, Some, None, Result, length, drop, refl, sym, ◌∙◌, subst, inl, inr}
+use Rattle.std.proofs.Common.{IfSome, ◌≡◌, ◌≢◌, ℕ, Bool, true, List, [], ◌∷◌, ◌++◌, Option, Some, None, Result, length, drop, refl, sym, ◌∙◌, subst, inl, inr}
 use Rattle.std.specs.Io.KnownBytes.{prepend_known, IsAtEnd}
 use mathlib.Core.List.{IsPrefix}
 use Rattle.outside.specs.Clocks.{Words, rest_words}
@@ -11,12 +11,12 @@ use Rattle.desk_model.specs.Histories.{own, SessionsBelow}
 use Rattle.desk_model.specs.Desks.{Known}
 use Rattle.desk_model.specs.Single.{Single, IsOf}
 use Rattle.talk.specs.declared.end.End.{End}
-use Rattle.talk.specs.declared.end.End.TheVariants.{Ended, Bad, ReadFault, WriteFault, Starved}
+use Rattle.talk.specs.declared.end.End.TheVariants.{Ended, Bad, ReadFault, WriteFault, Starved, Unkept}
 use Rattle.talk.specs.Served.{Kind}
 use Rattle.talk.specs.Session.{Session}
 use Rattle.talk.specs.Told.{Gives, ToldOrOneMore}
 use Rattle.talk.specs.Turned.{setting}
-use Rattle.talk.specs.Talked.{Talked, TakesWords, rose}
+use Rattle.talk.specs.Talked.{Talked, TakesWords, IfUnkept, rose}
 use Rattle.talk.specs.Alone.{Alone, IsFinal, alone_at}
 use Rattle.talk.specs.Ran.{RunAlone, IsAloneOnGiven}
 use Rattle.talk.proofs.ListFacts.{below-one}
@@ -55,25 +55,36 @@ final-gives (Bad fault) words times after final told = told
 final-gives ReadFault words times after final told = absurd final
 final-gives WriteFault words times after final told = absurd final
 final-gives Starved words times after final told = absurd final
+final-gives Unkept words times after final told = absurd final
+
+-- each reply was kept
+all-kept : (end : End) → IfUnkept end ⊥ → end ≢ Unkept
+all-kept Ended h e = cc
+all-kept (Bad fault) h e = cc
+all-kept ReadFault h e = cc
+all-kept WriteFault h e = cc
+all-kept Starved h e = cc
+all-kept Unkept h e = h
 
 on-given : {S C Q : Type 0} (kind : Kind S C Q) (opening : S) (users : List User) (words : Words) (after : Option Words) (h : List (Entry C)) (input output : List ℕ) (over : Bool) (times : List Moment) (read_failed write_failed : Bool) (end : End)
-    → GrammarLaws → Session kind (alone_at opening users) (length h) h input over output times read_failed write_failed end → own 0 0 h ≡ h → TakesWords end (Some words) times after
+    → GrammarLaws → Session kind (alone_at opening users) (length h) h input over output times read_failed write_failed end → own 0 0 h ≡ h → TakesWords end (Some words) times after → IfUnkept end ⊥
     → IsAloneOnGiven kind opening users words input output write_failed h end
-on-given kind opening users words after h input output over times read_failed write_failed Ended law s mine told =
+on-given kind opening users words after h input output over times read_failed write_failed Ended law s mine told kept =
     let v = gives-end words times after told in
     session-given kind opening users (length h) h input over output times read_failed write_failed Ended words v.0 s mine v.1 tt
-on-given kind opening users words after h input output over times read_failed write_failed (Bad fault) law s mine told =
+on-given kind opening users words after h input output over times read_failed write_failed (Bad fault) law s mine told kept =
     let v = gives-end words times after told in
     session-given kind opening users (length h) h input over output times read_failed write_failed (Bad fault) words v.0 s mine v.1 tt
-on-given kind opening users words after h input output over times read_failed write_failed ReadFault law s mine told =
+on-given kind opening users words after h input output over times read_failed write_failed ReadFault law s mine told kept =
     let v = gives-end words times after told in
     session-cut-off kind opening users (length h) h input over output times read_failed write_failed words v.0 law s mine v.1
-on-given kind opening users words after h input output over times read_failed write_failed WriteFault law s mine told =
+on-given kind opening users words after h input output over times read_failed write_failed WriteFault law s mine told kept =
     let v = gives-end words times after told in
     lost-given kind opening users (length h) h input over output times read_failed write_failed words v.0 s mine v.1
-on-given kind opening users words after h input output over times read_failed write_failed Starved law s mine told =
+on-given kind opening users words after h input output over times read_failed write_failed Starved law s mine told kept =
     let v = gives-so-far words times after told in
     starved-given kind opening users (length h) h input over output times read_failed write_failed words v.0 s mine v.1
+on-given kind opening users words after h input output over times read_failed write_failed Unkept law s mine told kept = absurd kept
 
 on-all : {S C Q : Type 0} (kind : Kind S C Q) (opening : S) (users : List User) (words : Words) (after : Option Words) (h : List (Entry C)) (input output left : List ℕ) (source source' : SourceTold) (times : List Moment) (read_failed write_failed : Bool) (end : End)
     → GrammarLaws → Session kind (alone_at opening users) (length h) h input source'.ended output times read_failed write_failed end → own 0 0 h ≡ h → TakesWords end (Some words) times after
@@ -100,27 +111,28 @@ same-alone opening users k o c s = λ i. record { opening = o i; users = users; 
 all-own : {C : Type 0} (b c : ℕ) (h : List (Entry C)) → b ≡ 0 → c ≡ 1 → SessionsBelow c (drop b h) → own 0 0 h ≡ h
 all-own b c h is one below = below-one h (rw (is, one) at below)
 
-pub run-alone : {S C Q : Type 0} (kind : Kind S C Q) (opening : S) (users : List User) (k l : Known S C) (words after : Option Words) (source source' : SourceTold) (sink sink' : SinkTold) (sessions : ℕ) (end : End)
-    → FrontLaws → GrammarLaws → (now : Option Words) → Talked kind users k now source sink l after source' sink' end → now ≡ words
+pub run-alone : {S C Q : Type 0} (kind : Kind S C Q) (opening : S) (users : List User) (k l : Known S C) (sure : ℕ) (words after : Option Words) (source source' : SourceTold) (sink sink' : SinkTold) (sessions : ℕ) (end : End)
+    → FrontLaws → GrammarLaws → (now : Option Words) → Talked kind users k now source sink l sure after source' sink' end → IfUnkept end ⊥ → now ≡ words
     → k.opening ≡ opening → k.base ≡ 0 → k.session ≡ 0 → k.seen ≡ [] → sessions ≡ 1 → SessionsBelow sessions (drop l.base l.seen)
     → (source'.ended ≡ true → IsAtEnd source'.left)
     → RunAlone kind opening users words source sink source' sink' end l.seen after
-run-alone {S} {C} {Q} kind opening users k l words after source source' sink sink' sessions end front law now talked at o b c none one below empty = record {
+run-alone {S} {C} {Q} kind opening users k l sure words after source source' sink sink' sessions end front law now talked kept at o b c none one below empty = record {
   input = t.input;
   output = t.output;
   times = t.times;
   gave = t.gave;
   took = t.took;
   told = t.told;
+  kept = all-kept end kept;
   all_own = mine;
   session = session;
-  on_given = some-is words _ (λ w is. on-given kind opening users w after l.seen t.input t.output source'.ended t.times (rose source.faults source'.faults) (rose sink.faults sink'.faults) end law session mine (told w is));
+  on_given = some-is words _ (λ w is. on-given kind opening users w after l.seen t.input t.output source'.ended t.times (rose source.faults source'.faults) (rose sink.faults sink'.faults) end law session mine (told w is) kept);
   on_all = λ final. some-is words _ (λ w is. some-is source.left _ (λ left there. on-all kind opening users w after l.seen t.input t.output left source source' t.times (rose source.faults source'.faults) (rose sink.faults sink'.faults) end law session mine (told w is) t.gave empty final there));
   on_lost = λ lost. some-is words _ (λ w is. some-is source.left _ (λ left there. λ o stop g a. on-lost kind opening users w after l.seen g t.input t.output left o source source' t.times (rose source.faults source'.faults) (rose sink.faults sink'.faults) end stop front law session mine (told w is) t.gave lost there a));
 }
   where
-    t : Talked kind users k words source sink l after source' sink' end
-    t = subst (λ w. Talked kind users k w source sink l after source' sink' end) at talked
+    t : Talked kind users k words source sink l sure after source' sink' end
+    t = subst (λ w. Talked kind users k w source sink l sure after source' sink' end) at talked
 
     mine : own 0 0 l.seen ≡ l.seen
     mine = all-own l.base sessions l.seen (t.base ∙ b) one below

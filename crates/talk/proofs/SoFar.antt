@@ -1,5 +1,5 @@
 -- A session up to one of its steps, and after one step more.
-use Rattle.std.proofs.Common.{◌≡◌, ◌≢◌, ℕ, ◌+◌, ◌<◌, ◌==◌, Bool, true, false, List, [], ◌∷◌, ◌++◌, Option, Some, None, length, take, drop, refl, ap, sym, ◌∙◌, arith, append_assoc, subst, inl, inr}
+use Rattle.std.proofs.Common.{◌≡◌, ◌≢◌, ℕ, ◌+◌, ◌<◌, ◌≤◌, ◌==◌, Bool, true, false, List, [], ◌∷◌, ◌++◌, Option, Some, None, length, take, drop, refl, ap, sym, ◌∙◌, arith, append_assoc, subst, inl, inr}
 use Rattle.std.specs.Prelude.{◌-◌, ◌*◌, ◌||◌}
 use Rattle.std.proofs.lemmas.Bool.{eqb-false}
 use Rattle.std.proofs.lemmas.List.{append-nil}
@@ -19,6 +19,7 @@ use Rattle.talk.specs.Wire.{Wire}
 use Rattle.talk.specs.Served.{Kind, Ask, faulty, writes, reads, ask_of}
 use Rattle.talk.specs.Requests.{rest_after, is_last, IsOpen, AreRequests, interim_of, Due, interim, no_interim}
 use Rattle.talk.specs.Session.{Setting, Turn, Does, Accepted, Refused, ahead, refused, AreTurns, requests, sent, entries, last_place, moments, listed}
+use Rattle.talk.specs.Settled.{IsWithin, AreWithin}
 use Rattle.talk.specs.Told.{Told}
 use Rattle.talk.specs.Turned.{Turned, GoesOn, setting}
 use Rattle.talk.specs.Steps.{Standing, SendsInterim, SendsReply, StepDoes, Steps}
@@ -49,6 +50,7 @@ pub record SoFar {S C Q : Type 0} (kind : Kind S C Q) (users : List User) (o : K
   pub times : Told w (moments kind (setting o users) turns) a.words
   pub count_is : a.count ≡ length turns
   pub is_begun : IsInterim kind.wire answered bytes begun
+  pub within : AreWithin kind users a.sure turns
 
 pub told-none : (w : Option Words) → Told w [] w
 told-none None = tt
@@ -71,10 +73,20 @@ goes-then o k l xs ys p q = record {
   own = q.own ∙ (ap (λ zs. zs ++ ys) p.own ∙ append_assoc o.own xs ys);
 }
 
+-- what is among the first m entries is among the first n
+pub within-more : {C Q : Type 0} (m n : ℕ) (ask : Ask C Q) (place : ℕ) → m ≤ n → IsWithin m ask place → IsWithin n ask place
+within-more m n (faulty cause) place le h = tt
+within-more m n (writes user least call) place le h = omega (arith, le, h)
+within-more m n (reads user least question) place le h = omega (arith, le, h)
+
+pub all-within-more : {S C Q : Type 0} (kind : Kind S C Q) (users : List User) (m n : ℕ) (ts : List (Turn C)) → m ≤ n → AreWithin kind users m ts → AreWithin kind users n ts
+all-within-more kind users m n [] le h = tt
+all-within-more kind users m n (t ∷ ts) le h = (all-within-more kind users m n ts le h.0, within-more m n (ask_of kind users t.arrived.request) t.place le h.1)
+
 -- before the first step
-pub so-far-none : {S C Q : Type 0} (kind : Kind S C Q) (users : List User) (o : Known S C) (w : Option Words) (source : SourceTold) (sink : SinkTold)
-    → SoFar kind users o w source sink (record { known = o; words = w; count = 0 }) false [] source sink
-so-far-none kind users o w source sink = record {
+pub so-far-none : {S C Q : Type 0} (kind : Kind S C Q) (users : List User) (o : Known S C) (n : ℕ) (w : Option Words) (source : SourceTold) (sink : SinkTold)
+    → SoFar kind users o w source sink (record { known = o; sure = n; words = w; count = 0 }) false [] source sink
+so-far-none kind users o n w source sink = record {
   input = [];
   turns = [];
   begun = [];
@@ -89,6 +101,7 @@ so-far-none kind users o w source sink = record {
   times = told-none w;
   count_is = refl;
   is_begun = not_sent refl refl;
+  within = tt;
 }
 
 interim-read : (w : Wire) (law : GrammarLaws) (answered : Bool) (bytes got text : List ℕ) → IsInterim w answered bytes text → IsInterim w answered (bytes ++ got) text
@@ -114,6 +127,7 @@ so-far-read kind users o w source0 sink0 a answered bytes got source source' sin
   times = s.times;
   count_is = s.count_is;
   is_begun = interim-read kind.wire law answered bytes got s.begun s.is_begun;
+  within = s.within;
 }
 
 -- what was begun is the interim reply that is due
@@ -244,13 +258,14 @@ so-far-interim kind users o w source0 sink0 a b answered bytes source sink sink'
       times = s.times;
       count_is = s.count_is;
       is_begun = was_sent i.interim.head refl i.interim.holds i.interim.expects refl;
+      within = s.within;
     })
 
 -- a reply is sent, and the session goes on
 pub so-far-reply : {S C Q : Type 0} (kind : Kind S C Q) (users : List User) (o : Known S C) (w : Option Words) (source0 : SourceTold) (sink0 : SinkTold)
     (a b : Standing S C) (answered : Bool) (bytes : List ℕ) (source : SourceTold) (sink sink' : SinkTold) (after : BufferTold) → GrammarLaws → o.own ≡ []
-    → SoFar kind users o w source0 sink0 a answered bytes source sink → SendsReply kind users answered bytes a sink b sink' after None → SoFar kind users o w source0 sink0 b after.answered after.bytes source sink'
-so-far-reply kind users o w source0 sink0 a b answered bytes source sink sink' after law none s i =
+    → SoFar kind users o w source0 sink0 a answered bytes source sink → SendsReply kind users answered bytes a sink b sink' after None → a.sure ≤ b.sure → SoFar kind users o w source0 sink0 b after.answered after.bytes source sink'
+so-far-reply kind users o w source0 sink0 a b answered bytes source sink sink' after law none s i later =
     let r = i.request in
     let text = i.answers.2 in
     let t = i.answers.3 in
@@ -262,7 +277,7 @@ so-far-reply kind users o w source0 sink0 a b answered bytes source sink sink' a
       begun = [];
       gave = s.gave;
       took = subst (Took sink0 sink') (output ∙ sym (append-nil (sent kind.wire s.turns ++ (interim_of kind.wire r.head ++ text))))
-          (Took-then sink0 sink sink' (sent kind.wire s.turns ++ s.begun) text s.took i.answers.4);
+          (Took-then sink0 sink sink' (sent kind.wire s.turns ++ s.begun) text s.took i.answers.5);
       are_requests = requests-more kind.wire s.input bytes s.turns r i.size s.are_requests s.still_open s.rest_is i.first;
       still_open = last-by kind.wire s.turns r.head a.count false s.count_is i.answers.0;
       rest_is = ap (drop i.size) s.rest_is;
@@ -272,6 +287,7 @@ so-far-reply kind users o w source0 sink0 a b answered bytes source sink sink' a
       times = told-then w a.words b.words (moments kind (setting o users) s.turns) _ s.times t.told;
       count_is = i.answers.1 ∙ omega (arith, s.count_is);
       is_begun = not_sent refl refl;
+      within = (all-within-more kind users a.sure b.sure s.turns later s.within, i.answers.4);
     })
 
 -- one step more
@@ -286,7 +302,7 @@ so-far-more kind users o w source0 sink0 a b before after source source' sink si
 
     by_kind : StepDoes kind users before.answered (before.bytes ++ step.got) source source' a sink b sink' after None → SoFar kind users o w source0 sink0 b after.answered after.bytes source' sink'
     by_kind (inl i) = so-far-interim kind users o w source0 sink0 a b before.answered (before.bytes ++ step.got) source' sink sink' after read i
-    by_kind (inr i) = so-far-reply kind users o w source0 sink0 a b before.answered (before.bytes ++ step.got) source' sink sink' after law none read i
+    by_kind (inr i) = so-far-reply kind users o w source0 sink0 a b before.answered (before.bytes ++ step.got) source' sink sink' after law none read i step.later
 
 -- how many steps a session still has at most: two for each reply, less one where the interim reply was sent
 abbrev pub steps_left : ℕ → Bool → ℕ

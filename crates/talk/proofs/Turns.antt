@@ -1,5 +1,5 @@
 -- The turns that are made at a desk.
-use Rattle.std.proofs.Common.{IfOk, inl, inr, pos, ◌≡◌, ℕ, ◌≤◌, ◌<◌, Bool, List, [], ◌∷◌, ◌++◌, Option, Some, None, Result, Ok, Err, IfSome, length, refl, ap, sym, ◌∙◌, arith, length-append, subst}
+use Rattle.std.proofs.Common.{IfOk, IfErr, OnOk, inl, inr, pos, ◌≡◌, ℕ, ◌≤◌, ◌<◌, Bool, List, [], ◌∷◌, ◌++◌, Option, Some, None, Result, Ok, Err, IfSome, length, refl, ap, sym, ◌∙◌, arith, length-append, subst}
 use Rattle.std.proofs.lemmas.List.{append-nil}
 use Rattle.std.proofs.lemmas.Bool.{lt-ltb, le-ltb}
 use mathlib.Core.List.{IsPrefix}
@@ -19,10 +19,13 @@ use Rattle.http_grammar.specs.Request.{Head, Request}
 use Rattle.cm_base.specs.declared.asked.Asked.TheVariants.{Write, Question}
 use Rattle.talk.specs.Served.{Kind, Ask, faulty, writes, reads, ask_of}
 use Rattle.talk.specs.Session.{plain_shown, number_at, ahead, refused, with_number, reading_text}
+use Rattle.talk.specs.Settled.{IsWithin}
 use Rattle.talk.specs.Told.{Told}
 use Rattle.talk.specs.declared.turn.Verdict.{Verdict}
 use Rattle.talk.specs.declared.turn.Verdict.TheVariants.{Shows, Refuses}
-use Rattle.talk.specs.Turned.{Turned, GoesOn, Stays, IsRefusal, IfRefuses, setting}
+use Rattle.talk.specs.declared.turn.Unanswered.{Unanswered}
+use Rattle.talk.specs.declared.turn.Unanswered.TheVariants as unanswered
+use Rattle.talk.specs.Turned.{Turned, TurnUnkept, GoesOn, Stays, IsRefusal, IfRefuses, IfStarved, IfUnkept, setting}
 use Rattle.talk.proofs.ListFacts.{prefix-le, prefix-more}
 
 -- a reply that has its number
@@ -164,6 +167,22 @@ stays-late k l u v w moment on h e = record { on = on; told = inr (moment, told-
 pub same-on : {S C : Type 0} (k l : Known S C) → l ≡ k → GoesOn k l []
 same-on k l e = rw e (record { opening = refl; base = refl; session = refl; seen = ([], append-nil k.seen); own = sym (append-nil k.own) })
 
+-- a write that could not be kept
+pub unkept-turn : {S C Q : Type 0} (kind : Kind S C Q) (users : List User) (head : Head) (last : Bool) (k l : Known S C) (least : ℕ) (user : List ℕ) (moment : Moment) (call : C) (v u w : Option Words)
+    → ((s t : S) (e : Entry C) (a : Shown) → kind.next s e ≡ Ok (t, a) → a.number ≡ Some (kind.number t))
+    → Wrote {A = Shown} {X = Cause} kind.next kind.number k least user moment call (Err stops.Fault) l
+    → IfSome v (λ a. (moment ≡ moment_of (first_word a)) × (u ≡ Some (rest_words a))) → w ≡ u
+    → TurnUnkept kind users head last (writes user least call) k v l w
+unkept-turn kind users head last k l least user moment call v u w law (inl same) took is = inl (stays-late k l v u w moment (same-on k l same) took is)
+unkept-turn kind users head last k l least user moment call v u w law (inr (Ok a, judged)) took is =
+    inr (_, accepted-turn kind users head last k l least user moment call a v w law judged (told-one v u w moment took is))
+unkept-turn kind users head last k l least user moment call v u w law (inr (Err (stops.Refused cause n), judged)) took is =
+    inr (_, refused-turn kind users head last k l least user moment call cause n v w judged (told-one v u w moment took is))
+unkept-turn kind users head last k l least user moment call v u w law (inr (Err (stops.Ahead n), judged)) took is =
+    inr (_, ahead-turn kind users head last k l least user moment call n v w judged (told-one v u w moment took is))
+unkept-turn kind users head last k l least user moment call v u w law (inr (Err stops.Memory, judged)) took is = absurd judged
+unkept-turn kind users head last k l least user moment call v u w law (inr (Err stops.Fault, judged)) took is = absurd judged
+
 -- no word is gone
 pub stays-same : {S C : Type 0} (k l : Known S C) (u w : Option Words) → GoesOn k l [] → w ≡ u → Stays k l u w
 stays-same k l u w on e = record { on = on; told = inl (same-none u w e) }
@@ -181,6 +200,23 @@ pub if-ok-map : {T E : Type 0} (P Q : T → Type 0) (r : Result T E) → ((x : T
 if-ok-map P Q (Ok x) f p = f x p
 if-ok-map P Q (Err e) f p = tt
 
+-- a reply for which memory was wanted is not one that could not be kept
+pub not-unkept : {A : Type 0} (r : Result A Unanswered) (fact : Type 0) → IfErr r (λ e. e ≡ unanswered.Memory) → IfUnkept r fact
+not-unkept (Ok a) fact h = tt
+not-unkept (Err unanswered.Memory) fact h = tt
+not-unkept (Err unanswered.Unkept) fact h = absurd (cc h)
+
+-- a fact that holds holds of what came
+pub ok-so : {A E : Type 0} (r : Result A E) (fact : Type 0) → fact → OnOk r fact
+ok-so (Ok a) fact h = h
+ok-so (Err e) fact h = tt
+
+-- a fact that holds holds where memory was wanted
+pub starved-so : {A : Type 0} (r : Result A Unanswered) (fact : Type 0) → fact → IfStarved r fact
+starved-so (Ok a) fact h = tt
+starved-so (Err unanswered.Memory) fact h = h
+starved-so (Err unanswered.Unkept) fact h = tt
+
 -- what a request asks, by its parts
 pub asks-write : {S C Q : Type 0} (kind : Kind S C Q) (users : List User) (r : Request) (user : List ℕ) (least : ℕ) (call : C)
     → kind.wire.caller_of r.head users ≡ Ok user → kind.call r ≡ Ok (Write call) → least ≡ kind.wire.least_of r.head → ask_of kind users r ≡ writes user least call
@@ -197,6 +233,17 @@ asks-badly kind users r user cause a b = rw (a, b) refl
 pub asks-wrongly : {S C Q : Type 0} (kind : Kind S C Q) (users : List User) (r : Request) (cause : Cause)
     → kind.wire.caller_of r.head users ≡ Err cause → ask_of kind users r ≡ faulty cause
 asks-wrongly kind users r cause a = rw a refl
+
+-- a write that could not be kept is what the request asks
+pub unkept-asking : {S C Q A : Type 0} (kind : Kind S C Q) (users : List User) (r : Request) (head : Head) (user : List ℕ) (least : ℕ) (call : C) (k l : Known S C) (u v : Option Words) (result : Result A Unanswered)
+    → head ≡ r.head → kind.wire.caller_of head users ≡ Ok user → kind.call r ≡ Ok (Write call) → least ≡ kind.wire.least_of head
+    → IfUnkept result ((us : List User) (h : Head) (last : Bool) → TurnUnkept kind us h last (writes user least call) k u l v)
+    → IfUnkept result ((last : Bool) → TurnUnkept kind users r.head last (ask_of kind users r) k u l v)
+unkept-asking kind users r head user least call k l u v (Ok a) e caller called is h = tt
+unkept-asking kind users r head user least call k l u v (Err unanswered.Memory) e caller called is h = tt
+unkept-asking kind users r head user least call k l u v (Err unanswered.Unkept) e caller called is h =
+    let ask : ask_of kind users r ≡ writes user least call = asks-write kind users r user least call (ap (λ x. kind.wire.caller_of x users) (sym e) ∙ caller) called (is ∙ ap (λ x. kind.wire.least_of x) e) in
+    λ last. subst (λ a. TurnUnkept kind users r.head last a k u l v) (sym ask) (h users r.head last)
 
 -- the turn of a request that asks so
 pub turned-asking : {S C Q : Type 0} (kind : Kind S C Q) (users : List User) (head : Head) (last : Bool) (a b : Ask C Q) (k : Known S C) (u : Option Words) (text : List ℕ) (l : Known S C) (v : Option Words)
@@ -233,3 +280,16 @@ wrongly-turn kind users r head shown last cause k u e caller is =
     let text : kind.wire.reply_text (plain_shown kind.wire r.head cause) last ≡ kind.wire.reply_text shown last = ap (λ a. kind.wire.reply_text a last) (sym (is ∙ ap (λ h. plain_shown kind.wire h cause) e)) in
     turned-asking kind users r.head last (faulty cause) (ask_of kind users r) k u (kind.wire.reply_text shown last) k u (asks-wrongly kind users r cause (ap (λ h. kind.wire.caller_of h users) (sym e) ∙ caller))
     (subst (λ text. Turned kind users r.head last (faulty cause) k u text k u) text (faulty-turn kind users r.head last cause k u))
+
+-- they show nothing of the repository
+pub badly-within : {S C Q : Type 0} (kind : Kind S C Q) (users : List User) (r : Request) (head : Head) (user : List ℕ) (cause : Cause) (n place : ℕ)
+    → head ≡ r.head → kind.wire.caller_of head users ≡ Ok user → kind.call r ≡ Err cause → IsWithin n (ask_of kind users r) place
+badly-within kind users r head user cause n place e caller call =
+    let ask : ask_of kind users r ≡ faulty cause = asks-badly kind users r user cause (ap (λ h. kind.wire.caller_of h users) (sym e) ∙ caller) call in
+    subst (λ a. IsWithin n a place) (sym ask) tt
+
+pub wrongly-within : {S C Q : Type 0} (kind : Kind S C Q) (users : List User) (r : Request) (head : Head) (cause : Cause) (n place : ℕ)
+    → head ≡ r.head → kind.wire.caller_of head users ≡ Err cause → IsWithin n (ask_of kind users r) place
+wrongly-within kind users r head cause n place e caller =
+    let ask : ask_of kind users r ≡ faulty cause = asks-wrongly kind users r cause (ap (λ h. kind.wire.caller_of h users) (sym e) ∙ caller) in
+    subst (λ a. IsWithin n a place) (sym ask) tt

@@ -14,7 +14,7 @@ use Rattle.http_grammar.specs.Request.{Head}
 use Rattle.http_grammar.specs.Fields.{expects_continue}
 use Rattle.http_grammar.specs.First.{First, Fault, HoldsHead}
 use Rattle.talk.specs.declared.end.End.{End}
-use Rattle.talk.specs.declared.end.End.TheVariants.{Ended, Bad, ReadFault, WriteFault, Starved}
+use Rattle.talk.specs.declared.end.End.TheVariants.{Ended, Bad, ReadFault, WriteFault, Starved, Unkept}
 use Rattle.talk.specs.Wire.{Wire}
 use Rattle.talk.specs.Served.{Kind, Ask, faulty, writes, reads, ask_of}
 use Rattle.talk.specs.Requests.{Arrived, rest_after, is_last, IsOpen, AreRequests, interim_of, Due, fault_text, AtEnd, IsBad}
@@ -70,6 +70,7 @@ EndsAlone w rs rest sent output (Bad fault) = IsBad w rs rest true fault sent ou
 EndsAlone w rs rest sent output ReadFault = ⊥
 EndsAlone w rs rest sent output WriteFault = ⊥
 EndsAlone w rs rest sent output Starved = ⊥
+EndsAlone w rs rest sent output Unkept = ⊥
 
 -- the session alone on this input, over an opening with these users and a clock with these words
 pub record Alone {S C Q : Type 0} (kind : Kind S C Q) (opening : S) (users : List User) (words : Words) (input output : List ℕ) (end : End) (h : List (Entry C)) : Type 0 where
@@ -85,6 +86,7 @@ IsFinal (Bad fault) = Unit {0}
 IsFinal ReadFault = ⊥
 IsFinal WriteFault = ⊥
 IsFinal Starved = ⊥
+IsFinal Unkept = ⊥
 
 -- Of a session alone whose write failed, after these requests: the replies before were sent whole, and a front of the text that was due behind them,
 -- which is the reply to the last request, the text of a fault, or an interim reply.

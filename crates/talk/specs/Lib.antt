@@ -2,6 +2,7 @@ pub mod Wire
 pub mod Served
 pub mod Requests
 pub mod Session
+pub mod Settled
 pub mod Told
 pub mod Turned
 pub mod Alone

@@ -9,12 +9,12 @@ use Rattle.cm_base.specs.declared.user.User.{User}
 use Rattle.desk_model.specs.declared.entry.Entry.{Entry}
 use Rattle.desk_model.specs.Histories.{replay, own, shown_by}
 use Rattle.http_grammar.specs.declared.fault.HttpFault.{HttpFault}
-use Rattle.http_grammar.specs.Request.{Head}
+use Rattle.http_grammar.specs.Request.{Head, Request}
 use Rattle.http_grammar.specs.Fields.{expects_continue}
-use Rattle.http_grammar.specs.First.{First, Fault, IsPending, HoldsHead}
+use Rattle.http_grammar.specs.First.{First, Whole, Fault, IsPending, HoldsHead}
 use Rattle.http_reply.specs.Replies.{without_body}
 use Rattle.talk.specs.declared.end.End.{End}
-use Rattle.talk.specs.declared.end.End.TheVariants.{Ended, Bad, ReadFault, WriteFault, Starved}
+use Rattle.talk.specs.declared.end.End.TheVariants.{Ended, Bad, ReadFault, WriteFault, Starved, Unkept}
 use Rattle.talk.specs.Wire.{Wire}
 use Rattle.talk.specs.Served.{Kind, Ask, faulty, writes, reads, ask_of}
 use Rattle.talk.specs.Requests.{Arrived, rest_after, is_last, IsOpen, AreRequests, interim_of, Due, fault_text, AtEnd, IsBad}
@@ -168,13 +168,30 @@ pub record IsStarved (w : Wire) (rs : List Arrived) (rest : List ℕ) (sent outp
   pub part_is : (part ≡ w.runtime_text) ⊎ (IsPrefix part w.runtime_text × (write_failed ≡ true))
   pub output_is : output ≡ sent ++ (due ++ part)
 
--- how a session ends, after these turns and at the rest of its input
+-- nothing was done for the request that stands next, and nothing was sent for it but its interim reply
+pub record IsUndone {C : Type 0} (w : Wire) (ts : List (Turn C)) (rest output : List ℕ) : Type 0 where
+  pub still_open : IsOpen w (requests ts)
+  pub request : Request
+  pub size : ℕ
+  pub first : First rest (Whole request size)
+  pub output_is : output ≡ sent w ts ++ interim_of w request.head
+
+-- of the last turn nothing was sent but its interim reply
+pub record IsUnsent {C : Type 0} (w : Wire) (ts : List (Turn C)) (output : List ℕ) : Type 0 where
+  pub turn : Turn C
+  pub earlier : List (Turn C)
+  pub turns_are : ts ≡ turn ∷ earlier
+  pub output_is : output ≡ sent w earlier ++ interim_of w turn.arrived.request.head
+
+-- How a session ends, after these turns and at the rest of its input. Where the reply that was due could not be kept, nothing is sent in its place:
+-- nothing was done for its request, or the last turn was made and its text is not sent.
 abbrev pub Ends : {C : Type 0} → Wire → List (Turn C) → List ℕ → Bool → List ℕ → Bool → Bool → End → Type 0
 Ends w ts rest over output read_failed write_failed Ended = AtEnd w (requests ts) rest over × (output ≡ sent w ts)
 Ends w ts rest over output read_failed write_failed (Bad fault) = IsBad w (requests ts) rest over fault (sent w ts) output
 Ends w ts rest over output read_failed write_failed ReadFault = IsCutOff w (requests ts) rest (sent w ts) output × (read_failed ≡ true)
 Ends w ts rest over output read_failed write_failed WriteFault = IsLost w ts rest output × (write_failed ≡ true)
 Ends w ts rest over output read_failed write_failed Starved = IsStarved w (requests ts) rest (sent w ts) output write_failed
+Ends w ts rest over output read_failed write_failed Unkept = IsUndone w ts rest output ⊎ IsUnsent w ts output
 
 -- The session: the bytes that it was given, and whether its source has ended; the bytes that it sent; the moments of its writes;
 -- whether a read and whether a write of its link failed; and its end.

@@ -1,5 +1,5 @@
 -- What one turn tells of the desk.
-use Rattle.std.specs.Prelude.{◌≡◌, ℕ, Bool, List, [], ◌++◌, Option, Some, length}
+use Rattle.std.specs.Prelude.{◌≡◌, ℕ, ◌⊎◌, Bool, List, [], ◌++◌, Option, Some, Result, Ok, Err, length}
 use mathlib.Core.List.{IsPrefix}
 use Rattle.outside.specs.Clocks.{Words}
 use Rattle.cm_base.specs.declared.number.Moment.{Moment}
@@ -8,6 +8,8 @@ use Rattle.cm_base.specs.declared.user.User.{User}
 use Rattle.desk_model.specs.declared.entry.Entry.{Entry}
 use Rattle.desk_model.specs.Desks.{Known}
 use Rattle.http_grammar.specs.Request.{Head}
+use Rattle.talk.specs.declared.turn.Unanswered.{Unanswered}
+use Rattle.talk.specs.declared.turn.Unanswered.TheVariants.{Memory, Unkept}
 use Rattle.talk.specs.declared.turn.Verdict.{Verdict}
 use Rattle.talk.specs.declared.turn.Verdict.TheVariants.{Shows, Refuses}
 use Rattle.http_reply.specs.Replies.{cause_shown}
@@ -54,3 +56,19 @@ pub record Turned {S C Q : Type 0} (kind : Kind S C Q) (users : List User) (head
   pub does : Does kind (setting k users) (length k.own) (length k.seen) (length l.seen) l.seen head last ask wrote moment text
   pub on : GoesOn k l (listed wrote)
   pub told : Told words (timed ask moment) after
+
+-- a turn whose reply could not be kept: nothing was done, or what it should do, and its text is not sent
+abbrev pub TurnUnkept : {S C Q : Type 0} → Kind S C Q → List User → Head → Bool → Ask C Q → Known S C → Option Words → Known S C → Option Words → Type 0
+TurnUnkept kind users head last ask k words l after = Stays k l words after ⊎ ((text : List ℕ) × Turned kind users head last ask k words text l after)
+
+-- a fact of want of memory
+abbrev pub IfStarved : {A : Type 0} → Result A Unanswered → Type 0 → Type 0
+IfStarved (Ok a) fact = Unit {0}
+IfStarved (Err Memory) fact = fact
+IfStarved (Err Unkept) fact = Unit {0}
+
+-- a fact of a reply that could not be kept
+abbrev pub IfUnkept : {A : Type 0} → Result A Unanswered → Type 0 → Type 0
+IfUnkept (Ok a) fact = Unit {0}
+IfUnkept (Err Memory) fact = Unit {0}
+IfUnkept (Err Unkept) fact = fact

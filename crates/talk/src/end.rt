@@ -14,4 +14,6 @@ pub enum End {
     Bad(HttpFault),
     /// Memory was wanted.
     Starved,
+    /// What a write was due could not be kept, so nothing was sent for it.
+    Unkept,
 }

@@ -20,17 +20,17 @@ use cm_base::shown::Shown;
 use desk_model::Machine;
 use http_grammar::{first_is_one, request_lies_within};
 
-/// What a session was over a history it is over each longer one in which its own entries are the same.
+/// What a session was over a history it is over each longer one in which its own entries are the same, with the same turns.
 pub fn session_stands<M: Machine<Shown = Shown, Cause = Cause>>()
     ensures { (wire : Wire) (call : Request → Result (Asked M.Call M.Question) Cause) (at : Setting M.State) (after : ℕ)
         (g h : List (Entry M.Call))
         (input : List ℕ) (over : Bool) (output : List ℕ) (times : List Moment) (read_failed write_failed : Bool)
         (end : End)
-        → Session (record { next = M.next; answer = M.answer; number = M.number; call = call; wire = wire }) at after g
-        input over output times read_failed write_failed end
+        (s : Session (record { next = M.next; answer = M.answer; number = M.number; call = call; wire = wire }) at after
+        g input over output times read_failed write_failed end)
         → IsPrefix g h → own 0 at.number h ≡ own 0 at.number g
-        → Session (record { next = M.next; answer = M.answer; number = M.number; call = call; wire = wire }) at after h
-        input over output times read_failed write_failed end }
+        → (t : Session (record { next = M.next; answer = M.answer; number = M.number; call = call; wire = wire }) at
+        after h input over output times read_failed write_failed end) × (t.turns ≡ s.turns) }
 {}
 
 /// The session alone has one output, one end and one history.

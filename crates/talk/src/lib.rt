@@ -18,4 +18,4 @@ pub use laws::{alone_is_one, session_alone, session_stands};
 pub use reply::reply_to;
 pub use served::Served;
 pub use session::talk;
-pub use turn::{Verdict, read_turn, write_turn};
+pub use turn::{Unanswered, Verdict, read_turn, write_turn};

@@ -2,7 +2,7 @@
 ghost use Rattle.std.specs.Prelude.{◌≡◌, [], take};
 ghost use Rattle.desk_model.specs.Histories.{own};
 ghost use Rattle.talk.specs.Served.{wire_of};
-ghost use Rattle.talk.specs.Talked.{Talked};
+ghost use Rattle.talk.specs.Talked.{Talked, IfUnkept};
 
 use crate::end::End;
 use crate::link::starve;
@@ -46,7 +46,8 @@ where
       wire = wire_of D.Kind.user D.Kind.least D.Kind.closes;
     }) users.now
         (D.known pass.old) (D.words desk.old) (L.Source.told link.old) (L.Sink.told link.old) (D.known pass.new)
-        (D.words desk.new) (L.Source.told link.new) (L.Sink.told link.new) result }
+        (D.sure pass.new) (D.words desk.new) (L.Source.told link.new) (L.Sink.told link.new) result }
+    ensures failed { IfUnkept result (D.failed pass.new) }
     ensures stands_for { L.stands_for link.new ≡ L.stands_for link.old }
 {
     first_is_kept();

@@ -1,14 +1,16 @@
 //! One step of a session: reads what comes next, and sends what is due for it.
-ghost use Rattle.std.specs.Prelude.{◌≡◌, ◌<◌};
+ghost use Rattle.std.specs.Prelude.{◌≡◌, ◌<◌, ◌≤◌, IfSome};
 ghost use Rattle.http_reply.specs.Replies.{interim_text};
 ghost use Rattle.talk.specs.Served.{wire_of};
 ghost use Rattle.talk.specs.Requests.{is_last, most_requests};
 ghost use Rattle.talk.specs.Steps.{AnswersRequest, SendsContinue, Steps};
+ghost use Rattle.talk.specs.Talked.{IfUnkept};
 
 use crate::end::End;
 use crate::link::{read_next, refuse, send_continue, send_reply, starve};
 use crate::reply::reply_to;
 use crate::served::Served;
+use crate::turn::Unanswered;
 use cm_base::user::Users;
 use desk_model::Desk;
 use http_wire::{Buffer, Head, Incoming, Request, WireStop};
@@ -52,16 +54,27 @@ where
       call = D.Kind.call;
       wire = wire_of D.Kind.user D.Kind.least D.Kind.closes;
     }) users.now request.now
-        (record { known = D.known pass.old; words = D.words desk.old; count = count.old }) (L.Sink.told link.old)
-        (record { known = D.known pass.new; words = D.words desk.new; count = count.new })
+        (record {
+          known = D.known pass.old;
+          sure = D.sure pass.old;
+          words = D.words desk.old;
+          count = count.old;
+        }) (L.Sink.told link.old)
+        (record { known = D.known pass.new; sure = D.sure pass.new; words = D.words desk.new; count = count.new })
         (L.Sink.told link.new) result }
+    ensures later { D.sure pass.old ≤ D.sure pass.new }
+    ensures failed { IfSome result (λ end. IfUnkept end (D.failed pass.new)) }
     ensures source { L.Source.told link.new ≡ L.Source.told link.old }
     ensures stands_for { L.stands_for link.new ≡ L.stands_for link.old }
 {
     let last = is_last::<D::Kind>(*count, request.head());
-    let Ok(shown) = reply_to(alloc, leave, desk, pass, users, gate, calls, request) else {
-        starve(link);
-        return Some(End::Starved);
+    let shown = match reply_to(alloc, leave, desk, pass, users, gate, calls, request) {
+        Ok(shown) => shown,
+        Err(Unanswered::Memory) => {
+            starve(link);
+            return Some(End::Starved);
+        }
+        Err(Unanswered::Unkept) => return Some(End::Unkept),
     };
     match send_reply(link, &shown, last) {
         Ok(()) if last => Some(End::Ended),
@@ -114,14 +127,17 @@ where
     }) users.now
         buffer.old (L.Source.told link.old) (record {
           known = D.known pass.old;
+          sure = D.sure pass.old;
           words = D.words desk.old;
           count = count.old;
         }) (L.Sink.told link.old)
         buffer.new (L.Source.told link.new) (record {
           known = D.known pass.new;
+          sure = D.sure pass.new;
           words = D.words desk.new;
           count = count.new;
         }) (L.Sink.told link.new) result }
+    ensures failed { IfSome result (λ end. IfUnkept end (D.failed pass.new)) }
     ensures stands_for { L.stands_for link.new ≡ L.stands_for link.old }
 {
     match read_next(alloc, link, buffer) {

@@ -1,10 +1,10 @@
 //! The part of a turn that is made at the desk.
-ghost use Rattle.std.specs.Prelude.{◌≡◌, ℕ, Bool, List, [], IfOk, OnErr, Result};
+ghost use Rattle.std.specs.Prelude.{◌≡◌, ◌≤◌, ℕ, Bool, List, [], IfOk, OnOk, OnErr, Result, length};
 ghost use Rattle.cm_base.specs.declared.user.User.{User};
 ghost use Rattle.http_grammar.specs.Request.{Head};
 ghost use Rattle.http_reply.specs.Replies.{reply_text};
 ghost use Rattle.talk.specs.Served.{Kind, writes, reads, wire_of};
-ghost use Rattle.talk.specs.Turned.{Turned, Stays, IfRefuses, IsRefusal, verdict_shown};
+ghost use Rattle.talk.specs.Turned.{Turned, TurnUnkept, Stays, IfRefuses, IsRefusal, IfStarved, IfUnkept, verdict_shown};
 
 use crate::served::Served;
 use cm_base::cause::Cause;
@@ -21,7 +21,16 @@ pub enum Verdict {
     Refuses(Cause, u64),
 }
 
-/// Makes a write at the moment of the clock's next word.
+/// Why a request has no reply.
+#[derive(Clone, Copy, Debug, PartialEq, Eq)]
+pub enum Unanswered {
+    /// Memory was wanted.
+    Memory,
+    /// The keeper of the journal failed, in this call or before it, so that what was due is not shown.
+    Unkept,
+}
+
+/// Makes a write at the moment of the clock's next word. What is shown of it is settled.
 pub fn write_turn<D: Desk>(
     alloc: Global,
     leave: &mut D::Leave,
@@ -30,7 +39,7 @@ pub fn write_turn<D: Desk>(
     user: &Text,
     least: u64,
     call: <D::Kind as Machine>::Call,
-) -> Result<Verdict, AllocError>
+) -> Result<Verdict, Unanswered>
 where
     D::Kind: Served,
     requires { D.is_of desk.old pass.old }
@@ -49,7 +58,20 @@ where
         (D.words desk.new)) }
     ensures refusal { IfOk result (λ verdict. IfRefuses verdict
         (Stays (D.known pass.old) (D.known pass.new) (D.words desk.old) (D.words desk.new))) }
-    ensures starved { OnErr result (Stays (D.known pass.old) (D.known pass.new) (D.words desk.old) (D.words desk.new)) }
+    ensures settled { OnOk result (length (D.known pass.new).seen ≤ D.sure pass.new) }
+    ensures later { D.sure pass.old ≤ D.sure pass.new }
+    ensures starved { IfStarved result
+        (Stays (D.known pass.old) (D.known pass.new) (D.words desk.old) (D.words desk.new)) }
+    ensures unkept { IfUnkept result ((users : List User) (head : Head) (last : Bool)
+        → TurnUnkept (record {
+          next = D.Kind.next;
+          answer = D.Kind.answer;
+          number = D.Kind.number;
+          call = D.Kind.call;
+          wire = wire_of D.Kind.user D.Kind.least D.Kind.closes;
+        }) users head last (writes user.now least call)
+        (D.known pass.old) (D.words desk.old) (D.known pass.new) (D.words desk.new)) }
+    ensures failed { IfUnkept result (D.failed pass.new) }
 {
     let moment = desk.moment(leave);
     match desk.write(alloc, leave, pass, least, user, moment, call) {
@@ -58,11 +80,12 @@ where
         Err(Stop::Ahead { number }) => {
             Ok(Verdict::Refuses(Cause::StepAhead(least, number), number))
         }
-        Err(Stop::Memory) => Err(AllocError),
+        Err(Stop::Memory) => Err(Unanswered::Memory),
+        Err(Stop::Fault) => Err(Unanswered::Unkept),
     }
 }
 
-/// Answers a question at what the desk then shows.
+/// Answers a question at what the desk then shows, which is settled.
 pub fn read_turn<D: Desk>(
     alloc: Global,
     leave: &mut D::Leave,
@@ -89,6 +112,8 @@ where
         (D.known pass.old) (D.words desk.old) (reply_text (verdict_shown verdict) last) (D.known pass.new)
         (D.words desk.new)) }
     ensures stays { Stays (D.known pass.old) (D.known pass.new) (D.words desk.old) (D.words desk.new) }
+    ensures settled { OnOk result (length (D.known pass.new).seen ≤ D.sure pass.new) }
+    ensures later { D.sure pass.old ≤ D.sure pass.new }
 {
     let Ok(version) = desk.look(leave, pass) else {
         return Err(AllocError);

@@ -1,6 +1,6 @@
 use Rattle.std.proofs.Common.{sym, ◌∙◌, subst}
 use Rattle.load_sessions.specs.Sessions.{Leads}
-use Rattle.cmis_runs.specs.Kinds.{kind_of}
+use Rattle.cmis_program.specs.Kinds.{kind_of}
 use Rattle.cmis_runs.proofs.made.after.Goals as goal
 
 pub returns : goal.returns

@@ -1,6 +1,6 @@
 use Rattle.std.specs.Prelude.{◌≤◌}
 use Rattle.load_sessions.specs.Sessions.{Made, sessions_of}
-use Rattle.cmis_runs.specs.Kinds.{kind_of}
+use Rattle.cmis_program.specs.Kinds.{kind_of}
 use Rattle.cmis_runs.specs.Loads.{beginning, the_users}
 use Rattle.cmis_runs.proofs.made.made.Given as goal
 

@@ -1,5 +1,5 @@
 use Rattle.std.specs.Prelude.{map, string_bytes}
-use Rattle.cmis_runs.specs.Kinds.{kind_of}
+use Rattle.cmis_program.specs.Kinds.{kind_of}
 use Rattle.cmis_runs.proofs.Asked.{runs_load, runs_others}
 use Rattle.cmis_runs.proofs.Failed.{load_failed}
 use Rattle.cmis_runs.proofs.once.load_or_serve.Goals as goal

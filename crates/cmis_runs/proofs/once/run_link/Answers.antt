@@ -1,7 +1,7 @@
 -- A failed side was counted.
 use Rattle.std.specs.Prelude.{map, string_bytes}
 use Rattle.cmis_words.specs.Programs.{words_of}
-use Rattle.cmis_runs.specs.Kinds.{kind_of}
+use Rattle.cmis_program.specs.Kinds.{kind_of}
 use Rattle.cmis_runs.proofs.Failed.{failed}
 use Rattle.cmis_runs.proofs.once.run_link.Goals as goal
 

@@ -1,6 +1,6 @@
 use Rattle.std.specs.Prelude.{map, string_bytes}
 use Rattle.std.proofs.Common.{◌∙◌, sym}
-use Rattle.cmis_runs.specs.Kinds.{kind_of, rules_of}
+use Rattle.cmis_program.specs.Kinds.{kind_of, rules_of}
 use Rattle.cmis_runs.proofs.Scripts.{runs_schedule, runs_other, schedule_failed}
 use Rattle.cmis_runs.proofs.once.run_once.Goals as goal
 

@@ -1,4 +1,4 @@
-use Rattle.cmis_runs.specs.Kinds.{rules_of}
+use Rattle.cmis_program.specs.Kinds.{rules_of}
 use Rattle.cmis_runs.proofs.Scripts.{begun, starved}
 use Rattle.cmis_runs.proofs.scheduled.schedule.Goals as goal
 

@@ -4,8 +4,8 @@ use Rattle.desk_serve.specs.Keeping.{Keeps, Runs, held_by, most_workers}
 use Rattle.desk_serve.proofs.serving.take_links.Given as goal
 
 abbrev pub invariant-loop-place : goal.invariant-loop-place
-invariant-loop-place g l = Keeps (terms g.M.Machine.next g.M.Machine.answer g.M.Machine.number g.M.Served.call g.M.Served.user g.M.Served.least g.M.Served.closes g.H.Link.Source.told g.H.Link.Sink.told l.users (g.H.Host.left l.all.value)) l.lock l.hall.pass l.hall.ended.items (held_by (λ r. r.place) l.hall.running.items) (vec_len l.hall.running) 0 l.place
-    × All (λ r. Runs (terms g.M.Machine.next g.M.Machine.answer g.M.Machine.number g.M.Served.call g.M.Served.user g.M.Served.least g.M.Served.closes g.H.Link.Source.told g.H.Link.Sink.told l.users (g.H.Host.left l.all.value)) l.lock r.handle.promise.lock.value r.handle.promise.users.value r.handle.promise.pass.value r.handle.promise.link.value r.place r.before) l.hall.running.items
+invariant-loop-place g l = Keeps (terms g.M.Machine.next g.M.Machine.answer g.M.Machine.number g.M.Served.call g.M.Served.user g.M.Served.least g.M.Served.closes g.K.Keeper.faults g.H.Link.Source.told g.H.Link.Sink.told l.users (g.H.Host.left l.all.value)) l.lock l.hall.pass l.hall.ended.items (held_by (λ r. r.place) l.hall.running.items) (vec_len l.hall.running) 0 l.place
+    × All (λ r. Runs (terms g.M.Machine.next g.M.Machine.answer g.M.Machine.number g.M.Served.call g.M.Served.user g.M.Served.least g.M.Served.closes g.K.Keeper.faults g.H.Link.Source.told g.H.Link.Sink.told l.users (g.H.Host.left l.all.value)) l.lock r.handle.promise.lock.value r.handle.promise.users.value r.handle.promise.pass.value r.handle.promise.link.value r.place r.before) l.hall.running.items
     × (vec_len l.hall.ended + vec_len l.hall.running ≤ vec_capacity l.hall.ended)
     × (vec_len l.hall.running ≤ most_workers)
     × Taken (g.H.Host.told l.all.value) (g.H.Host.left l.all.value) (g.H.Host.told l.host) (g.H.Host.left l.host) l.place

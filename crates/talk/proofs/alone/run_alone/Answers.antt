@@ -28,7 +28,7 @@ returns-clause-ran g c =
     (whole-seen g.M.Machine.next _ _ of one (told.base ∙ base) (told.number ∙ session) ∙ sym (ap (λ v. v.journal) c.close-last.ensures.last))
     (sym c.close-last.ensures.words)
     (run-alone (record { next = g.M.Machine.next; answer = g.M.Machine.answer; number = g.M.Machine.number; call = g.M.Served.call; wire = wire_of g.M.Served.user g.M.Served.least g.M.Served.closes })
-    c.args.opening c.args.users.now _ _ _ _ _ _ _ _ _ _ (record { one = c.first_is_one.ensures; within = c.request_lies_within.ensures }) law _ told
+    c.args.opening c.args.users.now _ _ _ _ _ _ _ _ _ _ _ (record { one = c.first_is_one.ensures; within = c.request_lies_within.ensures }) law _ told c.talk-end.ensures.failed
     (ap (λ d. d.words) made ∙ ap (λ d. d.words) desk)
     (new.2 ∙ (ap (λ d. d.opening) desk ∙ ap (λ v. v.opening) version))
     base

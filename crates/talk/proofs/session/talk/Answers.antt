@@ -8,7 +8,7 @@ pub returns-in_default-clause-talked : goal.returns-in_default-clause-talked
 returns-in_default-clause-talked g c =
     let sound = g.met.D.Desk.sound c.args.desk.now c.args.pass.now c.requires.is_of in
     starved-at-once (record { next = g.D.Kind.Machine.next; answer = g.D.Kind.Machine.answer; number = g.D.Kind.Machine.number; call = g.D.Kind.Served.call; wire = wire_of g.D.Kind.Served.user g.D.Kind.Served.least g.D.Kind.Served.closes })
-    _ _ _ _ _ _ _ (record { none_made = c.requires.none_made; none_before = c.requires.none_before; begun = sound.begun }) sound.mine c.starve.ensures.sent c.starve.ensures.source
+    _ _ _ _ _ _ _ _ (record { none_made = c.requires.none_made; none_before = c.requires.none_before; begun = sound.begun }) sound.mine c.starve.ensures.sent c.starve.ensures.source
 
 pub steps-init : goal.steps-init
 steps-init g c = record {
@@ -26,7 +26,7 @@ steps-init g c = record {
   is_of = c.requires.is_of;
   few = omega arith;
   stands_for = refl;
-  so_far = rw c.in-Ok.ensures (so-far-none _ _ _ _ _ _);
+  so_far = rw c.in-Ok.ensures (so-far-none _ _ _ _ _ _ _);
 }
 
 pub returns-in-Some-clause-talked : goal.returns-in-Some-clause-talked

@@ -1,0 +1,4 @@
+pub mod Named
+pub mod Keeping
+mod Others
+mod Staying

@@ -1,0 +1,4 @@
+pub mod Recorded
+pub mod Standing
+pub mod Stores
+pub mod Went

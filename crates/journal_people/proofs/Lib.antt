@@ -1,0 +1,3 @@
+pub mod Tested
+mod Compared
+mod Grown

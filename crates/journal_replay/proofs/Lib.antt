@@ -1,0 +1,3 @@
+mod Shifted
+mod Replaying
+mod Starting

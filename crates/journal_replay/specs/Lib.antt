@@ -1,0 +1,5 @@
+pub mod Shifting
+pub mod Recorded
+pub mod Replayed
+pub mod OneMore
+pub mod Starts

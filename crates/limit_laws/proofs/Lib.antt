@@ -1,0 +1,14 @@
+pub mod Afters
+pub mod Answers
+pub mod Changes
+pub mod Choices
+pub mod GoingOn
+pub mod Histories
+pub mod Made
+pub mod Readings
+pub mod Refusals
+pub mod Replies
+pub mod Several
+pub mod Steps
+pub mod Storage
+pub mod Trees
