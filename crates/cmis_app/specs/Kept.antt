@@ -3,8 +3,7 @@ use Rattle.std.specs.Prelude.{ℕ, Bool, List, Option}
 use Rattle.cm_base.specs.declared.cause.Cause.{Cause}
 use Rattle.cm_base.specs.declared.shown.Shown.{Shown}
 use Rattle.cm_call.specs.declared.write.Write.{Write}
-use Rattle.cm_people.specs.Adopted.{adopted}
-use Rattle.cm_repo.specs.Restarting.{begun_at}
+use Rattle.cm_repo.specs.Restarting.{begun, adopted}
 use Rattle.cm_repo.specs.Served.{repository}
 use Rattle.cm_repo.specs.ServerMachine.{shown_step}
 use Rattle.cmis_kept.specs.Kept as runs
@@ -25,7 +24,7 @@ use Rattle.outside.specs.Outside.{SourceTold, SinkTold}
 
 -- how the program reads a journal
 abbrev pub journal : Reading Repository Write PeopleTold Shown Cause
-journal = reading_of root_codec record_codec begun_at shown_step adopted
+journal = reading_of root_codec record_codec begun shown_step adopted
 
 -- The links that were served, over one history of the repository to which the file replays, which holds the history in the end.
 abbrev pub ServedOver : {K L : Type 0} → Bool → (K → DiskTold) → Serve → (L → SourceTold) → (L → SinkTold) → Option Words → Option (List L) → K → K → History Repository Write → List (Ended L) → Option (Option Lost) → Type 0

@@ -2,18 +2,14 @@
 #![tactic(auto)]
 
 use cmis_app::{run, run_kept};
-use disk::Disk;
 use file_disk::FileDisk;
-use journal_runs::Explains;
-use outside::{Clock, Host, OpenGate, Sink};
+use outside::{OpenGate, Sink};
 use real_edge::{Alarm, StdSink, StdSource, SystemClock, TcpHost};
 use run_status::refuse;
 use std::alloc::{AllocError, Global};
 use std::io::ErrorKind;
 use std::process::ExitCode;
 use std::rt::Files;
-use std::sync::Wait;
-use std::thread::Threads;
 use std::{env, io};
 use watched_disk::WatchedDisk;
 use word_files::SystemFiles;
@@ -82,38 +78,6 @@ fn refused<O: Sink>(alloc: Global, output: &mut O, unread: Unread) -> u8 {
     }
 }
 
-// Runs these words where they keep a file, and answers the status. `None`: these are other words.
-fn kept<
-    K: Disk + Explains + Drop + Send,
-    O: Sink,
-    H: Host,
-    C: Clock + Send,
-    R: Threads + Wait + Sync,
->(
-    rt: &R,
-    alloc: Global,
-    words: &[String],
-    disk: K,
-    output: &mut O,
-    host: &mut H,
-    clock: &mut C,
-) -> Option<u8>
-where
-    H::Link: Send,
-{
-    match run_kept(rt, alloc, words, disk, output, host, clock, &OpenGate) {
-        Some(ran) => {
-            let cmis_kept::Ran {
-                status,
-                disk: _,
-                over: _,
-            } = ran;
-            Some(status)
-        }
-        None => None,
-    }
-}
-
 fn main(rt: HostRuntime) -> ExitCode {
     let alloc = rt.alloc();
     let mut output = StdSink::new(rt.stdout());
@@ -125,7 +89,7 @@ fn main(rt: HostRuntime) -> ExitCode {
             let mut host = TcpHost::new(&rt);
             let mut clock = SystemClock::new(&rt);
             let disk = WatchedDisk::new(&rt, &alarm, FileDisk::new(&rt, alloc));
-            let status = match kept(
+            let kept = run_kept(
                 &rt,
                 alloc,
                 &words,
@@ -133,10 +97,12 @@ fn main(rt: HostRuntime) -> ExitCode {
                 &mut output,
                 &mut heeding,
                 &mut clock,
-            ) {
-                Some(status) => status,
+                &OpenGate,
+            );
+            let status = match kept {
+                Some(ran) => ran.status,
                 None => {
-                    let cmis_runs::Ran { status, closing: _ } = run(
+                    let ran = run(
                         &rt,
                         alloc,
                         &words,
@@ -146,7 +112,7 @@ fn main(rt: HostRuntime) -> ExitCode {
                         &mut clock,
                         &OpenGate,
                     );
-                    status
+                    ran.status
                 }
             };
             ExitCode::from(status)

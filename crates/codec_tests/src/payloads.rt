@@ -1,10 +1,15 @@
 //! Payloads with bytes from outside: they are decoded, and encoded again.
+ghost use Rattle.std.specs.Prelude.{length, IfOk};
+ghost use Rattle.std.specs.Arc.{arc_value};
+ghost use Rattle.archive.specs.Extents.{Stands};
 
+use archive::Archive;
 use byte_codec::coded::Coded;
-use byte_codec::payload::{decode, encode};
+use byte_codec::payload::{decode, decode_standing, encode};
 use byte_codec::stop::DecodeStop;
 use cm_base::items::Items;
 use cm_base::number::Moment;
+use cm_base::piece::Place;
 use cm_base::text::Text;
 use cm_call::write::Write;
 use desk_model::Entry;
@@ -13,6 +18,7 @@ use journal_people::People;
 use journal_replay::{JournalCode, Record, Root};
 use journal_start::JournalWriting;
 use std::alloc::{AllocError, Global};
+use std::sync::Arc;
 use std::test::Fail;
 
 // A root with one user at the moment 0.
@@ -158,4 +164,52 @@ fn other_bytes_are_no_record(rt: HostRuntime) {
     assert!(rt; is_no_record(rt.alloc(), b"P"));
     assert!(rt; is_no_record(rt.alloc(), ROOT));
     assert!(rt; is_no_record(rt.alloc(), NOBODY));
+}
+
+// An entry that sets a content of 4,096 bytes.
+fn large(alloc: Global) -> Result<Vec<u8>, AllocError> {
+    let mut bytes = Vec::new(alloc);
+    bytes.extend_from_slice(
+        b"\0\0\0\0\0\0\0\0\0\0\0\0\0\0\0\0\0\0\0\0\0\0\0\x05admin\0\0\0\0\0\0\0\0\x0c",
+    )?;
+    bytes.extend_from_slice(
+        b"\0\0\0\0\0\0\0\0\x012\0\x01\0\0\0\0\0\0\0\0\x01a\0\0\0\0\0\0\0\x10\0",
+    )?;
+    let len = bytes.len();
+    bytes.resize(len.wrapping_add(4096), 7)?;
+    Ok(bytes)
+}
+
+fn is_kept(entry: &Entry<Write>) -> bool {
+    match &entry.call {
+        Write::SetContent(call) => match call.stream.pieces.list() {
+            [piece] => match piece.place() {
+                Place::Kept(_) => true,
+                Place::Held(_) => false,
+            },
+            _ => false,
+        },
+        _ => false,
+    }
+}
+
+// An archive in memory with these bytes.
+fn archive_of(alloc: Global, payload: &Arc<Vec<u8>>) -> Result<Arc<Archive>, AllocError>
+    ensures { IfOk result (λ a. Stands (arc_value a) 0 (length payload.now.value.items) payload.now.value.items) }
+{
+    let _len = payload.len();
+    let archive = Archive::in_memory(Arc::try_clone(payload)?);
+    let archive = Arc::new(alloc, archive)?;
+    Ok(archive)
+}
+
+#[test]
+fn large_streams_stay_in_the_archive(rt: HostRuntime) -> Result<(), Fail> {
+    let payload = Arc::new(rt.alloc(), large(rt.alloc())?)?;
+    let archive = archive_of(rt.alloc(), &payload)?;
+    match decode_standing::<JournalForm, Entry<Write>>(rt.alloc(), &payload, archive, 0) {
+        Ok(entry) => assert!(rt; is_kept(&entry)),
+        Err(_) => assert!(rt; false),
+    }
+    Ok(())
 }

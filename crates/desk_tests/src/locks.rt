@@ -1,4 +1,4 @@
-//! Two passes of one lock: each call once.
+//! A look beside a write, and each call once.
 ghost use Rattle.std.specs.Prelude.{◌≡◌};
 ghost use Rattle.desk_tests.specs.Slow.{count_step};
 ghost use Rattle.desk_lock.specs.Words.{IsOf};
@@ -12,7 +12,7 @@ use std::sync::atomic::AtomicU64;
 use std::sync::atomic::Ordering::SeqCst;
 use std::sync::{Arc, Wait};
 use std::test::Fail;
-use std::thread::yield_now;
+use std::thread::{Threads, join, yield_now};
 
 /// How often a waiting thread looks at its flag.
 const TURNS: u64 = 5_000_000;
@@ -114,6 +114,60 @@ fn write_once<R: Wait>(
     let moment = lock.moment(rt);
     drop(lock.write(rt, alloc, &mut pass, 0, &user, moment, flags));
     pass
+}
+
+// Looks once a step has begun, and then lets it end.
+fn look_once<R: Wait>(
+    rt: &R,
+    lock: &SlowLock,
+    mut pass: Pass<Slow, Nowhere>,
+    flags: &Flags,
+) -> Pass<Slow, Nowhere>
+    requires { IsOf count_step lock.now pass }
+    ensures is_of { IsOf count_step lock.now result }
+    ensures made { (result.made ≡ pass.made) × (result.ended ≡ pass.ended) }
+{
+    if waited(&flags.begun) && lock.look(rt, &mut pass).is_ok() {
+        flags.may_end.store(1, SeqCst);
+    }
+    pass
+}
+
+// A write in one thread and a look in another, which alone lets the write's step end. Answers what the look saw, and the journal's length at the end.
+fn beside<R: Threads + Wait + Sync>(rt: &R, alloc: Global) -> Result<(u64, u64), AllocError> {
+    let flags = Flags {
+        begun: Arc::new(alloc, AtomicU64::new(0))?,
+        may_end: Arc::new(alloc, AtomicU64::new(0))?,
+    };
+    let version = Version::opening(alloc, 0)?;
+    let (lock, mut first) = SlowLock::begin(alloc, version, FixedClock::new(5), Nowhere, false)?;
+    let Ok(second) = lock.split(&mut first) else {
+        return Err(AllocError);
+    };
+    let (mut first, second) = join(
+        rt,
+        || -> Pass<Slow, Nowhere>
+            requires { IsOf count_step lock first }
+            ensures { IsOf count_step lock result × (result.made ≡ first.made) × (result.ended ≡ first.ended) }
+        { write_once(rt, alloc, &lock, first, &flags) },
+        || -> Pass<Slow, Nowhere>
+            requires { IsOf count_step lock second }
+            ensures { IsOf count_step lock result × (result.made ≡ second.made) × (result.ended ≡ second.ended) }
+        { look_once(rt, &lock, second, &flags) },
+    );
+    let seen = second.seen();
+    lock.retire(&mut first, second);
+    let (snapshot, _clock, _store) = lock.close(first);
+    Ok((seen, snapshot.len()))
+}
+
+// A look ends while a write is in its step, which ends only after it: else the step gives up, and nothing is written.
+#[test]
+fn look_beside_write(rt: HostRuntime) -> Result<(), Fail> {
+    let (seen, len) = beside(&rt, rt.alloc())?;
+    assert_eq!(rt; seen, 0);
+    assert_eq!(rt; len, 1);
+    Ok(())
 }
 
 // Two passes of one thread: one writes, and the other hears of it.

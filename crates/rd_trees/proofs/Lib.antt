@@ -1,5 +1,5 @@
 mod Copies
-mod DocumentTypes
 mod Placing
 mod Rows
 mod Trees
+mod Walks

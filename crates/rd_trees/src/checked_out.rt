@@ -5,9 +5,8 @@ ghost use Rattle.cm_map.specs.Parts.{pointee};
 ghost use Rattle.cm_base.specs.Judged.{Meets};
 ghost use Rattle.cmis_spec.specs.Access.{reads};
 ghost use Rattle.rd_trees.specs.ReadCheckedOut.{answer_checked_out, answer_checked_out_at, answer_checked_out_in, answer_ordered_copies, copies, is_copy, is_filed_at, page_reply};
-ghost use Rattle.rd_trees.specs.Walks.{found_among, object_if};
+ghost use Rattle.rd_trees.specs.Walks.{object_if};
 
-use crate::documents::documents;
 use call_parts::place::Place;
 use cm_base::cause::Cause;
 use cm_base::fail::Fail;
@@ -63,25 +62,7 @@ fn push_copy<'a>(
     }
 }
 
-// The working copies among the objects of these numbers.
-fn copies_among<'a>(
-    alloc: Global,
-    state: &'a State,
-    user: &Text,
-    folder: Option<Oid>,
-    numbers: &[Oid],
-) -> Result<Vec<&'a Object>, AllocError>
-    ensures { IfOk result (λ all. map pointee all.items
-        ≡ found_among (λ y. is_copy state.now folder y && reads state.now user.now y) state.now numbers.now) }
-{
-    let mut all = Vec::new(alloc);
-    for number in numbers {
-        push_copy(&mut all, state, user, folder, state.object(*number))?;
-    }
-    Ok(all)
-}
-
-// It looks at the objects of the document types alone, since each working copy is of one.
+// It looks at each number that was given to an object.
 fn copies<'a>(
     alloc: Global,
     state: &'a State,
@@ -91,8 +72,11 @@ fn copies<'a>(
     ensures { IfOk result (λ all. map pointee all.items ≡ copies state.now user.now folder) }
 {
     let _step = state.step();
-    let documents = documents(alloc, state)?;
-    let all = copies_among(alloc, state, user, folder, documents.as_slice())?;
+    let next = state.next_number();
+    let mut all = Vec::new(alloc);
+    for n in 0..next {
+        push_copy(&mut all, state, user, folder, state.object(Oid(n)))?;
+    }
     Ok(all)
 }
 
@@ -168,7 +152,7 @@ fn checked_out_at(
 /// A page of the working copies that the caller reads, in the order that is asked for or else in that of their numbers, with what is
 /// asked for beside their properties, and how many he reads in all: those whose series is filed in the folder that is addressed, or
 /// those of the whole repository. A folder that he doesn't read is not found; what is no folder is of the wrong kind; an order by what
-/// no property is, or by one that is not orderable, is refused last. It goes through the objects of the document types once.
+/// no property is, or by one that is not orderable, is refused last. It goes through the objects of the repository once.
 pub fn checked_out(
     alloc: Global,
     state: &State,

@@ -4,6 +4,5 @@
 ghost use Rattle.std.specs.Prelude.{◌≡◌};
 
 pub mod checked_out;
-mod documents;
 pub mod law;
 pub mod tree;

@@ -1,2 +1,0 @@
-pub mod Limiting
-pub mod Following

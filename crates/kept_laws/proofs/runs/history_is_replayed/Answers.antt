@@ -1,6 +1,0 @@
-use Rattle.limit_laws.specs.Limited.{under}
-use Rattle.kept_laws.proofs.runs.history_is_replayed.Goals as goal
-
-pub returns : goal.returns
-returns c = λ limits before first offset n h file are so legal f.
-    c.front_is_replayed.ensures (λ e bytes is. (c.entries_are_records.ensures e bytes).0 is) before first (under limits) offset n h file so (c.limits_only_refuse.ensures limits are before first so) legal f
