@@ -1,0 +1,2 @@
+pub mod CrashDisks
+pub mod Leaving
