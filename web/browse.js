@@ -2,7 +2,7 @@
 
 import { propertyArguments, read, readRepository, write } from "./calls.js";
 import { choices } from "./chosen.js";
-import { ask, button, complain, go, h, pager, say, table } from "./dom.js";
+import { ask, attempt, button, go, h, pager, say, table } from "./dom.js";
 import { folderTree } from "./tree.js";
 import { label, moment, size, typeFields, typeOf } from "./types.js";
 import { chosenFiles, dropped, upload } from "./upload.js";
@@ -59,7 +59,11 @@ async function listed(caption, objects, head, box = () => null) {
 
 // Inputs for files that are not seen: their labels look like buttons, and the keys reach the inputs.
 const chooser = (id, text, isFolder, act, kind) => {
-  const input = h("input", { type: "file", multiple: true, webkitdirectory: isFolder, id, class: "unseen", onchange: () => act(chosenFiles(input.files)).catch(complain) });
+  const chosen = () => {
+    const found = chosenFiles(input.files);
+    return attempt(() => act(found));
+  };
+  const input = h("input", { type: "file", multiple: true, webkitdirectory: isFolder, id, class: "unseen", onchange: chosen });
   return [input, h("label", { for: id, class: `button ${kind}` }, text)];
 };
 
@@ -99,7 +103,10 @@ export async function folderPage(id = "1", asked) {
     ? await listed(`What is in ${name}`, objects.map(({ succinctProperties: one }) => one), head, (one) => open.has(one["cmis:objectId"]) && box(one))
     : h("p", { class: "empty" }, empty);
   const body = h("section", { class: "drop", "aria-label": "List" }, bar, list, pager(skip, objects.length, page, hash));
-  if (may.canCreateDocument) takeDrops(body, (transfer) => dropped(transfer).then((found) => upload(id, found)).catch(complain));
+  if (may.canCreateDocument) takeDrops(body, (transfer) => {
+    const found = dropped(transfer);
+    return attempt(async () => upload(id, await found));
+  });
   const parts = [crumbs(way.slice(0, -1), name), h("h1", {}, name), folderTools(id, may), h("div", { class: "beside" }, await folderSide(way), body)];
   return { title: name, parts };
 }

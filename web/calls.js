@@ -44,14 +44,20 @@ function parsed(text) {
   return data;
 }
 
-/** A refusal in the words of the server. */
+// No reply at all, or the front's own words for that: the server is away, such as while it starts anew.
+const AWAY = [0, 502, 503, 504];
+const NOT_READ = "The server does not answer. Try again in a moment.";
+const NOT_KNOWN = "The server does not answer, so whether this was done is not known. What you typed stays here: try again in a moment.";
+
+/** A refusal in the words of the server; or, where it is away, what that means for a reading and for a change. */
 export class Refusal extends Error {
-  constructor(status, body) {
+  constructor(status, body, isChange) {
     let said = {};
     try { said = JSON.parse(body); } catch { /* not from the server: a proxy's page, or nothing */ }
-    super(said.message ?? (status ? `the server answers with status ${status}` : "the server does not answer"));
-    this.status = status;
-    this.exception = said.exception ?? "";
+    const isAway = AWAY.includes(status);
+    super(isAway ? (isChange ? NOT_KNOWN : NOT_READ) : said.message ?? `the server answers with status ${status}`);
+    this.isAway = isAway;
+    this.exception = isAway ? "" : said.exception ?? "";
   }
 }
 
@@ -68,8 +74,9 @@ const fields = () => ({ "X-Requested-With": "workbench", ...(authorization && { 
 
 async function fetched(target, options = {}) {
   const asked = { ...options, headers: fields(), credentials: "omit", cache: "no-store" };
-  const reply = await fetch(target, asked).catch(() => { throw new Refusal(0, ""); });
-  if (!reply.ok) throw new Refusal(reply.status, await reply.text());
+  const refuse = (status, body) => { throw new Refusal(status, body, options.method === "POST"); };
+  const reply = await fetch(target, asked).catch(() => refuse(0, ""));
+  if (!reply.ok) refuse(reply.status, await reply.text());
   return reply;
 }
 
@@ -131,36 +138,50 @@ function sent(body, progress) {
     request.open("POST", ROOT);
     for (const [name, value] of Object.entries(fields())) request.setRequestHeader(name, value);
     request.upload.onprogress = (event) => progress(event.loaded);
-    request.onload = () => (request.status < 300 ? resolve(parsed(request.responseText)) : reject(new Refusal(request.status, request.responseText)));
-    request.onerror = () => reject(new Refusal(0, ""));
+    request.onload = () => (request.status < 300 ? resolve(parsed(request.responseText)) : reject(new Refusal(request.status, request.responseText, true)));
+    request.onerror = () => reject(new Refusal(0, "", true));
     request.send(body);
   });
 }
 
-async function append(objectId, file, progress) {
+const lengthOf = async (objectId) => (await read(objectId, "object", { filter: "cmis:contentStreamLength" })).succinctProperties["cmis:contentStreamLength"];
+
+const once = (act) => act();
+
+// The pieces after the first. One whose reply was lost is perhaps there: the length tells it.
+async function append(objectId, file, progress, { patient = once, told = () => {} } = {}) {
   for (let from = PIECE; from < file.size; from += PIECE) {
     const piece = file.slice(from, from + PIECE, file.type);
-    await sent(form("appendContent", { objectId }, piece, file.name), (done) => progress(from + done));
+    let tries = 0;
+    await patient(async () => {
+      tries += 1;
+      if (tries > 1 && (await lengthOf(objectId)) > from) return;
+      told(await sent(form("appendContent", { objectId }, piece, file.name), (done) => progress(from + done)));
+    });
   }
 }
 
-/** Makes a document from a file; one of which a piece was refused is removed. `progress` is told the bytes that are sent. */
-export async function createDocument(objectId, values, file, progress) {
+/**
+ * Makes a document from a file; one of which a piece was refused is removed. `progress` is told the bytes that are sent; `patient` is given each call,
+ * and may do it again where the server was away.
+ */
+export async function createDocument(objectId, values, file, progress, patient) {
   const args = { objectId, ...propertyArguments(values) };
-  const made = (await sent(form("createDocument", args, file.slice(0, PIECE, file.type), file.name), progress)).succinctProperties;
+  const make = () => sent(form("createDocument", args, file.slice(0, PIECE, file.type), file.name), progress);
+  const made = (await patient(make)).succinctProperties;
   try {
-    await append(made["cmis:objectId"], file, progress);
+    await append(made["cmis:objectId"], file, progress, { patient });
   } catch (refusal) {
-    await write(made["cmis:objectId"], "delete");
+    await patient(() => write(made["cmis:objectId"], "delete"));
     throw refusal;
   }
   return made;
 }
 
-/** Puts a file in the place of a document's content. */
-export async function setContent(objectId, changeToken, file, progress) {
-  await sent(form("setContent", { objectId, changeToken }, file.slice(0, PIECE, file.type), file.name), progress);
-  await append(objectId, file, progress);
+/** Puts a file in the place of a document's content. `told` is given each reply, which has the document's new change token. */
+export async function setContent(objectId, changeToken, file, progress, told) {
+  told(await sent(form("setContent", { objectId, changeToken }, file.slice(0, PIECE, file.type), file.name), progress));
+  await append(objectId, file, progress, { told });
 }
 
 /** Gives a document a rendition: another form of it, such as a picture of its first page. */

@@ -35,12 +35,19 @@ export function choices(objects, folder, way) {
   return { box, all, bar };
 }
 
-// Does the same to each, one after the other, and tells what was refused.
+// Does the same to each, one after the other, and tells what was refused. Where the server is away the rest is not tried.
 async function inTurn(them, act, done) {
   const refused = [];
+  let isAway = false;
   for (const [number, one] of them.entries()) {
     say(`${number + 1} of ${them.length}: ${one["cmis:name"]}`);
-    try { await act(one); } catch (error) { refused.push([one["cmis:name"], words(error)]); }
+    try {
+      if (isAway) throw new Error("not tried, as the server does not answer");
+      await act(one);
+    } catch (error) {
+      isAway ||= error.isAway;
+      refused.push([one["cmis:name"], words(error)]);
+    }
   }
   go();
   tell(them.length - refused.length, them.length, done, refused);

@@ -27,8 +27,16 @@ export const work = (element) => place("work").append(element);
 /** An error in the server's own words, with the exception's name before them. */
 export const words = (error) => (error.exception ? `${error.exception}: ${error.message}` : error.message);
 
-export function complain(error) {
-  place("problem").replaceChildren(h("p", {}, words(error), " ", button("Close", () => place("problem").replaceChildren())));
+/** Tells what was refused; where the server is away, with a way to try `again`. */
+export function complain(error, again) {
+  const close = () => place("problem").replaceChildren();
+  const retry = error.isAway && again && button("Try again", () => { close(); return again(); }, { class: "first" });
+  place("problem").replaceChildren(h("p", {}, h("span", {}, words(error)), h("span", { class: "buttons" }, retry, button("Close", close))));
+}
+
+/** Does something; what is refused is told. */
+export async function attempt(act) {
+  try { await act(); } catch (error) { complain(error, () => attempt(act)); }
 }
 
 export function quiet() {
@@ -41,7 +49,7 @@ export function button(text, act, attributes = {}) {
   const pressed = async (event) => {
     const it = event.currentTarget;
     it.disabled = true;
-    try { await act(); } catch (error) { complain(error); }
+    await attempt(act);
     it.disabled = false;
   };
   return h("button", { type: "button", onclick: pressed, ...attributes }, text);

@@ -3,7 +3,7 @@
 import { callAs, read } from "./calls.js";
 import { checkedOutPage, folderPage } from "./browse.js";
 import { typesPage } from "./definitions.js";
-import { complain, go, quiet } from "./dom.js";
+import { attempt, complain, go, quiet } from "./dom.js";
 import { objectPage } from "./object.js";
 import { changesPage, queryForName, queryPage } from "./search.js";
 import { forgetFolders } from "./tree.js";
@@ -34,7 +34,7 @@ async function show() {
     heading.focus();
     if (rest) main.append(...(await rest()).filter(Boolean));
   } catch (error) {
-    if (now === turn) complain(error);
+    if (now === turn) complain(error, () => go());
   } finally {
     if (now === turn) main.removeAttribute("aria-busy");
   }
@@ -74,10 +74,15 @@ signIn.addEventListener("submit", async (event) => {
   event.preventDefault();
   quiet();
   const { name, secret } = signIn.elements;
-  try { await enter(name.value, secret.value); } catch (error) { complain(error); }
-  secret.value = "";
+  try {
+    await enter(name.value, secret.value);
+    secret.value = "";
+  } catch (error) {
+    if (!error.isAway) secret.value = "";
+    complain(error, () => signIn.requestSubmit());
+  }
 });
-document.getElementById("stranger").addEventListener("click", () => enter("", "").catch(complain));
+document.getElementById("stranger").addEventListener("click", () => attempt(() => enter("", "")));
 document.querySelector("#caller button").addEventListener("click", leave);
 document.getElementById("find").addEventListener("submit", (event) => {
   event.preventDefault();
@@ -85,5 +90,10 @@ document.getElementById("find").addEventListener("submit", (event) => {
 });
 // A file that misses the list is not opened in the place of the page.
 for (const name of ["dragover", "drop"]) addEventListener(name, (event) => event.preventDefault());
+// A link to the page that is shown, or was asked for when the server was away, loads it anew.
+addEventListener("click", (event) => {
+  const link = event.target.closest?.("a[href^='#/']");
+  if (link && link.hash === location.hash && !event.ctrlKey && !event.metaKey && !event.shiftKey) go();
+});
 addEventListener("hashchange", () => { quiet(); show(); });
 leave();

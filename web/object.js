@@ -139,11 +139,16 @@ async function edit(it, definitions) {
 function fileInput(it, text, required) {
   const input = h("input", { type: "file", required });
   const bar = h("progress", { max: 1, value: 0, hidden: true, "aria-label": "Progress" });
+  // A working copy has one writer, and what was begun there is done again without a token where its reply was lost.
+  let token = it["cmis:isPrivateWorkingCopy"] ? null : it["cmis:changeToken"];
+  let stored = null;
+  const told = ({ succinctProperties: now }) => { token &&= now["cmis:changeToken"]; };
   const put = async () => {
     const file = input.files[0];
-    if (!file) return;
+    if (!file || file === stored) return;
     bar.hidden = false;
-    await setContent(it["cmis:objectId"], it["cmis:changeToken"], file, (sent) => { bar.value = sent / Math.max(file.size, 1); });
+    await setContent(it["cmis:objectId"], token, file, (sent) => { bar.value = sent / Math.max(file.size, 1); }, told);
+    stored = file;
   };
   return { parts: [h("label", {}, text, input), bar], put };
 }

@@ -32,7 +32,7 @@ export function tree(title, root, below, act) {
       else at.removeAttribute("aria-expanded");
     } catch (error) {
       at.setAttribute("aria-expanded", "false");
-      complain(error);
+      complain(error, () => open(at));
     } finally {
       at.removeAttribute("aria-busy");
     }

@@ -60,6 +60,21 @@ async function folderIn(parent, name) {
   }
 }
 
+const AGAIN_AFTER_MS = 3000;
+const pause = () => new Promise((done) => { setTimeout(done, AGAIN_AFTER_MS); });
+
+/** What does a thing, and does it again as long as the server is away, until `isStopped`. `waiting` is told of each pause. */
+const patience = (isStopped, waiting) => async (act) => {
+  for (;;) {
+    try { return await act(); } catch (refusal) {
+      if (!refusal.isAway) throw refusal;
+      waiting();
+      await pause();
+      if (isStopped()) throw refusal;
+    }
+  }
+};
+
 // The panel of a running upload: `at` tells how far it is, `refuse` adds a line, `end` says the last word. Where something was refused the panel
 // stays until it is closed, or until the next upload.
 function panel(total, stop) {
@@ -80,7 +95,7 @@ function panel(total, stop) {
   };
   return {
     at: (sent, text) => { bar.value = sent; if (text) name.replaceChildren(h("bdi", {}, text)); },
-    refuse: (text, error) => refused.append(h("li", {}, text, ": ", h("span", { class: "problem" }, words(error)))),
+    refuse: (text, error, note) => refused.append(h("li", {}, text, ": ", h("span", { class: "problem" }, words(error)), note)),
     end,
   };
 }
@@ -92,6 +107,11 @@ async function storeAll(folder, { folders, files }, values) {
   let sent = 0;
   let stored = 0;
   const { at, refuse, end } = panel(files.reduce((sum, { file }) => sum + file.size, 0), () => { stopped = true; });
+  let wasAway = false;
+  const patient = patience(() => stopped, () => {
+    wasAway = true;
+    at(sent, "The server does not answer. The upload goes on when it does.");
+  });
   const ids = new Map([["", folder]]);
   const inside = (way) => {
     const id = ids.get(way.join("/"));
@@ -102,16 +122,20 @@ async function storeAll(folder, { folders, files }, values) {
   for (const way of folders) {
     if (stopped) break;
     at(sent, way.join(" / "));
-    try { ids.set(way.join("/"), await folderIn(inside(way.slice(0, -1)), way.at(-1))); } catch (error) { refuse(way.join(" / "), error); }
+    const make = () => folderIn(inside(way.slice(0, -1)), way.at(-1));
+    try { ids.set(way.join("/"), await patient(make)); } catch (error) { refuse(way.join(" / "), error); }
   }
   for (const [number, { way, file }] of files.entries()) {
     if (stopped) break;
-    at(sent, `${number + 1} of ${files.length}: ${file.name}`);
+    const what = `${number + 1} of ${files.length}: ${file.name}`;
+    at(sent, what);
+    wasAway = false;
     try {
-      await createDocument(inside(way), { "cmis:name": file.name, ...values }, file, (part) => at(sent + part));
+      await createDocument(inside(way), { "cmis:name": file.name, ...values }, file, (part) => at(sent + part, what), patient);
       stored += 1;
     } catch (error) {
-      refuse([...way, file.name].join(" / "), error);
+      // One whose reply was lost has taken its name perhaps.
+      refuse([...way, file.name].join(" / "), error, wasAway && " (the server was away meanwhile: look whether it is stored)");
     }
     sent += file.size;
   }
