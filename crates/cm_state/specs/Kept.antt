@@ -23,6 +23,7 @@ repository_of s = record {
   step = s.step;
   cost = s.cost;
   limits = s.limits;
+  origin = arc_value s.origin;
 }
 
 -- all that the indexes need: the filing tells what its children are

@@ -310,4 +310,11 @@ impl Parts {
     {
         self.limits
     }
+
+    /// What the addresses in replies begin with, where it is not the host by which the caller names the server.
+    pub fn origin(&self) -> Option<&Text>
+        ensures { option_copied result ≡ self.now.origin }
+    {
+        (*self.origin).as_ref()
+    }
 }

@@ -141,6 +141,7 @@ impl State {
         let types = Arc::new(alloc, types)?;
         let people = People::new(alloc, names, groups)?;
         let people = Arc::new(alloc, people)?;
+        let origin = Arc::new(alloc, None)?;
         let parts = Parts {
             types,
             people,
@@ -150,6 +151,7 @@ impl State {
             step: start.first_step,
             cost: 0,
             limits: start.limits,
+            origin,
         };
         Ok(parts.seal())
     }

@@ -1,9 +1,11 @@
 //! The parts of a repository.
 ghost use Rattle.std.specs.Prelude.{◌≡◌, IfOk};
+ghost use Rattle.std.specs.Arc.{arc_value};
 
 use crate::lists::Lists;
 use crate::people::People;
 use cm_base::limits::Limits;
+use cm_base::text::Text;
 use cm_folder::filing::Filing;
 use cm_type_list::types::Types;
 use std::alloc::{AllocError, Global};
@@ -21,6 +23,7 @@ pub struct Parts {
     pub step: u64,
     pub cost: u64,
     pub limits: Limits,
+    pub origin: Arc<Option<Text>>,
 }
 
 impl Model for Parts {
@@ -43,6 +46,7 @@ impl Parts {
         let people = Arc::try_clone(&self.people)?;
         let filing = self.filing.share(alloc)?;
         let lists = self.lists.share(alloc)?;
+        let origin = Arc::try_clone(&self.origin)?;
         Ok(Parts {
             types,
             people,
@@ -52,6 +56,7 @@ impl Parts {
             step: self.step,
             cost: self.cost,
             limits: self.limits,
+            origin,
         })
     }
 }
@@ -61,4 +66,11 @@ pub(crate) fn limited(parts: Parts, limits: Limits) -> Parts
     ensures { result ≡ record parts { limits = limits } }
 {
     Parts { limits, ..parts }
+}
+
+/// The same parts, with what the addresses in replies begin with.
+pub(crate) fn moved(parts: Parts, origin: Arc<Option<Text>>) -> Parts
+    ensures { result ≡ record parts { origin = arc_value origin } }
+{
+    Parts { origin, ..parts }
 }

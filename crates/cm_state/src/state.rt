@@ -1,5 +1,6 @@
 //! A repository that is well formed.
 ghost use Rattle.std.specs.Prelude.{◌≡◌, Bool, if◌then◌else◌, option_and_then, unwrap_or, ◌+◌, ◌<◌, ◌&&◌, Option, Some, None, IfOk, [], map, find, bytes_eq, length};
+ghost use Rattle.std.specs.Arc.{arc_value};
 ghost use Rattle.std.specs.Option.{option_copied};
 ghost use Rattle.cm_base.specs.declared.object.Object.{Object};
 ghost use Rattle.cm_base.specs.Limits.{AreLimits};
@@ -10,10 +11,11 @@ ghost use Rattle.cmis_spec.specs.Access.{stands, groups_of};
 ghost use Rattle.cmis_spec.specs.Well.{IsWellFormed};
 ghost use Rattle.cm_state.specs.Looks.{list_at, content_at, rendition_at, renditions_of, policies_on, is_applied, is_policy_used, folders_in, numbers_in, tied_to, numbers_of_type};
 
-use crate::parts::{Parts, limited};
+use crate::parts::{Parts, limited, moved};
 use crate::standing::standing_among;
 use cm_base::access::AccessList;
 use cm_base::content::{Content, Rendition};
+use cm_base::copies::Copies;
 use cm_base::items::Items;
 use cm_base::limits::Limits;
 use cm_base::number::{Oid, Oids};
@@ -27,6 +29,7 @@ use cm_type_list::types::Types;
 use cm_types::definition::{BaseType, TypeDef};
 use std::alloc::{AllocError, Global};
 use std::marker::Model;
+use std::sync::Arc;
 use std::sync::ledger::Ledger;
 
 /// A repository that is well formed, seen as the record of its lists.
@@ -72,6 +75,15 @@ fn sealed_under(parts: Parts, limits: Limits) -> State
     other.seal()
 }
 
+// The state that the parts are, where the addresses in replies begin with this.
+fn sealed_at(parts: Parts, origin: Arc<Option<Text>>) -> State
+    requires well { IsWellFormed parts }
+    ensures { result ≡ record parts { origin = arc_value origin } }
+{
+    let other = moved(parts, origin);
+    other.seal()
+}
+
 impl State {
     /// The parts of the state.
     pub fn parts(&self) -> &Parts
@@ -95,6 +107,16 @@ impl State {
     {
         let parts = self.parts.share(alloc)?;
         Ok(sealed_under(parts, limits))
+    }
+
+    /// The same state, in whose replies the addresses begin with this: a scheme, `://` and a host, or with the host by
+    /// which the caller names the server where it is none. All that it holds is shared with this one.
+    pub fn at_origin(&self, alloc: Global, origin: &Option<Text>) -> Result<State, AllocError>
+        ensures { IfOk result (λ s. s ≡ record self.now { origin = origin.now }) }
+    {
+        let origin = Arc::new(alloc, origin.copied(alloc)?)?;
+        let parts = self.parts.share(alloc)?;
+        Ok(sealed_at(parts, origin))
     }
 
     /// The object of this number.
@@ -356,5 +378,12 @@ impl State {
         ensures { result ≡ self.now.limits }
     {
         self.parts.limits()
+    }
+
+    /// What the addresses in replies begin with, where it is not the host by which the caller names the server.
+    pub fn origin(&self) -> Option<&Text>
+        ensures { option_copied result ≡ self.now.origin }
+    {
+        self.parts.origin()
     }
 }

@@ -1,5 +1,5 @@
 //! One run of the program with many connections over a journal in a file.
-ghost use Rattle.std.specs.Prelude.{◌≡◌, ◌⊎◌, map, string_bytes, length, None, IfSome, MatchOption};
+ghost use Rattle.std.specs.Prelude.{◌≡◌, ◌⊎◌, map, string_bytes, length, None, Some, IfSome, MatchOption};
 ghost use Rattle.desk_model.specs.Histories.{state_of};
 ghost use Rattle.cm_repo.specs.ServerMachine.{shown_step};
 ghost use Rattle.cmis_words.specs.Keeping.{kept_of};
@@ -21,8 +21,8 @@ use std::alloc::Global;
 use std::sync::Wait;
 use std::thread::Threads;
 
-/// Runs the program with these words where they are `serve USERS PORT WORKERS [links=K] [groups=LIST] keep=FILE [steps=N] [bytes=N]`: it serves the
-/// host's links over the repository to which the file of this name replays, and keeps there what it accepts. `None`: these are other words.
+/// Runs the program with these words where they are `serve USERS PORT WORKERS [links=K] [groups=LIST] keep=FILE [steps=N] [bytes=N] [base=URL]`: it
+/// serves the host's links over the repository to which the file of this name replays, and keeps there what it accepts. `None`: these are other words.
 pub fn run_kept<
     K: Disk + Explains + Drop + Send,
     O: Sink,
@@ -43,10 +43,10 @@ pub fn run_kept<
 where
     H::Link: Send,
     ensures others { result ≡ None → (kept_of (map string_bytes words.now) ≡ None)
-        × (O.told output.new ≡ O.told output.old) × (host.new ≡ host.old) }
-    ensures ran { IfSome result (λ ran. (ran.status ≡ 7) × (ran.over ≡ None)
+        × (O.told output.new ≡ O.told output.old) × (host.new ≡ host.old) × (clock.new ≡ clock.old) }
+    ensures ran { IfSome result (λ ran. (ran.status ≡ 7) × (ran.disk ≡ Some disk) × (ran.over ≡ None)
         × (O.told output.new ≡ O.told output.old) × (host.new ≡ host.old)
-        ⊎ IfSome (kept_of (map string_bytes words.now)) (λ asked. MatchOption ran.over
+        ⊎ MatchOption (kept_of (map string_bytes words.now)) ⊥ (λ asked. MatchOption ran.over
         (NotServed K.tells K.told asked.serve (C.words clock.old) (H.told host.old) (H.left host.old)
         (H.told host.new) (H.left host.new) disk ran.disk (O.told output.old) (O.told output.new) ran.status)
         (λ o. MatchOption ran.disk ⊥ (λ d. ServedOver K.tells K.told asked.serve H.Link.Source.told H.Link.Sink.told

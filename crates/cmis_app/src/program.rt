@@ -19,7 +19,7 @@ use std::thread::Threads;
 
 /// Runs the program with these words, and answers its status.
 ///
-/// `serve USERS PORT WORKERS [links=K] [groups=LIST] [steps=N] [bytes=N]` serves the host's links at this port. 0: the host had none to give, or as many were served as may be;
+/// `serve USERS PORT WORKERS [links=K] [groups=LIST] [steps=N] [bytes=N] [base=URL]` serves the host's links at this port. 0: the host had none to give, or as many were served as may be;
 /// 4: the line at the end could not be written; 5: the host failed; 7: memory was wanted. Every other list of words is run by `cmis_runs::run_once`.
 pub fn run<I: Source, O: Sink, H: Host, C: Clock + Send, G: Gate + Sync, R: Threads + Wait + Sync>(
     rt: &R,

@@ -45,9 +45,9 @@ people_asked asked = record { names = map (λ u. u.name) asked.users; groups = a
 abbrev pub root_of : Moment → Serve → Root PeopleTold
 root_of moment asked = record { moment = moment; people = people_asked asked }
 
--- the repository under these limits
-abbrev pub under : Limits → Repository → Repository
-under limits r = record r { limits = limits }
+-- the repository under these limits, in whose replies the addresses begin with this origin
+abbrev pub under : Limits → Option (List ℕ) → Repository → Repository
+under limits origin r = record r { limits = limits; origin = origin }
 
 -- the host failed to begin with these words; or memory was wanted once it had, and the disk is gone
 abbrev pub IsUnhosted : {K : Type 0} → Serve → HostTold → HostTold → Option K → ℕ → Type 0
@@ -61,9 +61,9 @@ EndsBy (Some lost) end text empty full status = TellsLost lost empty full status
 
 -- Of a run with these words over a file whose journal is read so: what is known where the disk tells its file.
 module _ {C A X K : Type 0} (reading : Reading Repository C PeopleTold A X) (tells : Bool) (told : K → DiskTold) (asked : Serve) where
-  -- The links that were served, over one history of the repository to which the file replays, under the limits of the words. What a reading is replied is
-  -- that of every well-formed repository in which its caller sees the same. The file holds the history behind what it held as it was served, but for
-  -- entries that nobody was told of where they could not be kept.
+  -- The links that were served, over one history of the repository to which the file replays, under the limits and with the origin of the words. What a
+  -- reading is replied is that of every well-formed repository in which its caller sees the same. The file holds the history behind what it held as it was
+  -- served, but for entries that nobody was told of where they could not be kept.
   pub record ServedOver {Q L : Type 0} (kind : Kind Repository C Q) (codec : Codec (Entry C)) (source : L → SourceTold) (sink : L → SinkTold) (clock : Option Words) (links : Option (List L)) (disk disk' : K) (last : History Repository C) (ended : List (Ended L)) (unkept : Option (Option Lost)) : Type 0 where
     pub moment : Moment
     pub first : IsFirstMoment clock moment
@@ -71,7 +71,7 @@ module _ {C A X K : Type 0} (reading : Reading Repository C PeopleTold A X) (tel
     pub well : IsWellFormed opening
     pub begun : K
     pub offset : ℕ
-    pub begins : IsTrue tells → BegunIn reading growing (root_of moment asked) (under asked.limits) (told disk) (told begun) opening offset
+    pub begins : IsTrue tells → BegunIn reading growing (root_of moment asked) (under asked.limits asked.origin) (told disk) (told begun) opening offset
     pub sure : ℕ
     pub closed : Closed (record { kind = kind; source = source; sink = sink; faults = faults told; users = asked.users; links = links }) opening last sure ended
     pub kept : IsTrue tells → KeptIn codec offset (told begun) (told disk') last.journal sure unkept

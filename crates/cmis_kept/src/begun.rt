@@ -15,7 +15,8 @@ ghost use Rattle.journal_runs.specs.Begins.{BegunIn, IsFirst, StopsRun, WhereUnt
 ghost use Rattle.journal_runs.specs.Ends.{IsStarved, TellsStop};
 ghost use Rattle.cmis_kept.specs.Kept.{people_asked, root_of, under};
 
-use cm_base::limits::Limits;
+use crate::settings::Settings;
+use cm_base::copies::Copies;
 use cm_base::number::Moment;
 use cm_base::text::Text;
 use cm_state::state::State;
@@ -50,7 +51,23 @@ fn root_of(alloc: Global, moment: Moment, asked: &Serve) -> Result<Root<People>,
     Ok(Root { moment, people })
 }
 
-/// Begins a run over the file of this name, with the people and under the limits of these words. Where memory is wanted for these, the disk isn't asked.
+// The root that these words put, made at this moment, and a copy of what addresses begin with by them.
+fn prepared(
+    alloc: Global,
+    moment: Moment,
+    asked: &Serve,
+) -> Result<(Root<People>, Option<Text>), AllocError>
+    requires groups { HasGroups (map (λ u. u.name) asked.now.users) asked.now.groups }
+    ensures root { IfOk result (λ x. x.0 ≡ root_of moment asked.now) }
+    ensures origin { IfOk result (λ x. x.1 ≡ asked.now.origin) }
+{
+    let root = root_of(alloc, moment, asked)?;
+    let origin = Copies::copied(&asked.origin, alloc)?;
+    Ok((root, origin))
+}
+
+/// Begins a run over the file of this name, with the people, under the limits and with the origin of these words. Where memory is wanted for these, the
+/// disk isn't asked.
 pub(crate) fn begun<
     M: Restarts<People> + Machine<State = State>,
     K: Disk,
@@ -66,7 +83,7 @@ pub(crate) fn begun<
     requires limits { AreLimits asked.now.limits }
     ensures begun { IsTrue K.tells → IfOk result (λ x. BegunIn
         (reading_of F.root_codec F.record_codec M.opening M.next M.adopt) growing (root_of moment asked.now)
-        (under asked.now.limits) (K.told disk) (K.told x.1.begun) x.0 x.1.offset) }
+        (under asked.now.limits asked.now.origin) (K.told disk) (K.told x.1.begun) x.0 x.1.offset) }
     ensures first { IfOk result (λ x. IsFirst x.1) }
     ensures stands { IfOk result (λ x. Stands K.tells K.told F.codec x.1 0 []) }
     ensures stops { IsTrue K.tells → IfErr result (λ x. StopsRun
@@ -80,14 +97,14 @@ pub(crate) fn begun<
     ensures fault { IfErr result (λ x. x.0 ≡ KeptStop.NotBegun BeginStop.Fault
         → Rose (K.told disk).faults (K.told x.1).faults) }
 {
-    match root_of(alloc, moment, asked) {
-        Ok(root) => begin::<K, M, People, F, MayGrow, Limits>(
-            alloc,
-            disk,
-            file,
-            root,
-            asked.limits,
-        ),
+    match prepared(alloc, moment, asked) {
+        Ok((root, origin)) => {
+            let settings = Settings {
+                limits: asked.limits,
+                origin,
+            };
+            begin::<K, M, People, F, MayGrow, Settings>(alloc, disk, file, root, settings)
+        }
         Err(_) => Err((KeptStop::NotBegun(BeginStop::Memory), disk)),
     }
 }

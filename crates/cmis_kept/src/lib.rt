@@ -5,6 +5,7 @@ mod begun;
 mod over;
 mod ran;
 mod running;
+mod settings;
 
 pub use ran::{Over, Ran};
 pub use running::run;

@@ -43,10 +43,10 @@ fn unserved<M: Machine, L, K>(status: u8, disk: Option<K>) -> Ran<M, L, K>
     }
 }
 
-/// Serves the host's links, which began with these words, over the repository to which the file replays, under the limits of the words, each by a
-/// session of its own, at most so many at once; no reply leaves before all that it shows stands in the file. 0: the host had none to give, or as many
-/// were served as may be; 4: the line at the end could not be written; 5: the host failed; 7: memory was wanted; 9: the journal isn't kept;
-/// 10: its people are others than the words'; 11: it is damaged.
+/// Serves the host's links, which began with these words, over the repository to which the file replays, under the limits and with the origin of the
+/// words, each by a session of its own, at most so many at once; no reply leaves before all that it shows stands in the file. 0: the host had none to
+/// give, or as many were served as may be; 4: the line at the end could not be written; 5: the host failed; 7: memory was wanted; 9: the journal isn't
+/// kept; 10: its people are others than the words'; 11: it is damaged.
 pub fn run<
     P: Program,
     F: JournalWriting<<P::Face as Machine>::Call, People> + EntryCode<<P::Face as Machine>::Call>,

@@ -129,3 +129,36 @@ limits_keep r limits w within = record {
   tokens = w.tokens;
   labels = w.labels;
 }
+
+-- no fact reads what the addresses in replies begin with
+pub origin_keeps : (r : Repository) (origin : Option (List ℕ)) → IsWellFormed r → IsWellFormed (record r { origin = origin })
+origin_keeps r origin w = record {
+  numbers = w.numbers;
+  series_numbers = w.series_numbers;
+  firsts = w.firsts;
+  renditions = w.renditions;
+  root = w.root;
+  ways = w.ways;
+  one_parent = w.one_parent;
+  pairs = w.pairs;
+  names = w.names;
+  documents = w.documents;
+  series = w.series;
+  plain = w.plain;
+  own_names = w.own_names;
+  relationships = w.relationships;
+  policies = w.policies;
+  access = w.access;
+  listed = w.listed;
+  contents = w.contents;
+  sizes = w.sizes;
+  typed = w.typed;
+  types = w.types;
+  defs = w.defs;
+  kept = w.kept;
+  own_values = w.own_values;
+  groups = w.groups;
+  bounds = w.bounds;
+  tokens = w.tokens;
+  labels = w.labels;
+}

@@ -1,3 +1,4 @@
 pub mod Alike
+pub mod Beginning
 pub mod Hosting
 pub mod Kinds

@@ -1,6 +1,6 @@
 -- What a run of the program does: what it writes, and the status with which it ends.
-use Rattle.std.specs.Prelude.{◌≡◌, ◌⊎◌, ℕ, List, [], Option, Some, None, IfSome}
-use Rattle.outside.specs.Clocks.{Words, first_word, rest_words}
+use Rattle.std.specs.Prelude.{◌≡◌, ◌⊎◌, ℕ, List, Option, Some, None}
+use Rattle.outside.specs.Clocks.{Words}
 use Rattle.outside.specs.Outside.{SourceTold, SinkTold}
 use Rattle.cm_base.specs.declared.number.Moment.{Moment}
 use Rattle.cm_base.specs.declared.user.User.{User}
@@ -8,7 +8,6 @@ use Rattle.cm_base.specs.declared.user.Group.{Group}
 use Rattle.cm_types.specs.BaseTypes.{base_types}
 use Rattle.cmis_spec.specs.Repository.{Repository, opening}
 use Rattle.desk_model.specs.declared.entry.Entry.{Entry}
-use Rattle.desk_model.specs.Clocks.{moment_of}
 use Rattle.talk.specs.declared.end.End.{End}
 use Rattle.talk.specs.Ran.{RunAlone}
 use Rattle.talk.specs.Served.{Kind}
@@ -16,6 +15,7 @@ use Rattle.run_status.specs.Status.{status_of, Refused, Unbegun}
 use Rattle.cmis_words.specs.declared.words.Words.{Words as Asked}
 use Rattle.cmis_words.specs.declared.words.Words.TheVariants.{Pipe}
 use Rattle.cmis_program.specs.Alike.{RepliesOfSeen}
+use Rattle.cmis_program.specs.Beginning.{Begins}
 use Rattle.cmis_runs.specs.Starts.{start_at}
 
 -- A session over this opening and a clock with these words, with nobody beside it; the session takes no other words of the clock than its turns need, and leaves these.
@@ -28,15 +28,6 @@ pub record Served {C Q : Type 0} (kind : Kind Repository C Q) (opened : Reposito
   pub left : Option Words
   pub ran : RunAlone kind opened users words before empty after full end journal left
   pub alike : RepliesOfSeen kind opened
-
--- a clock that always gives this word
-abbrev pub always : ℕ → Words
-always word = record { coming = []; last = word }
-
--- A moment that the words name is that of the root and of every write; else the first word of the clock is that of the root, and the session takes the next ones.
-abbrev pub Begins : Option Moment → Option Words → Moment → Option Words → Type 0
-Begins (Some at) clock root words = (root ≡ at) × ((word : ℕ) × (at ≡ moment_of word) × (words ≡ Some (always word)))
-Begins None clock root words = IfSome clock (λ w. (root ≡ moment_of (first_word w)) × (words ≡ Some (rest_words w)))
 
 -- a run that serves one session, over the repository with the root alone
 pub record Piped {C Q : Type 0} (kind : Kind Repository C Q) (users : List User) (groups : List Group) (at : Option Moment) (from : ℕ) (clock : Option Words) (before : SourceTold) (empty : SinkTold) (after : SourceTold) (full : SinkTold) (status : ℕ) : Type 0 where

@@ -4,10 +4,13 @@ ghost use Rattle.cm_base.specs.Limits.{AreLimits};
 ghost use Rattle.cmis_spec.specs.Well.{HasGroups};
 ghost use Rattle.desk_serve.specs.Sessions.{Taken, EndsFor};
 ghost use Rattle.cmis_program.specs.Kinds.{kind_of};
-ghost use Rattle.cmis_runs.specs.Many.{ServedAll};
+ghost use Rattle.cmis_runs.specs.Many.{ServedAll, opened};
 
+use cm_base::copies::Copies;
 use cm_base::limits::Start;
+use cm_base::number::Moment;
 use cm_opening::open::open;
+use cm_state::state::State;
 use cmis_program::Program;
 use cmis_words::serve::Serve;
 use desk_model::{Machine, Nowhere, moment_of_word};
@@ -17,7 +20,24 @@ use std::alloc::{AllocError, Global};
 use std::sync::Wait;
 use std::thread::Threads;
 
-/// Serves the host's links, which began with these words, over the repository with the root alone and the limits of the words, each by a session of its own, at most so many at once. Where memory is wanted before the first one, the host isn't asked.
+// The repository with the root alone, made at this moment, with the users, the groups, the limits and the origin that the words name.
+fn opened(alloc: Global, asked: &Serve, root: Moment) -> Result<State, AllocError>
+    requires groups { HasGroups (map (λ u. u.name) asked.now.users) asked.now.groups }
+    requires limits { AreLimits asked.now.limits }
+    ensures { IfOk result (λ state. state ≡ opened root asked.now) }
+{
+    let start = Start {
+        moment: root,
+        first_step: 0,
+        limits: asked.limits,
+    };
+    let groups = asked.groups.copied(alloc)?;
+    let state = open(alloc, &asked.users, groups, start)?;
+    state.at_origin(alloc, &asked.origin)
+}
+
+/// Serves the host's links, which began with these words, over the repository with the root alone, the limits and the origin of the words, each by a session
+/// of its own, at most so many at once. Where memory is wanted before the first one, the host isn't asked.
 pub fn serve<P: Program, H: Host, C: Clock + Send, G: Gate + Sync, R: Threads + Wait + Sync>(
     rt: &R,
     alloc: Global,
@@ -44,14 +64,8 @@ where
         (length c.ended) c.end) }
     ensures unasked { OnErr result (host.new ≡ host.old) }
 {
-    let users = asked.users;
     let root = moment_of_word(clock.now());
-    let start = Start {
-        moment: root,
-        first_step: 0,
-        limits: asked.limits,
-    };
-    let opening = open(alloc, &users, asked.groups, start)?;
+    let opening = opened(alloc, &asked, root)?;
     P::replies_of_seen();
     nowhere_keeps_all();
     let _step = opening.step();
@@ -60,7 +74,7 @@ where
         alloc,
         opening,
         clock,
-        &users,
+        &asked.users,
         asked.workers,
         host,
         gate,

@@ -6,10 +6,11 @@ ghost use Rattle.cmis_spec.specs.Well.{HasGroups};
 ghost use Rattle.desk_model.specs.Clocks.{moment_of};
 ghost use Rattle.cmis_words.specs.Programs.{words_of};
 ghost use Rattle.cmis_words.specs.Bounds.{IsMoment};
+ghost use Rattle.cmis_program.specs.Beginning.{always};
 ghost use Rattle.cmis_program.specs.Kinds.{kind_of, rules_of};
 ghost use Rattle.cmis_runs.specs.Once.{LoadsOrServes, RunsOnce};
 ghost use Rattle.run_status.specs.Status.{OnlyWhereFailed, Unbegun};
-ghost use Rattle.cmis_runs.specs.Runs.{always, Served, Piped, Ran};
+ghost use Rattle.cmis_runs.specs.Runs.{Served, Piped, Ran};
 ghost use Rattle.cmis_runs.specs.Starts.{start_at};
 
 use crate::loaded::load;

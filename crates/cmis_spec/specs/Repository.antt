@@ -50,6 +50,8 @@ pub record Repository : Type 0 where
   pub cost : ℕ
   -- the most steps that it takes, and the most bytes that these may cost
   pub limits : Limits
+  -- what the addresses in replies begin with; where it is none, each begins with the host by which its caller names the server
+  pub origin : Option (List ℕ)
 
 -- ---- limits
 
@@ -127,6 +129,7 @@ opening types users groups start =
       step = start.first_step;
       cost = 0;
       limits = start.limits;
+      origin = None;
     }
 
 -- ---- objects and their types

@@ -78,6 +78,8 @@ pub record Seen : Type 0 where
   -- in the order of their numbers
   pub objects : List SeenObject
   pub log : List SeenEvent
+  -- what the addresses in replies begin with, where it is not the host by which the caller names the server
+  pub origin : Option (List ℕ)
 
 abbrev pub is_read : Repository → List ℕ → Oid → Bool
 is_read r u n = is_some (read_at r u n)
@@ -117,6 +119,7 @@ seen r u = record {
   groups = groups_of r u;
   objects = map (seen_object r u) (filter (reads r u) r.objects);
   log = seen_events r u 1 r.log;
+  origin = r.origin;
 }
 
 -- ---- two repositories that look the same

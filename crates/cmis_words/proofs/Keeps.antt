@@ -29,18 +29,19 @@ apart word name other h differ =
     (second (list_any is_equals word) (bytes_eq (before_first is_equals word) name) (if_some (list_any is_equals word && bytes_eq (before_first is_equals word) name) (after_first is_equals word) h)) in
     never (list_any is_equals word) (bytes_eq (before_first is_equals word) other) (after_first is_equals word) (ap (λ n. bytes_eq n other) named ∙ differ)
 
-none_of : (a b c d : Bool) → a ≡ false → b ≡ false → c ≡ false → d ≡ false → a || b || c || d ≡ false
-none_of false false false false p q r s = refl
-none_of true b c d p q r s = absurd (both_ways true p refl)
-none_of false true c d p q r s = absurd (both_ways true q refl)
-none_of false false true d p q r s = absurd (both_ways true r refl)
-none_of false false false true p q r s = absurd (both_ways true s refl)
+none_of : (a b c d e : Bool) → a ≡ false → b ≡ false → c ≡ false → d ≡ false → e ≡ false → a || b || c || d || e ≡ false
+none_of false false false false false p q r s t = refl
+none_of true b c d e p q r s t = absurd (both_ways true p refl)
+none_of false true c d e p q r s t = absurd (both_ways true q refl)
+none_of false false true d e p q r s t = absurd (both_ways true r refl)
+none_of false false false true e p q r s t = absurd (both_ways true s refl)
+none_of false false false false true p q r s t = absurd (both_ways true t refl)
 
 not_serves : (word : List ℕ) → is_some (behind (codes "keep") word) ≡ true → is_serve_option word ≡ false
 not_serves word h =
-    none_of (is_some (behind (codes "links") word)) (is_some (behind (codes "groups") word)) (is_some (behind (codes "steps") word)) (is_some (behind (codes "bytes") word))
+    none_of (is_some (behind (codes "links") word)) (is_some (behind (codes "groups") word)) (is_some (behind (codes "steps") word)) (is_some (behind (codes "bytes") word)) (is_some (behind (codes "base") word))
     (apart word (codes "keep") (codes "links") h refl) (apart word (codes "keep") (codes "groups") h refl)
-    (apart word (codes "keep") (codes "steps") h refl) (apart word (codes "keep") (codes "bytes") h refl)
+    (apart word (codes "keep") (codes "steps") h refl) (apart word (codes "keep") (codes "bytes") h refl) (apart word (codes "keep") (codes "base") h refl)
 
 with_false : (a b : Bool) → b ≡ false → a && b ≡ false
 with_false true b h = h
@@ -59,11 +60,11 @@ not_all : (options : List (List ℕ)) (file : List ℕ) → option_of (codes "ke
 not_all [] file h = absurd (both_ways false refl (ap is_some h))
 not_all (word ∷ words) file h = after word words (is_some (behind (codes "keep") word)) refl (λ e. not_all words file (rw e at h))
 
-barred : (same few all links groups steps bytes : Bool) → all ≡ false → same && (few && all && links && groups && steps && bytes) ≡ false
-barred same few all links groups steps bytes h =
-    with_false same (few && all && links && groups && steps && bytes)
-    (before_false (few && all && links && groups && steps) bytes
-    (before_false (few && all && links && groups) steps (before_false (few && all && links) groups (before_false (few && all) links (with_false few all h)))))
+barred : (same few all links groups steps bytes base : Bool) → all ≡ false → same && (few && all && links && groups && steps && bytes && base) ≡ false
+barred same few all links groups steps bytes base h =
+    with_false same (few && all && links && groups && steps && bytes && base)
+    (before_false (few && all && links && groups && steps && bytes) base (before_false (few && all && links && groups && steps) bytes
+    (before_false (few && all && links && groups) steps (before_false (few && all && links) groups (before_false (few && all) links (with_false few all h))))))
 
 else_none : {A : Type 0} (b : Bool) (o : Option A) → b ≡ false → (if b then o else None) ≡ None
 else_none true o h = absurd (both_ways true h refl)
@@ -72,8 +73,8 @@ else_none false o h = refl
 refused : (word list port workers : List ℕ) (options : List (List ℕ)) (file : List ℕ) → option_of (codes "keep") options ≡ Some file → serve_of (word ∷ list ∷ port ∷ workers ∷ options) ≡ None
 refused word list port workers options file h =
     else_none (bytes_eq word (codes "serve") && are_serve_options options) _
-    (barred (bytes_eq word (codes "serve")) (nat_le (length options) 4) (list_all is_serve_option options)
-    (stands_once (codes "links") options) (stands_once (codes "groups") options) (stands_once (codes "steps") options) (stands_once (codes "bytes") options) (not_all options file h))
+    (barred (bytes_eq word (codes "serve")) (nat_le (length options) 5) (list_all is_serve_option options)
+    (stands_once (codes "links") options) (stands_once (codes "groups") options) (stands_once (codes "steps") options) (stands_once (codes "bytes") options) (stands_once (codes "base") options) (not_all options file h))
 
 from_only : (b : Bool) (o : Option (List ℕ)) (file : List ℕ) → (if b then o else None) ≡ Some file → o ≡ Some file
 from_only true o file h = h
@@ -94,7 +95,7 @@ no_serve (word ∷ list ∷ port ∷ workers ∷ options) = by_file (only_option
     by_file None e = tt
     by_file (Some file) e =
         always (kept_by (file_by (Some file)) (serve_of (word ∷ list ∷ port ∷ workers ∷ without_keep options))) (serve_of (word ∷ list ∷ port ∷ workers ∷ options) ≡ None)
-        (refused word list port workers options file (from_only (nat_le (length options) 5 && stands_once (codes "keep") options) (option_of (codes "keep") options) file e))
+        (refused word list port workers options file (from_only (nat_le (length options) 6 && stands_once (codes "keep") options) (option_of (codes "keep") options) file e))
 
 -- one word more
 pub others_more : (old words : List (List ℕ)) (word : List ℕ) → (old ++ without_keep (word ∷ [])) ++ without_keep words ≡ old ++ without_keep (word ∷ words)

@@ -1,4 +1,4 @@
--- The program's words for many connections whose repository a file keeps: serve USERS PORT WORKERS [links=K] [groups=LIST] keep=FILE [steps=N] [bytes=N],
+-- The program's words for many connections whose repository a file keeps: serve USERS PORT WORKERS [links=K] [groups=LIST] keep=FILE [steps=N] [bytes=N] [base=URL],
 -- the options in any order, each at most once.
 use Rattle.std.specs.Prelude.{ℕ, ◌≡◌, ◌==◌, nat_le, Bool, ◌&&◌, not, is_none, List, [], ◌∷◌, length, codes, Option, Some, None, Result, Ok, Err, if◌then◌else◌}
 use Rattle.std.specs.List.{filter, list_any}
@@ -18,9 +18,9 @@ is_file_name name = nat_le 1 (length name) && nat_le (length name) 4096 && not (
 
 -- ---- the option
 
--- what stands behind this name in the one of at most five options that has it
+-- what stands behind this name in the one of at most six options that has it
 abbrev pub only_option : List ℕ → List (List ℕ) → Option (List ℕ)
-only_option name options = if nat_le (length options) 5 && stands_once name options then option_of name options else None
+only_option name options = if nat_le (length options) 6 && stands_once name options then option_of name options else None
 
 abbrev pub file_by : Option (List ℕ) → Option (List ℕ)
 file_by None = None

@@ -3,6 +3,7 @@ pub mod GroupLists
 pub mod Keeping
 pub mod Limiting
 pub mod Options
+pub mod Origins
 pub mod Programs
 pub mod Serving
 pub mod Loading

@@ -31,6 +31,10 @@ moment_of digits = option_map (λ n. record { 0 = pos n }) (at_most last_moment 
 abbrev pub step_of : List ℕ → Option ℕ
 step_of digits = at_most 1048576 (decimal_u64 digits)
 
+-- a port of a host
+abbrev pub port_of : List ℕ → Option ℕ
+port_of digits = within 1 65535 (decimal_u64 digits)
+
 -- ---- the options
 
 abbrev pub is_pipe_option : List ℕ → Bool

@@ -1,5 +1,5 @@
 //! The words of the program for many connections whose repository a file keeps:
-//! `serve USERS PORT WORKERS [links=K] [groups=LIST] keep=FILE [steps=N] [bytes=N]`.
+//! `serve USERS PORT WORKERS [links=K] [groups=LIST] keep=FILE [steps=N] [bytes=N] [base=URL]`.
 ghost use Rattle.std.specs.Prelude.{◌≡◌, ◌≤◌, ◌∷◌, ◌++◌, [], true, codes, is_none, map, option_map, string_bytes, IfOk, IfSome};
 ghost use Rattle.std.specs.List.{list_any};
 ghost use Rattle.cm_base.specs.Limits.{AreLimits};
@@ -35,11 +35,11 @@ fn is_file_name(name: &[u8]) -> bool
     1 <= name.len() && name.len() <= LONGEST_FILE_NAME && !has_zero(name)
 }
 
-// What stands behind this name in the one of at most five options that has it.
+// What stands behind this name in the one of at most six options that has it.
 fn only_option<'a>(options: &'a [String], named: &str) -> Option<&'a str>
     ensures { option_map (λ s. s.now) result ≡ only_option named.now (map string_bytes options.now) }
 {
-    if options.len() <= 5 && stands_once(options, named) {
+    if options.len() <= 6 && stands_once(options, named) {
         option(options, named)
     } else {
         None

@@ -9,6 +9,7 @@ pub mod laws;
 mod limits;
 pub mod load;
 mod options;
+mod origin;
 pub mod schedule;
 pub mod serve;
 pub mod words;

@@ -3,7 +3,7 @@ ghost use Rattle.std.specs.Prelude.{◌≡◌, ◌≤◌, IfSome, map, codes, by
 ghost use Rattle.std.specs.List.{list_all};
 ghost use Rattle.cmis_words.specs.declared.words.WordsStop.TheVariants.{Memory};
 ghost use Rattle.cmis_words.specs.Options.{option_of};
-ghost use Rattle.cmis_words.specs.Programs.{at_most, within, moment_of, step_of, is_pipe_option, are_pipe_options, at_by, from_by, ReadsList, ReadsOption, ReadsWords};
+ghost use Rattle.cmis_words.specs.Programs.{at_most, within, moment_of, step_of, port_of, is_pipe_option, are_pipe_options, at_by, from_by, ReadsList, ReadsOption, ReadsWords};
 
 use crate::groups::read_groups;
 use crate::options::{behind, option, stands_once};
@@ -97,6 +97,15 @@ fn step(digits: &[u8]) -> Option<u64>
     ensures { result ≡ step_of digits.now }
 {
     at_most(LAST_STEP, read_u64(digits))
+}
+
+pub(crate) fn port(digits: &[u8]) -> Option<u16>
+    ensures { result ≡ port_of digits.now }
+{
+    match within(1, 65535, read_u64(digits)) {
+        None => None,
+        Some(n) => Some(n as u16),
+    }
 }
 
 fn is_option(word: &str) -> bool

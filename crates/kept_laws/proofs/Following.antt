@@ -1,4 +1,4 @@
--- The people of a run and of the next one, and the state under the same limits.
+-- The people of a run and of the next one, and the state under the same limits and with the same origin.
 use Rattle.std.proofs.Common.{◌≡◌, ℕ, Bool, true, false, if◌then◌else◌, ◌&&◌, List, refl, sym, ap, subst, ◌∙◌, inl, inr, ◌⊎◌}
 use Rattle.std.specs.Prelude.{is_none}
 use Rattle.std.specs.declared.option.Option.{Option}
@@ -45,17 +45,23 @@ module _ (alike : (kept asked : PeopleTold) → same_people kept asked ≡ true 
   pub people_of_run : (turn : Repository → Repository) (old begun : DiskTold) (opening : Repository) (offset : ℕ) (run : BegunIn journal growing root turn old begun opening offset) → run.replay.people ≡ root.people
   people_of_run turn old begun opening offset run = people_put run.replay run.begins.before run.begins.added run.begins.puts
 
--- under the limits that a repository has it is as it is
+-- under the limits and with the origin that a repository has it is as it is
 pub under_own : ((r : Repository) (h : List (Entry Write)) → IsLegal shown_step r h → (replay shown_step r h).limits ≡ r.limits)
-    → (limits : Limits) (opening opening' : Repository) (h : List (Entry Write)) (sure : ℕ) (unkept : Option (Option Lost)) → opening.limits ≡ limits → IsLegal shown_step opening h
-    → IsStateBehind shown_step (under limits) opening h sure unkept opening' → IsStateBehind shown_step (λ r. r) opening h sure unkept opening'
-under_own stay limits opening opening' h sure unkept own legal b =
+    → ((r : Repository) (h : List (Entry Write)) → IsLegal shown_step r h → (replay shown_step r h).origin ≡ r.origin)
+    → (limits : Limits) (origin : Option (List ℕ)) (opening opening' : Repository) (h : List (Entry Write)) (sure : ℕ) (unkept : Option (Option Lost))
+    → opening.limits ≡ limits → opening.origin ≡ origin → IsLegal shown_step opening h
+    → IsStateBehind shown_step (under limits origin) opening h sure unkept opening' → IsStateBehind shown_step (λ r. r) opening h sure unkept opening'
+under_own limits_stay origin_stays limits origin opening opening' h sure unkept own_limits own_origin legal b =
     let front_legal = legal-front shown_step opening b.front b.begins.0 (subst (IsLegal shown_step opening) (sym b.begins.1) legal) in
-    let limits_are = stay opening b.front front_legal ∙ own in
+    let behind : Repository = replay shown_step opening b.front in
+    let limits_are : behind.limits ≡ limits = limits_stay opening b.front front_legal ∙ own_limits in
+    let origin_is : behind.origin ≡ origin = origin_stays opening b.front front_legal ∙ own_origin in
     record {
       front = b.front;
       begins = b.begins;
       least = b.least;
       whole = b.whole;
-      state_is = b.state_is ∙ ap (λ (x : Limits). under x (replay shown_step opening b.front)) (sym limits_are);
+      state_is =
+          b.state_is
+          ∙ (ap (λ (x : Limits). under x origin behind) (sym limits_are) ∙ ap (λ (x : Option (List ℕ)). under behind.limits x behind) (sym origin_is));
     }

@@ -1,5 +1,6 @@
-//! The limits of a repository that a file keeps.
-ghost use Rattle.std.specs.Prelude.{◌≡◌, ℕ, List};
+//! The limits of a repository that a file keeps, and what the addresses in its replies begin with.
+ghost use Rattle.std.specs.Prelude.{◌≡◌, ℕ, List, None};
+ghost use Rattle.std.specs.declared.option.Option.{Option};
 ghost use Rattle.cm_base.specs.declared.limits.Limits.{Limits};
 ghost use Rattle.cm_base.specs.Limits.{AreLimits, greatest_limits};
 ghost use Rattle.cm_call.specs.declared.write.Write.{Write};
@@ -19,30 +20,35 @@ ghost use Rattle.limit_laws.specs.Limited.{under};
 
 use limit_laws::history::history_is_legal;
 
-/// A legal list of entries leaves the limits of a repository as they are.
-pub fn limits_stay()
-    ensures { (r : Repository) (h : List (Entry Write)) → IsLegal shown_step r h
+/// A legal list of entries leaves the limits of a repository as they are, and so its origin.
+pub fn limits_and_origin_stay()
+    ensures limits { (r : Repository) (h : List (Entry Write)) → IsLegal shown_step r h
         → (replay shown_step r h).limits ≡ r.limits }
+    ensures origin { (r : Repository) (h : List (Entry Write)) → IsLegal shown_step r h
+        → (replay shown_step r h).origin ≡ r.origin }
 {
     history_is_legal();
 }
 
-/// What a file replays to has the greatest limits.
+/// What a file replays to has the greatest limits, and no origin: it is never told in a file.
 pub fn replays_have_greatest_limits()
-    ensures { (payloads : List (List ℕ)) (r : Replay Repository PeopleTold)
+    ensures limits { (payloads : List (List ℕ)) (r : Replay Repository PeopleTold)
         → Replays (reading_of root_codec record_codec begun_at shown_step adopted) payloads r
         → r.state.limits ≡ greatest_limits }
+    ensures origin { (payloads : List (List ℕ)) (r : Replay Repository PeopleTold)
+        → Replays (reading_of root_codec record_codec begun_at shown_step adopted) payloads r
+        → r.state.origin ≡ None }
 {
-    limits_stay();
+    limits_and_origin_stay();
 }
 
-/// So the limits of a run, which a repository may have, do no more there than to refuse: what is legal under them is legal without, and leads to
-/// the same but for them.
+/// So the limits of a run, which a repository may have, do no more there than to refuse, and its origin not even that: what is legal under them and
+/// with it is legal without, and leads to the same but for them.
 pub fn limits_only_refuse()
-    ensures { (limits : Limits) → AreLimits limits
-        → AreOnlyLimits (reading_of root_codec record_codec begun_at shown_step adopted) (under limits) }
+    ensures { (limits : Limits) (origin : Option (List ℕ)) → AreLimits limits
+        → AreOnlyLimits (reading_of root_codec record_codec begun_at shown_step adopted) (under limits origin) }
 {
     history_is_legal();
-    limits_stay();
+    limits_and_origin_stay();
     replays_have_greatest_limits();
 }

@@ -1,5 +1,5 @@
--- What a caller sees is the same under other limits, and so is what he is answered.
-use Rattle.std.specs.Prelude.{◌≡◌, ℕ, ◌+◌, if◌then◌else◌, List, [], ◌∷◌, filter, map}
+-- What a caller sees is the same under other limits, and with another origin but for it.
+use Rattle.std.specs.Prelude.{◌≡◌, ℕ, ◌+◌, if◌then◌else◌, List, [], ◌∷◌, filter, map, Option}
 use Rattle.std.proofs.Common.{refl}
 use Rattle.cm_base.specs.declared.limits.Limits.{Limits}
 use Rattle.cm_base.specs.declared.log.Change.{Change}
@@ -10,14 +10,14 @@ use Rattle.cmis_spec.specs.Seen.{is_visible, seen, seen_events, seen_object}
 use Rattle.cmis_spec.specs.Well.{IsWellFormed}
 use Rattle.limit_laws.specs.Limited.{under}
 
-module _ (l : Limits) (r : Repository) where
-  events_under : (u : List ℕ) (n : ℕ) (cs : List Change) → seen_events (under l r) u n cs ≡ seen_events r u n cs
+module _ (l : Limits) (origin : Option (List ℕ)) (r : Repository) where
+  events_under : (u : List ℕ) (n : ℕ) (cs : List Change) → seen_events (under l origin r) u n cs ≡ seen_events r u n cs
   unfolding levels_up
   events_under u n [] = refl
   events_under u n (c ∷ cs) =
       λ i. if is_visible r u c then record { number = n; kind = c.kind; object = c.object; moment = c.moment } ∷ events_under u (n + 1) cs i else events_under u (n + 1) cs i
 
-  pub seen_under : (u : List ℕ) → seen (under l r) u ≡ seen r u
+  pub seen_under : (u : List ℕ) → seen (under l origin r) u ≡ record (seen r u) { origin = origin }
   unfolding levels_up
   seen_under u = λ i. record {
     step = r.step;
@@ -26,9 +26,10 @@ module _ (l : Limits) (r : Repository) where
     groups = groups_of r u;
     objects = map (seen_object r u) (filter (reads r u) r.objects);
     log = events_under u 1 r.log i;
+    origin = origin;
   }
 
-  pub well_under : AreLimits l → IsWellFormed r → IsWellFormed (under l r)
+  pub well_under : AreLimits l → IsWellFormed r → IsWellFormed (under l origin r)
   well_under may w = record {
     numbers = w.numbers;
     series_numbers = w.series_numbers;

@@ -1,5 +1,5 @@
--- What is to be made is the same under other limits: documents with their parts, and items.
-use Rattle.std.specs.Prelude.{◌≡◌, ℕ, List}
+-- What is to be made is the same under other limits and with another origin: documents with their parts, and items.
+use Rattle.std.specs.Prelude.{◌≡◌, ℕ, List, Option}
 use Rattle.std.proofs.Common.{ap}
 use Rattle.cm_base.specs.declared.limits.Limits.{Limits}
 use Rattle.cm_base.specs.declared.number.Moment.{Moment}
@@ -16,19 +16,19 @@ use Rattle.wr_source.specs.Templates.{template_of}
 use Rattle.limit_laws.specs.Limited.{under}
 use Rattle.limit_laws.proofs.Readings.{standing_under}
 
-module _ (l : Limits) (r : Repository) (u : List ℕ) (m : Moment) where
-  pub document_parts_under : (call : CreateDocument) → parts_made (under l r) u m call ≡ parts_made r u m call
+module _ (l : Limits) (origin : Option (List ℕ)) (r : Repository) (u : List ℕ) (m : Moment) where
+  pub document_parts_under : (call : CreateDocument) → parts_made (under l origin r) u m call ≡ parts_made r u m call
   unfolding levels_up
   document_parts_under call =
       let wanted = wanted_in r.types call.properties in
-      ap (λ o. new_parts r u m call wanted (record (allowed_in r u call wanted) { folder = number_of o })) (standing_under l r u call.place)
+      ap (λ o. new_parts r u m call wanted (record (allowed_in r u call wanted) { folder = number_of o })) (standing_under l origin r u call.place)
 
-  pub source_parts_under : (call : CreateDocumentFromSource) → source_parts_made (under l r) u m call ≡ source_parts_made r u m call
+  pub source_parts_under : (call : CreateDocumentFromSource) → source_parts_made (under l origin r) u m call ≡ source_parts_made r u m call
   unfolding levels_up
   source_parts_under call =
       let t = template_of r (source_of r u m call) call.document in
-      ap (λ o. source_parts r u m t (source_allowed r call.document t o)) (standing_under l r u call.document.place)
+      ap (λ o. source_parts r u m t (source_allowed r call.document t o)) (standing_under l origin r u call.document.place)
 
-  pub item_under : (call : CreateItem) → item_made (under l r) u m call ≡ item_made r u m call
+  pub item_under : (call : CreateItem) → item_made (under l origin r) u m call ≡ item_made r u m call
   unfolding levels_up
-  item_under call = ap (λ o. made_by r u m call.object call.object.properties (number_of o)) (standing_under l r u call.place)
+  item_under call = ap (λ o. made_by r u m call.object call.object.properties (number_of o)) (standing_under l origin r u call.place)

@@ -1,4 +1,4 @@
--- What a write is answered under other limits is the same.
+-- What a write is answered under other limits and with another origin is the same.
 use Rattle.std.specs.Prelude.{◌≡◌, ℕ, Bool, true, false, List, [], Option, Some, None, option_map, unwrap_or}
 use Rattle.std.proofs.Common.{refl, ap, ◌∙◌}
 use Rattle.cm_base.specs.declared.limits.Limits.{Limits}
@@ -39,10 +39,10 @@ use Rattle.limit_laws.proofs.Readings.{addressed_under}
 use Rattle.limit_laws.proofs.Several.{objects_under}
 use Rattle.limit_laws.proofs.Trees.{left_under}
 
-shown_under : (l : Limits) (r : Repository) (u : List ℕ) (succinct : Bool) (x : Object) → shown_object (under l r) u filters.All succinct x ≡ shown_object r u filters.All succinct x
+shown_under : (l : Limits) (origin : Option (List ℕ)) (r : Repository) (u : List ℕ) (succinct : Bool) (x : Object) → shown_object (under l origin r) u filters.All succinct x ≡ shown_object r u filters.All succinct x
 unfolding levels_up
-shown_under l r u true x = refl
-shown_under l r u false x = refl
+shown_under l origin r u true x = refl
+shown_under l origin r u false x = refl
 
 -- a reply that shows an object
 abbrev showing : Repository → List ℕ → Bool → Bool → Object → ObjectReply
@@ -53,23 +53,23 @@ each_under : {A : Type 0} (o : Option A) (f g : A → DeleteTreeReply) (d : Dele
 each_under None f g d same = refl
 each_under (Some x) f g d same = same x
 
-module _ (l : Limits) (r : Repository) (u : List ℕ) (m : Moment) where
+module _ (l : Limits) (origin : Option (List ℕ)) (r : Repository) (u : List ℕ) (m : Moment) where
   -- where nothing is addressed the call is refused, and a root stands for it
-  addressed_or : (place : Place) → unwrap_or (addressed (under l r) u place) (root_folder u m r.step) ≡ unwrap_or (addressed r u place) (root_folder u m r.step)
-  addressed_or place = ap (λ o. unwrap_or o (root_folder u m r.step)) (addressed_under l r u place)
+  addressed_or : (place : Place) → unwrap_or (addressed (under l origin r) u place) (root_folder u m r.step) ≡ unwrap_or (addressed r u place) (root_folder u m r.step)
+  addressed_or place = ap (λ o. unwrap_or o (root_folder u m r.step)) (addressed_under l origin r u place)
 
   -- the same object is shown
   shows : (call : Write) (succinct created : Bool) (x : Object) {y : Object} → y ≡ x
-      → replies.Object (showing (after (under l r) u m call) u succinct created y) ≡ replies.Object (showing (after r u m call) u succinct created x)
+      → replies.Object (showing (after (under l origin r) u m call) u succinct created y) ≡ replies.Object (showing (after r u m call) u succinct created x)
   shows call succinct created x {y} same =
-      ap (λ s. replies.Object (showing s u succinct created y)) (after_under l r u m call)
-      ∙ (ap (λ z. replies.Object (showing (under l (after r u m call)) u succinct created z)) same
-      ∙ ap (λ o. replies.Object (record { object = o; created = created })) (shown_under l (after r u m call) u succinct x))
+      ap (λ s. replies.Object (showing s u succinct created y)) (after_under l origin r u m call)
+      ∙ (ap (λ z. replies.Object (showing (under l origin (after r u m call)) u succinct created z)) same
+      ∙ ap (λ o. replies.Object (record { object = o; created = created })) (shown_under l origin (after r u m call) u succinct x))
 
-  pub reply_under : (call : Write) → acknowledgement (under l r) u m call ≡ acknowledgement r u m call
+  pub reply_under : (call : Write) → acknowledgement (under l origin r) u m call ≡ acknowledgement r u m call
   unfolding levels_up
   reply_under (writes.CreateFolder call) = shows (writes.CreateFolder call) call.succinct true (folder_made r u m call) refl
-  reply_under (writes.CreateDocument call) = shows (writes.CreateDocument call) call.succinct true (parts_made r u m call).object (ap (λ new. new.object) (document_parts_under l r u m call))
+  reply_under (writes.CreateDocument call) = shows (writes.CreateDocument call) call.succinct true (parts_made r u m call).object (ap (λ new. new.object) (document_parts_under l origin r u m call))
   reply_under (writes.CheckOut call) = shows (writes.CheckOut call) call.succinct true (copy_made r u m call) (ap (λ x. new_copy r u m x) (addressed_or call.place))
   reply_under (writes.CheckIn call) = shows (writes.CheckIn call) call.succinct true (version_made r u m call) (ap (λ x. new_version r u m call x) (addressed_or call.place))
   reply_under (writes.SetContent call) = shows (writes.SetContent call) call.succinct false (changed_by r u m (document_at r u m call.place)) (ap (λ x. changed_by r u m x) (addressed_or call.place))
@@ -82,21 +82,21 @@ module _ (l : Limits) (r : Repository) (u : List ℕ) (m : Moment) where
   reply_under (writes.CancelCheckOut call) = refl
   reply_under (writes.Update call) = shows (writes.Update call) call.succinct false (object_updated r u m (cost_update call) call) (ap (λ x. updated_object (stepped r (cost_update call)) u m call x) (addressed_or call.place))
   reply_under (writes.ApplyAcl call) =
-      ap (λ o. replies.Acl (unwrap_or (option_map (acl_reply (after (under l r) u m (writes.ApplyAcl call))) o) (record { aces = [] }))) (addressed_under l r u call.place)
-      ∙ ap (λ s. replies.Acl (unwrap_or (option_map (acl_reply s) (addressed r u call.place)) (record { aces = [] }))) (after_under l r u m (writes.ApplyAcl call))
+      ap (λ o. replies.Acl (unwrap_or (option_map (acl_reply (after (under l origin r) u m (writes.ApplyAcl call))) o) (record { aces = [] }))) (addressed_under l origin r u call.place)
+      ∙ ap (λ s. replies.Acl (unwrap_or (option_map (acl_reply s) (addressed r u call.place)) (record { aces = [] }))) (after_under l origin r u m (writes.ApplyAcl call))
   reply_under (writes.CreateType call) = refl
   reply_under (writes.UpdateType call) = refl
   reply_under (writes.DeleteType call) = refl
-  reply_under (writes.CreateItem call) = shows (writes.CreateItem call) call.succinct true (item_made r u m call).object (ap (λ new. new.object) (item_under l r u m call))
+  reply_under (writes.CreateItem call) = shows (writes.CreateItem call) call.succinct true (item_made r u m call).object (ap (λ new. new.object) (item_under l origin r u m call))
   reply_under (writes.CreatePolicy call) = shows (writes.CreatePolicy call) call.succinct true (policy_made r u m call).object refl
   reply_under (writes.CreateRelationship call) = shows (writes.CreateRelationship call) call.succinct true (relationship_of r u m (with_name call)).object refl
-  reply_under (writes.CreateDocumentFromSource call) = shows (writes.CreateDocumentFromSource call) call.document.succinct true (source_parts_made r u m call).object (ap (λ new. new.object) (source_parts_under l r u m call))
+  reply_under (writes.CreateDocumentFromSource call) = shows (writes.CreateDocumentFromSource call) call.document.succinct true (source_parts_made r u m call).object (ap (λ new. new.object) (source_parts_under l origin r u m call))
   reply_under (writes.DeleteTree call) =
-      ap (λ o. replies.DeleteTree (unwrap_or (option_map (acknowledgement_delete_tree_of (under l r) u m (cost_delete_tree call) call) o) (record { ids = [] }))) (addressed_under l r u call.place)
+      ap (λ o. replies.DeleteTree (unwrap_or (option_map (acknowledgement_delete_tree_of (under l origin r) u m (cost_delete_tree call) call) o) (record { ids = [] }))) (addressed_under l origin r u call.place)
       ∙ ap replies.DeleteTree (each_under (addressed r u call.place)
-      (acknowledgement_delete_tree_of (under l r) u m (cost_delete_tree call) call) (acknowledgement_delete_tree_of r u m (cost_delete_tree call) call) (record { ids = [] })
-      (left_under l r u m (cost_delete_tree call) call))
+      (acknowledgement_delete_tree_of (under l origin r) u m (cost_delete_tree call) call) (acknowledgement_delete_tree_of r u m (cost_delete_tree call) call) (record { ids = [] })
+      (left_under l origin r u m (cost_delete_tree call) call))
   reply_under (writes.ApplyPolicy call) = shows (writes.ApplyPolicy call) call.succinct false (unwrap_or (addressed r u call.place) (root_folder u m r.step)) (addressed_or call.place)
   reply_under (writes.RemovePolicy call) = refl
-  reply_under (writes.BulkUpdate call) = ap (λ (p : Repository × List UpdatedObject). replies.Updated p.1) (objects_under l u m call (stepped r (cost_bulk_update call)))
+  reply_under (writes.BulkUpdate call) = ap (λ (p : Repository × List UpdatedObject). replies.Updated p.1) (objects_under l origin u m call (stepped r (cost_bulk_update call)))
   reply_under (writes.AddRendition call) = shows (writes.AddRendition call) call.succinct false (unwrap_or (addressed r u call.place) (root_folder u m r.step)) (addressed_or call.place)

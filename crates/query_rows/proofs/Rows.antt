@@ -79,6 +79,7 @@ r = record {
   step = 2;
   cost = 0;
   limits = usual_limits;
+  origin = None;
 }
 
 abbrev column : List ℕ → Column

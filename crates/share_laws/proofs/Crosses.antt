@@ -241,10 +241,10 @@ pub People-sync : IsSync (People.the_field).row
 People-sync = search (Text-sync, Items-sync, maps.crosses, sendable, crosses) depth 60 fits 100000
 
 pub Parts-send : IsSend (Parts.the_field).row
-Parts-send = search (Types-send, Types-sync, People-send, People-sync, Filing-send, Lists-send, sendable, crosses) depth 60 fits 100000
+Parts-send = search (Text-send, Text-sync, Types-send, Types-sync, People-send, People-sync, Filing-send, Lists-send, sendable, crosses) depth 60 fits 100000
 
 pub Parts-sync : IsSync (Parts.the_field).row
-Parts-sync = search (Types-send, Types-sync, People-send, People-sync, Filing-sync, Lists-sync, sendable, crosses) depth 60 fits 100000
+Parts-sync = search (Text-send, Text-sync, Types-send, Types-sync, People-send, People-sync, Filing-sync, Lists-sync, sendable, crosses) depth 60 fits 100000
 
 pub State-send : IsSend (State.the_field).row
 State-send = search (Parts-send, sendable, crosses) depth 60 fits 100000

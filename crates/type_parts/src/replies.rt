@@ -39,8 +39,8 @@ pub struct TypeTreeReply {
 /// The information of the repository, as far as it is not the same for each request.
 #[derive(Drop)]
 pub struct InfoReply {
-    /// The host in the repository's addresses.
-    pub host: Text,
+    /// What the repository's addresses begin with: a scheme, `://` and a host.
+    pub origin: Text,
     /// The number of the last event of the change log that the caller sees, or 0.
     pub latest_event: u64,
     /// Whether it is shown by the repository's id.

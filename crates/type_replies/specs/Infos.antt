@@ -29,18 +29,18 @@ principal_fields =
     ∷ (codes "principalIdAnyone", string (codes "anyone"))
     ∷ []
 
--- the address of the repository at a host
+-- the address of the repository, which begins with the origin: a scheme, `://` and a host
 abbrev pub repository_url : List ℕ → List ℕ
-repository_url host = codes "http://" ++ (host ++ codes "/cmis/main")
+repository_url origin = origin ++ codes "/cmis/main"
 
--- the address of the root folder at a host
+-- the address of the root folder
 abbrev pub root_url : List ℕ → List ℕ
-root_url host = codes "http://" ++ (host ++ codes "/cmis/main/root")
+root_url origin = origin ++ codes "/cmis/main/root"
 
 abbrev pub url_fields : List ℕ → List Field
-url_fields host =
-    (codes "repositoryUrl", string (repository_url host))
-    ∷ (codes "rootFolderUrl", string (root_url host))
+url_fields origin =
+    (codes "repositoryUrl", string (repository_url origin))
+    ∷ (codes "rootFolderUrl", string (root_url origin))
     ∷ []
 
 -- the base types whose objects have events
@@ -118,12 +118,12 @@ capabilities_data = object
 abbrev pub offered_fields : List Field
 offered_fields = (codes "aclCapabilities", acl_data) ∷ (codes "capabilities", capabilities_data) ∷ []
 
--- the repository's information, by its host and by the number of the last event
+-- the repository's information, by its origin and by the number of the last event
 unfoldable pub info_data : List ℕ → ℕ → Data
-info_data host latest = object
+info_data origin latest = object
     (with_fields offered_fields
     (with_fields (change_fields latest)
-    (with_fields (url_fields host)
+    (with_fields (url_fields origin)
     (with_fields principal_fields
     (with_fields product_fields no_members)))))
 
@@ -132,4 +132,4 @@ abbrev pub by_id : Bool → Data → Data
 by_id all info = if all then object_data ((codes "main", info) ∷ []) else info
 
 abbrev pub infos_data : InfoReply → Data
-infos_data r = by_id r.all (info_data r.host r.latest_event)
+infos_data r = by_id r.all (info_data r.origin r.latest_event)

@@ -39,23 +39,23 @@ fn put_principals(alloc: Global, fields: &mut Fields) -> Result<(), AllocError>
     put_texts(alloc, fields, &texts)
 }
 
-fn repository_url(alloc: Global, host: &str) -> Result<String, AllocError>
-    ensures { IfOk result (λ s. string_bytes s ≡ repository_url host.now) }
+fn repository_url(alloc: Global, origin: &str) -> Result<String, AllocError>
+    ensures { IfOk result (λ s. string_bytes s ≡ repository_url origin.now) }
 {
-    format!(in alloc; "http://{host}/cmis/main")
+    format!(in alloc; "{origin}/cmis/main")
 }
 
-fn root_url(alloc: Global, host: &str) -> Result<String, AllocError>
-    ensures { IfOk result (λ s. string_bytes s ≡ root_url host.now) }
+fn root_url(alloc: Global, origin: &str) -> Result<String, AllocError>
+    ensures { IfOk result (λ s. string_bytes s ≡ root_url origin.now) }
 {
-    format!(in alloc; "http://{host}/cmis/main/root")
+    format!(in alloc; "{origin}/cmis/main/root")
 }
 
-fn put_urls(alloc: Global, fields: &mut Fields, host: &str) -> Result<(), AllocError>
-    ensures { OnOk result (fields_of fields.new ≡ with_fields (url_fields host.now) (fields_of fields.old)) }
+fn put_urls(alloc: Global, fields: &mut Fields, origin: &str) -> Result<(), AllocError>
+    ensures { OnOk result (fields_of fields.new ≡ with_fields (url_fields origin.now) (fields_of fields.old)) }
 {
-    let repository = repository_url(alloc, host)?;
-    let root = root_url(alloc, host)?;
+    let repository = repository_url(alloc, origin)?;
+    let root = root_url(alloc, origin)?;
     fields.put(
         alloc,
         "repositoryUrl",
@@ -205,23 +205,23 @@ fn capabilities_json(alloc: Global) -> Result<Json, AllocError>
     Ok(Json::object(fields))
 }
 
-fn put_texts_of(alloc: Global, fields: &mut Fields, host: &str) -> Result<(), AllocError>
+fn put_texts_of(alloc: Global, fields: &mut Fields, origin: &str) -> Result<(), AllocError>
     ensures { OnOk result (fields_of fields.new
-        ≡ with_fields (url_fields host.now) (with_fields principal_fields
+        ≡ with_fields (url_fields origin.now) (with_fields principal_fields
         (with_fields product_fields (fields_of fields.old)))) }
 {
     put_product(alloc, fields)?;
     put_principals(alloc, fields)?;
-    put_urls(alloc, fields, host)?;
+    put_urls(alloc, fields, origin)?;
     Ok(())
 }
 
 #[tactic(auto, unfolding(crate::specs::Infos::info_data))]
-fn info_json(alloc: Global, host: &str, latest: u64) -> Result<Json, AllocError>
-    ensures { IfOk result (λ j. data_of j ≡ info_data host.now latest) }
+fn info_json(alloc: Global, origin: &str, latest: u64) -> Result<Json, AllocError>
+    ensures { IfOk result (λ j. data_of j ≡ info_data origin.now latest) }
 {
     let mut fields = Fields::new(alloc);
-    put_texts_of(alloc, &mut fields, host)?;
+    put_texts_of(alloc, &mut fields, origin)?;
     put_changes(alloc, &mut fields, latest)?;
     fields.put(alloc, "aclCapabilities", acl_json(alloc)?)?;
     fields.put(alloc, "capabilities", capabilities_json(alloc)?)?;
@@ -242,6 +242,6 @@ fn by_id(alloc: Global, all: bool, info: Json) -> Result<Json, AllocError>
 pub fn info_reply_json(alloc: Global, reply: &InfoReply) -> Result<Json, AllocError>
     ensures { IfOk result (λ j. data_of j ≡ infos_data reply.now) }
 {
-    let info = info_json(alloc, reply.host.as_str(), reply.latest_event)?;
+    let info = info_json(alloc, reply.origin.as_str(), reply.latest_event)?;
     by_id(alloc, reply.all, info)
 }

@@ -5,6 +5,7 @@ use Rattle.limit_laws.proofs.answer.answers_are_same.Goals as goal
 
 pub returns : goal.returns
 returns c = record {
-  well = λ r limits w may. well_under limits r may w;
-  same = λ r limits u q w may. sym (c.answers_of_seen.ensures r u q w (under limits r) (well_under limits r may w) (seen_under limits r u));
+  well = λ r limits origin w may. well_under limits origin r may w;
+  sees = λ r limits origin u. seen_under limits origin r u;
+  same = λ r limits u q w may. sym (c.answers_of_seen.ensures r u q w (under limits r.origin r) (well_under limits r.origin r may w) (seen_under limits r.origin r u));
 }

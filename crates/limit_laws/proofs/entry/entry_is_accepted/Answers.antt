@@ -4,6 +4,6 @@ use Rattle.limit_laws.proofs.entry.entry_is_accepted.Goals as goal
 
 pub returns : goal.returns
 returns c = record {
-  answered = λ r greater e x wide h. step_under greater r e x wide h;
-  sent = λ r greater e x wide h. (shown_know greater r e x wide h).1;
+  answered = λ r greater origin e x wide h. step_under greater origin r e x wide h;
+  sent = λ r greater origin e x wide h. (shown_know greater origin r e x wide h).1;
 }

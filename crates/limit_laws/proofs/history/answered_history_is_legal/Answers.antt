@@ -4,6 +4,6 @@ use Rattle.limit_laws.proofs.history.answered_history_is_legal.Goals as goal
 
 pub returns : goal.returns
 returns c = record {
-  legal = λ r greater h wide lawful. (history_under step_of steps_know greater r h wide lawful).0;
-  same = λ r greater h wide lawful. (history_under step_of steps_know greater r h wide lawful).1;
+  legal = λ r greater origin h wide lawful. (history_under step_of steps_know greater origin r h wide lawful).0;
+  same = λ r greater origin h wide lawful. (history_under step_of steps_know greater origin r h wide lawful).1;
 }

@@ -5,6 +5,6 @@ use Rattle.limit_laws.proofs.history.history_goes_on.Goals as goal
 
 pub returns : goal.returns
 returns c = record {
-  legal = λ r limits h more wide lawful then. (goes_on shown_step shown_know r limits h more wide lawful then).0;
-  same = λ r limits h more wide lawful then. (goes_on shown_step shown_know r limits h more wide lawful then).1;
+  legal = λ r limits origin h more wide lawful then. (goes_on shown_step shown_know r limits origin h more wide lawful then).0;
+  same = λ r limits origin h more wide lawful then. (goes_on shown_step shown_know r limits origin h more wide lawful then).1;
 }
